@@ -1,0 +1,29 @@
+-- What a read did to the bytes that its source has left, where the source tells them.
+use Rattle.std.specs.Prelude.{◌≡◌, ℕ, ◌≤◌, List, [], length, take, Option, Some, None}
+use Rattle.std.specs.Io.KnownBytes.{Keeps, Consumes, IsAtEnd}
+use Rattle.tau_io.specs.declared.sources.Got.{Got}
+use Rattle.tau_io.specs.declared.sources.Got.TheVariants.{Bytes, End, Failed}
+
+-- a read gave at least one byte, and no more than there was room for
+abbrev pub GotFits : Got → ℕ → Type 0
+GotFits (Bytes n) room = (1 ≤ n) × (n ≤ room)
+GotFits End room = Unit {0}
+GotFits Failed room = Unit {0}
+
+-- a read took the first n bytes left into the front of `into`, or left them; at the end none are left
+abbrev pub GotTakes : Got → Option (List ℕ) → Option (List ℕ) → List ℕ → Type 0
+GotTakes (Bytes n) before after into = Consumes before after (take n into)
+GotTakes End before after into = Keeps before after × IsAtEnd after
+GotTakes Failed before after into = Keeps before after
+
+-- the bytes are all that was left, and nothing is left now
+abbrev pub TakesAll : Option (List ℕ) → Option (List ℕ) → List ℕ → Type 0
+TakesAll None after bytes = IsAtEnd after
+TakesAll (Some all) None bytes = ⊥
+TakesAll (Some all) (Some rest) bytes = (bytes ≡ all) × (rest ≡ [])
+
+-- some bytes came: what was left before is these, then what is left now; P says how many
+pub record Took (before after : Option (List ℕ)) (P : ℕ → Type 0) : Type 0 where
+  pub came : List ℕ
+  pub number : P (length came)
+  pub taken : Consumes before after came
