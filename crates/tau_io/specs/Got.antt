@@ -27,3 +27,9 @@ pub record Took (before after : Option (List ℕ)) (P : ℕ → Type 0) : Type 0
   pub came : List ℕ
   pub number : P (length came)
   pub taken : Consumes before after came
+
+-- a read that gave bytes gave this many
+abbrev pub GivesCount : Got → ℕ → Type 0
+GivesCount (Bytes n) count = n ≡ count
+GivesCount End count = Unit {0}
+GivesCount Failed count = Unit {0}

@@ -1,5 +1,5 @@
 -- What a write did to the bytes that its sink holds, where the sink tells them.
-use Rattle.std.specs.Prelude.{ℕ, ◌≤◌, ◌<◌, List, length, take, Option}
+use Rattle.std.specs.Prelude.{◌≡◌, ℕ, ◌≤◌, ◌<◌, List, length, take, Option}
 use Rattle.std.specs.Io.KnownBytes.{Keeps, Appends}
 use Rattle.tau_io.specs.declared.sinks.Put.{Put}
 use Rattle.tau_io.specs.declared.sinks.Put.TheVariants.{Bytes, Failed, NoMemory}
@@ -21,3 +21,9 @@ pub record AppendsFront (before after : Option (List ℕ)) (bytes : List ℕ) : 
   pub count : ℕ
   pub is_front : count < length bytes
   pub appended : Appends before after (take count bytes)
+
+-- a write that took bytes took this many
+abbrev pub TakesCount : Put → ℕ → Type 0
+TakesCount (Bytes n) count = n ≡ count
+TakesCount Failed count = Unit {0}
+TakesCount NoMemory count = Unit {0}

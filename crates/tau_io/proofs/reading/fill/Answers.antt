@@ -1,6 +1,6 @@
 use Rattle.std.proofs.Common.{◌≡◌, length, ◌∙◌, arith, take, length-take-le}
 use Rattle.std.proofs.lemmas.Result.{err_from_is_err_and}
-use Rattle.tau_io.proofs.Pieces.{Consumes-more, Took-more}
+use Rattle.tau_io.proofs.Steps.{Consumes-more, Took-more}
 use Rattle.tau_io.proofs.reading.fill.Goals as goal
 
 pub loop-filled-preserved : goal.loop-filled-preserved

@@ -1,5 +1,5 @@
 use Rattle.std.proofs.Common.{ℕ, arith, length-take, length-drop}
-use Rattle.tau_io.proofs.Pieces.{Appends-more}
+use Rattle.tau_io.proofs.Steps.{Appends-more}
 use Rattle.tau_io.proofs.writing.write_all_of.Goals as goal
 
 pub loop-done-preserved : goal.loop-done-preserved

@@ -1,7 +1,7 @@
 -- One piece after another: what several reads took, and what several writes appended.
-use Rattle.std.proofs.Common.{◌≡◌, ℕ, ◌+◌, ◌-◌, List, ◌++◌, length, take, drop, Option, sym, ap, ◌∙◌, subst, arith, length-append}
+use Rattle.std.proofs.Common.{◌≡◌, ℕ, ◌+◌, ◌-◌, ◌≤◌, List, ◌++◌, length, take, drop, Option, sym, ap, ap₂, ◌∙◌, subst, arith, length-append, length-drop, length-take-le, take-append-drop}
 use Rattle.std.proofs.Math.Seq.{take-add}
-use Rattle.std.proofs.lemmas.List.{take_rest, drop-take}
+use Rattle.std.proofs.lemmas.List.{take_rest, take_at, drop-drop}
 use Rattle.std.specs.Io.KnownBytes.{Appends, Consumes}
 use Rattle.std.proofs.KnownBytes.{Appends-trans, Consumes-trans}
 use Rattle.tau_io.specs.Got.{Took}
@@ -27,3 +27,12 @@ Took-more a b c bytes limit full before more = record {
   number = omega (arith, length-append bytes more.came, more.number);
   taken = Consumes-trans a b c _ _ before more.taken;
 }
+
+-- of the items from a place on, n were copied into the front of a buffer, which is `now`
+pub front_copied : (items part into now : List ℕ) (at n : ℕ) → n ≤ length (drop at items) → take n part ≡ take n (drop at items)
+    → now ≡ take n part ++ drop n into → drop at items ≡ take n now ++ drop (at + n) items
+front_copied items part into now at n within same is =
+    let left = drop at items in
+    let long : length (take n part) ≡ n = ap length same ∙ length-take-le n left within in
+    let front : take n now ≡ take n left = ap (take n) is ∙ take_at (take n part) (drop n into) n long ∙ same in
+    sym (take-append-drop n left) ∙ ap₂ (λ l r. l ++ r) (sym front) (drop-drop n at items)

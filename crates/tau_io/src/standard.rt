@@ -1,0 +1,101 @@
+// Standard input and output: the edge of the program, where no contract says which bytes pass.
+ghost use Rattle.std.specs.Prelude.{◌≡◌, ◌≤◌, ◌<◌, None, length};
+ghost use Rattle.tau_io.specs.Faults.{HasRisen};
+ghost use Rattle.tau_io.specs.Got.{GotFits};
+ghost use Rattle.tau_io.specs.Put.{PutFits};
+
+use crate::sinks::{Put, Sink};
+use crate::sources::{Got, Source};
+use std::io::{Read, Stdin, Stdout, Write};
+use std::marker::Model;
+
+/// Standard input. It tells no bytes.
+///
+/// Each error of a read is a fault, an interrupted read among them. Contracts see the count of
+/// faults (`docs/rules.md`, "Sources and sinks").
+#[derive(Debug, Drop)]
+pub struct StdSource {
+    input: Stdin,
+    faults: u64,
+}
+
+impl Model for StdSource {
+    ghost use Rattle.std.specs.Prelude.{ℕ};
+
+    ghost Value = { ℕ };
+
+    ghost view = { λ s. s.faults };
+}
+
+impl StdSource {
+    /// Standard input, with no fault yet.
+    pub fn new(input: Stdin) -> StdSource
+        ensures { result ≡ 0 }
+    {
+        StdSource { input, faults: 0 }
+    }
+}
+
+impl Source for StdSource {
+    ghost use Rattle.std.specs.Prelude.{None};
+
+    ghost left = { λ _. None };
+
+    ghost faults = { λ s. s };
+
+    fn read(&mut self, into: &mut [u8]) -> Got {
+        match self.input.read(into) {
+            Ok(0) => Got::End,
+            Ok(count) => Got::Bytes(count),
+            Err(_) => {
+                self.faults = self.faults.saturating_add(1);
+                Got::Failed
+            }
+        }
+    }
+}
+
+/// Standard output. It tells no bytes.
+///
+/// It keeps no buffer: what a write took is written. Each error of a write is a fault, and so is a
+/// write of nothing. Contracts see the count of faults (`docs/rules.md`, "Sources and sinks").
+#[derive(Debug, Drop)]
+pub struct StdSink {
+    output: Stdout,
+    faults: u64,
+}
+
+impl Model for StdSink {
+    ghost use Rattle.std.specs.Prelude.{ℕ};
+
+    ghost Value = { ℕ };
+
+    ghost view = { λ s. s.faults };
+}
+
+impl StdSink {
+    /// Standard output, with no fault yet.
+    pub fn new(output: Stdout) -> StdSink
+        ensures { result ≡ 0 }
+    {
+        StdSink { output, faults: 0 }
+    }
+}
+
+impl Sink for StdSink {
+    ghost use Rattle.std.specs.Prelude.{None};
+
+    ghost held = { λ _. None };
+
+    ghost faults = { λ s. s };
+
+    fn write(&mut self, from: &[u8]) -> Put {
+        match self.output.write(from) {
+            Ok(0) | Err(_) => {
+                self.faults = self.faults.saturating_add(1);
+                Put::Failed
+            }
+            Ok(count) => Put::Bytes(count),
+        }
+    }
+}
