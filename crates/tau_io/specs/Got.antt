@@ -1,6 +1,7 @@
 -- What a read did to the bytes that its source has left, where the source tells them.
 use Rattle.std.specs.Prelude.{◌≡◌, ℕ, ◌≤◌, List, [], length, take, Option, Some, None}
 use Rattle.std.specs.Io.KnownBytes.{Keeps, Consumes, IsAtEnd}
+use Rattle.tau_io.specs.Faults.{one_more}
 use Rattle.tau_io.specs.declared.sources.Got.{Got}
 use Rattle.tau_io.specs.declared.sources.Got.TheVariants.{Bytes, End, Failed}
 
@@ -33,3 +34,9 @@ abbrev pub GivesCount : Got → ℕ → Type 0
 GivesCount (Bytes n) count = n ≡ count
 GivesCount End count = Unit {0}
 GivesCount Failed count = Unit {0}
+
+-- the count of faults after a read: it is raised by one exactly where the read failed
+abbrev pub faults_after_read : ℕ → Got → ℕ
+faults_after_read faults (Bytes n) = faults
+faults_after_read faults End = faults
+faults_after_read faults Failed = one_more faults

@@ -1,6 +1,7 @@
 -- What a write did to the bytes that its sink holds, where the sink tells them.
 use Rattle.std.specs.Prelude.{◌≡◌, ℕ, ◌≤◌, ◌<◌, List, length, take, Option}
 use Rattle.std.specs.Io.KnownBytes.{Keeps, Appends}
+use Rattle.tau_io.specs.Faults.{one_more}
 use Rattle.tau_io.specs.declared.sinks.Put.{Put}
 use Rattle.tau_io.specs.declared.sinks.Put.TheVariants.{Bytes, Failed, NoMemory}
 
@@ -27,3 +28,9 @@ abbrev pub TakesCount : Put → ℕ → Type 0
 TakesCount (Bytes n) count = n ≡ count
 TakesCount Failed count = Unit {0}
 TakesCount NoMemory count = Unit {0}
+
+-- the count of faults after a write: it is raised by one exactly where the write failed
+abbrev pub faults_after_write : ℕ → Put → ℕ
+faults_after_write faults (Bytes n) = faults
+faults_after_write faults Failed = one_more faults
+faults_after_write faults NoMemory = faults

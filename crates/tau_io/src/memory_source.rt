@@ -68,7 +68,7 @@ impl Source for MemorySource {
 
         // Which answer comes, and what it leaves.
         ensures fails { (result ≡ Got.Failed) ↔ Contains self.old.fails self.old.calls }
-        ensures end { result ≡ Got.End → self.old.left ≡ [] }
+        ensures end { (result ≡ Got.End) ↔ ((¬ Contains self.old.fails self.old.calls) × (self.old.left ≡ [])) }
         ensures piece { GivesCount result (min self.old.piece (min (length into.old) (length self.old.left))) }
         ensures after { self.new ≡ after_read self.old result }
         ensures into { into.new ≡ filled_by result self.old.left into.old }

@@ -41,7 +41,11 @@ const FIRST_ROOM: usize = 65536;
 /// Room for `limit` bytes is reserved before the first read, and `NoMemory` comes only there.
 /// `ReadFault` comes where a read failed after at most `limit` bytes, and `TooLong` where one byte
 /// more than `limit` came (`docs/rules.md`, "Sources and sinks").
-pub fn read_all<I: Source>(alloc: Global, source: &mut I, limit: usize) -> Result<Vec<u8>, ReadError>
+pub fn read_all<I: Source>(
+    alloc: Global,
+    source: &mut I,
+    limit: usize,
+) -> Result<Vec<u8>, ReadError>
     ensures ok { IfOk result (λ bytes. TakesAll (I.left source.old) (I.left source.new) bytes.items) }
     ensures within { IfOk result (λ bytes. vec_len bytes ≤ limit) }
 

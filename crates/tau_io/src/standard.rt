@@ -1,8 +1,8 @@
 // Standard input and output: the edge of the program, where no contract says which bytes pass.
-ghost use Rattle.std.specs.Prelude.{◌≡◌, ◌≤◌, ◌<◌, None, length};
+ghost use Rattle.std.specs.Prelude.{◌≡◌, ◌≤◌, ◌<◌, length};
 ghost use Rattle.tau_io.specs.Faults.{HasRisen};
-ghost use Rattle.tau_io.specs.Got.{GotFits};
-ghost use Rattle.tau_io.specs.Put.{PutFits};
+ghost use Rattle.tau_io.specs.Got.{GotFits, faults_after_read};
+ghost use Rattle.tau_io.specs.Put.{PutFits, faults_after_write};
 
 use crate::sinks::{Put, Sink};
 use crate::sources::{Got, Source};
@@ -43,7 +43,15 @@ impl Source for StdSource {
 
     ghost faults = { λ s. s };
 
-    fn read(&mut self, into: &mut [u8]) -> Got {
+    fn read(&mut self, into: &mut [u8]) -> Got
+        requires { 0 < length into.old }
+        ensures count { GotFits result (length into.new) }
+        ensures failed { result ≡ Got.Failed → HasRisen self.old self.new }
+        ensures never_falls { self.old ≤ self.new }
+
+        // The count is raised at each error, and at nothing else.
+        ensures counted { self.new ≡ faults_after_read self.old result }
+    {
         match self.input.read(into) {
             Ok(0) => Got::End,
             Ok(count) => Got::Bytes(count),
@@ -89,7 +97,15 @@ impl Sink for StdSink {
 
     ghost faults = { λ s. s };
 
-    fn write(&mut self, from: &[u8]) -> Put {
+    fn write(&mut self, from: &[u8]) -> Put
+        requires { 0 < length from.now }
+        ensures count { PutFits result (length from.now) }
+        ensures failed { result ≡ Put.Failed → HasRisen self.old self.new }
+        ensures never_falls { self.old ≤ self.new }
+
+        // The count is raised at each error and each write of nothing, and at nothing else.
+        ensures counted { self.new ≡ faults_after_write self.old result }
+    {
         match self.output.write(from) {
             Ok(0) | Err(_) => {
                 self.faults = self.faults.saturating_add(1);

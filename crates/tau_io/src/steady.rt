@@ -1,5 +1,6 @@
 // A source and a sink in memory that never fail.
-ghost use Rattle.std.specs.Prelude.{◌≡◌, ◌≢◌, ◌≤◌, ◌<◌, ◌++◌, [], Some, length, min, drop, take};
+ghost use Rattle.std.specs.Prelude.{◌≡◌, ◌≢◌, ◌≤◌, ◌<◌, ◌↔◌, [], Some, length, min};
+ghost use Rattle.tau_io.specs.Feed.{filled_by};
 ghost use Rattle.tau_io.specs.Got.{GotFits, GotTakes, GivesCount};
 ghost use Rattle.tau_io.specs.Put.{PutFits, PutAppends, TakesCount};
 
@@ -49,11 +50,12 @@ impl Source for SteadySource {
         requires { 0 < length into.old }
         ensures count { GotFits result (length into.new) }
         ensures bytes { GotTakes result (Some self.old) (Some self.new) into.new }
-        ensures failed { result ≢ Got.Failed }
 
-        // Which answer comes.
-        ensures end { result ≡ Got.End → self.old ≡ [] }
-        ensures piece { GivesCount result (min (length into.old) (length self.old)) }
+        // Which answer comes, and what it leaves.
+        ensures steady { result ≢ Got.Failed }
+        ensures end { (result ≡ Got.End) ↔ (self.old ≡ []) }
+        ensures whole { GivesCount result (min (length into.old) (length self.old)) }
+        ensures into { into.new ≡ filled_by result self.old into.old }
     {
         let left = &self.bytes[self.at..];
         if left.is_empty() {
@@ -111,9 +113,9 @@ impl Sink for SteadySink {
         requires { 0 < length from.now }
         ensures count { PutFits result (length from.now) }
         ensures bytes { PutAppends result (Some self.old) (Some self.new) from.now }
-        ensures failed { result ≢ Put.Failed }
 
         // Which answer comes.
+        ensures steady { result ≢ Put.Failed }
         ensures whole { TakesCount result (length from.now) }
     {
         match self.bytes.extend_from_slice(from) {

@@ -1,4 +1,4 @@
-use Rattle.std.proofs.Common.{◌≡◌, ◌≤◌, sym, ap, ◌∙◌, take, drop, length, arith}
+use Rattle.std.proofs.Common.{◌≤◌, sym, ap, ◌∙◌, take, drop, length, arith}
 use Rattle.std.proofs.lemmas.List.{take_rest}
 use Rattle.tau_io.proofs.Steps.{front_copied}
 use Rattle.tau_io.proofs.steady.SteadySourceSource.read.Goals as goal
