@@ -28,7 +28,13 @@ impl Model for MemorySink {
 
     ghost Value = { Store };
 
-    ghost view = { λ s. record { held = s.bytes.items; piece = s.piece; fails = s.fails.items; calls = s.calls; faults = s.faults } };
+    ghost view = { λ s. record {
+      held = s.bytes.items;
+      piece = s.piece;
+      fails = s.fails.items;
+      calls = s.calls;
+      faults = s.faults;
+    } };
 
     ghost invariant = { λ s. 1 ≤ s.piece };
 }
@@ -38,7 +44,13 @@ impl MemorySink {
     /// are in `fails` fail; calls are counted from 0.
     pub fn new(alloc: Global, piece: usize, fails: Vec<u32>) -> MemorySink
         requires { 1 ≤ piece }
-        ensures { result ≡ record { held = []; piece = piece; fails = fails.items; calls = 0; faults = 0 } }
+        ensures { result ≡ record {
+          held = [];
+          piece = piece;
+          fails = fails.items;
+          calls = 0;
+          faults = 0;
+        } }
     {
         MemorySink {
             bytes: Vec::new(alloc),

@@ -28,7 +28,13 @@ impl Model for MemorySource {
 
     ghost Value = { Feed };
 
-    ghost view = { λ s. record { left = drop s.at s.bytes.items; piece = s.piece; fails = s.fails.items; calls = s.calls; faults = s.faults } };
+    ghost view = { λ s. record {
+      left = drop s.at s.bytes.items;
+      piece = s.piece;
+      fails = s.fails.items;
+      calls = s.calls;
+      faults = s.faults;
+    } };
 
     ghost invariant = { λ s. (s.at ≤ vec_len s.bytes) × (1 ≤ s.piece) };
 }
@@ -38,7 +44,13 @@ impl MemorySource {
     /// `fails` fail; calls are counted from 0.
     pub fn new(bytes: Vec<u8>, piece: usize, fails: Vec<u32>) -> MemorySource
         requires { 1 ≤ piece }
-        ensures { result ≡ record { left = bytes.items; piece = piece; fails = fails.items; calls = 0; faults = 0 } }
+        ensures { result ≡ record {
+          left = bytes.items;
+          piece = piece;
+          fails = fails.items;
+          calls = 0;
+          faults = 0;
+        } }
     {
         MemorySource {
             bytes,
@@ -68,8 +80,10 @@ impl Source for MemorySource {
 
         // Which answer comes, and what it leaves.
         ensures fails { (result ≡ Got.Failed) ↔ Contains self.old.fails self.old.calls }
-        ensures end { (result ≡ Got.End) ↔ ((¬ Contains self.old.fails self.old.calls) × (self.old.left ≡ [])) }
-        ensures piece { GivesCount result (min self.old.piece (min (length into.old) (length self.old.left))) }
+        ensures end { (result ≡ Got.End)
+            ↔ ((¬ Contains self.old.fails self.old.calls) × (self.old.left ≡ [])) }
+        ensures piece { GivesCount result
+            (min self.old.piece (min (length into.old) (length self.old.left))) }
         ensures after { self.new ≡ after_read self.old result }
         ensures into { into.new ≡ filled_by result self.old.left into.old }
     {

@@ -46,14 +46,19 @@ pub fn read_all<I: Source>(
     source: &mut I,
     limit: usize,
 ) -> Result<Vec<u8>, ReadError>
-    ensures ok { IfOk result (λ bytes. TakesAll (I.left source.old) (I.left source.new) bytes.items) }
+    ensures ok { IfOk result (λ bytes.
+        TakesAll (I.left source.old) (I.left source.new) bytes.items) }
     ensures within { IfOk result (λ bytes. vec_len bytes ≤ limit) }
 
-    ensures fault { IsErrOf result ReadError.ReadFault → HasRisen (I.faults source.old) (I.faults source.new) }
-    ensures before_fault { IsErrOf result ReadError.ReadFault → Took (I.left source.old) (I.left source.new) (λ n. n ≤ limit) }
+    ensures fault { IsErrOf result ReadError.ReadFault
+        → HasRisen (I.faults source.old) (I.faults source.new) }
+    ensures before_fault { IsErrOf result ReadError.ReadFault
+        → Took (I.left source.old) (I.left source.new) (λ n. n ≤ limit) }
 
-    ensures too_long { IsErrOf result ReadError.TooLong → Took (I.left source.old) (I.left source.new) (λ n. n ≡ limit + 1) }
-    ensures longer { IsErrOf result ReadError.TooLong → IfSome (I.left source.old) (λ all. limit < length all) }
+    ensures too_long { IsErrOf result ReadError.TooLong
+        → Took (I.left source.old) (I.left source.new) (λ n. n ≡ limit + 1) }
+    ensures longer { IsErrOf result ReadError.TooLong
+        → IfSome (I.left source.old) (λ all. limit < length all) }
 
     ensures no_memory { IsErrOf result ReadError.NoMemory → source.new ≡ source.old }
     ensures never_falls { I.faults source.old ≤ I.faults source.new }
@@ -69,11 +74,15 @@ fn fill<I: Source>(source: &mut I, bytes: &mut Vec<u8>, limit: usize) -> Result<
     requires empty { bytes.old.items ≡ [] }
     requires room { limit ≤ vec_capacity bytes.old }
     ensures within { IfOk result (λ n. (n ≤ limit) × (n ≤ vec_len bytes.new)) }
-    ensures ok { IfOk result (λ n. Consumes (I.left source.old) (I.left source.new) (take n bytes.new.items)) }
+    ensures ok { IfOk result (λ n.
+        Consumes (I.left source.old) (I.left source.new) (take n bytes.new.items)) }
     ensures end { OnOk result (IsAtEnd (I.left source.new)) }
-    ensures fault { IsErrOf result ReadError.ReadFault → HasRisen (I.faults source.old) (I.faults source.new) }
-    ensures before_fault { IsErrOf result ReadError.ReadFault → Took (I.left source.old) (I.left source.new) (λ n. n ≤ limit) }
-    ensures too_long { IsErrOf result ReadError.TooLong → Took (I.left source.old) (I.left source.new) (λ n. n ≡ limit + 1) }
+    ensures fault { IsErrOf result ReadError.ReadFault
+        → HasRisen (I.faults source.old) (I.faults source.new) }
+    ensures before_fault { IsErrOf result ReadError.ReadFault
+        → Took (I.left source.old) (I.left source.new) (λ n. n ≤ limit) }
+    ensures too_long { IsErrOf result ReadError.TooLong
+        → Took (I.left source.old) (I.left source.new) (λ n. n ≡ limit + 1) }
     ensures memory { result ≢ Err ReadError.NoMemory }
     ensures never_falls { I.faults source.old ≤ I.faults source.new }
 {
@@ -100,8 +109,10 @@ fn read_piece<I: Source>(source: &mut I, bytes: &mut Vec<u8>, filled: usize, lim
     ensures filled { filled ≤ vec_len bytes.new }
     ensures front { take filled bytes.new.items ≡ take filled bytes.old.items }
     ensures count { GotFits result (vec_len bytes.new - filled) }
-    ensures bytes { GotTakes result (I.left source.old) (I.left source.new) (drop filled bytes.new.items) }
-    ensures failed { result ≡ Got.Failed → HasRisen (I.faults source.old) (I.faults source.new) }
+    ensures bytes { GotTakes result (I.left source.old) (I.left source.new)
+        (drop filled bytes.new.items) }
+    ensures failed { result ≡ Got.Failed
+        → HasRisen (I.faults source.old) (I.faults source.new) }
     ensures never_falls { I.faults source.old ≤ I.faults source.new }
 {
     if filled == bytes.len() {
@@ -127,8 +138,10 @@ fn read_after<I: Source>(source: &mut I, into: &mut [u8], filled: usize) -> Got
     requires { filled < length into.old }
     ensures front { take filled into.new ≡ take filled into.old }
     ensures count { GotFits result (length into.new - filled) }
-    ensures bytes { GotTakes result (I.left source.old) (I.left source.new) (drop filled into.new) }
-    ensures failed { result ≡ Got.Failed → HasRisen (I.faults source.old) (I.faults source.new) }
+    ensures bytes { GotTakes result (I.left source.old) (I.left source.new)
+        (drop filled into.new) }
+    ensures failed { result ≡ Got.Failed
+        → HasRisen (I.faults source.old) (I.faults source.new) }
     ensures never_falls { I.faults source.old ≤ I.faults source.new }
 {
     source.read(&mut into[filled..])
@@ -136,9 +149,14 @@ fn read_after<I: Source>(source: &mut I, into: &mut [u8], filled: usize) -> Got
 
 // Reads one byte more, which tells an end from a text that is too long.
 fn end_of<I: Source>(source: &mut I) -> Result<(), ReadError>
-    ensures ok { OnOk result (Keeps (I.left source.old) (I.left source.new) × IsAtEnd (I.left source.new)) }
-    ensures fault { IsErrOf result ReadError.ReadFault → HasRisen (I.faults source.old) (I.faults source.new) × Keeps (I.left source.old) (I.left source.new) }
-    ensures too_long { IsErrOf result ReadError.TooLong → Took (I.left source.old) (I.left source.new) (λ n. n ≡ 1) }
+    ensures ok { OnOk result (Keeps (I.left source.old) (I.left source.new)) }
+    ensures end { OnOk result (IsAtEnd (I.left source.new)) }
+    ensures fault { IsErrOf result ReadError.ReadFault
+        → HasRisen (I.faults source.old) (I.faults source.new) }
+    ensures before_fault { IsErrOf result ReadError.ReadFault
+        → Keeps (I.left source.old) (I.left source.new) }
+    ensures too_long { IsErrOf result ReadError.TooLong
+        → Took (I.left source.old) (I.left source.new) (λ n. n ≡ 1) }
     ensures memory { result ≢ Err ReadError.NoMemory }
     ensures never_falls { I.faults source.old ≤ I.faults source.new }
 {

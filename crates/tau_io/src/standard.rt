@@ -1,5 +1,5 @@
 // Standard input and output: the edge of the program, where no contract says which bytes pass.
-ghost use Rattle.std.specs.Prelude.{◌≡◌, ◌≤◌, ◌<◌, length};
+ghost use Rattle.std.specs.Prelude.{◌≡◌, ◌≢◌, ◌≤◌, ◌<◌, length};
 ghost use Rattle.tau_io.specs.Faults.{HasRisen};
 ghost use Rattle.tau_io.specs.Got.{GotFits, faults_after_read};
 ghost use Rattle.tau_io.specs.Put.{PutFits, faults_after_write};
@@ -105,6 +105,7 @@ impl Sink for StdSink {
 
         // The count is raised at each error and each write of nothing, and at nothing else.
         ensures counted { self.new ≡ faults_after_write self.old result }
+        ensures no_memory_taken { result ≢ Put.NoMemory }
     {
         match self.output.write(from) {
             Ok(0) | Err(_) => {

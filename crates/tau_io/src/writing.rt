@@ -26,7 +26,8 @@ pub fn write_all_of<O: Sink>(sink: &mut O, bytes: &[u8]) -> Result<(), WriteErro
     ensures ok { OnOk result (Appends (O.held sink.old) (O.held sink.new) bytes.now) }
     ensures err { OnErr result (AppendsFront (O.held sink.old) (O.held sink.new) bytes.now) }
 
-    ensures fault { IsErrOf result WriteError.WriteFault → HasRisen (O.faults sink.old) (O.faults sink.new) }
+    ensures fault { IsErrOf result WriteError.WriteFault
+        → HasRisen (O.faults sink.old) (O.faults sink.new) }
     ensures never_falls { O.faults sink.old ≤ O.faults sink.new }
 {
     let mut done = 0;
