@@ -1,0 +1,5 @@
+pub mod Faults
+pub mod Feed
+pub mod Got
+pub mod Put
+pub mod Store
