@@ -1,0 +1,5 @@
+pub mod Order
+pub mod Paths
+pub mod Chain
+pub mod Table
+pub mod Moves
