@@ -4,6 +4,7 @@ use Rattle.std.specs.Prelude.{slice_get, slice_index}
 use Rattle.std.proofs.Math.Seq.{take-length, take-append_seam}
 use Rattle.std.proofs.Math.ListN.{get_or-append}
 use Rattle.std.proofs.Math.Seq.{get_or-append_seam}
+use Rattle.tau_history.proofs.Gets.{slice_get-append, slice_get-seam}
 use Rattle.tau_history.specs.Timeline.{Timeline, numbers, interval}
 use Rattle.tau_history.specs.Order.{Precedes, AreComparable}
 use Rattle.tau_history.proofs.Order.{IsBelow, fallen, same_point, later_interval, below_of, precedes_of}
@@ -78,15 +79,6 @@ numbers_front {a} {b} p = by_parts (below_of p) where
   by_parts (same_point e l s) = whole e
   by_parts (later_interval n r e l) =
     sym (take-append_seam a.closed (n ∷ (r ++ b.last ∷ []))) ∙ ap (take (interval a)) (sym (append_assoc a.closed (n ∷ r) (b.last ∷ [])) ∙ ap (λ xs. xs ++ b.last ∷ []) (sym e))
-
-slice_get-append : (xs ys : List ℕ) (i : ℕ) → i < length xs → slice_get (xs ++ ys) i ≡ slice_get xs i
-slice_get-append [] ys i h = absurd (omega arith)
-slice_get-append (x ∷ xs) ys zero h = refl
-slice_get-append (x ∷ xs) ys (suc i) h = slice_get-append xs ys i (omega arith)
-
-slice_get-seam : (xs : List ℕ) (n : ℕ) (ys : List ℕ) → slice_get (xs ++ n ∷ ys) (length xs) ≡ Some n
-slice_get-seam [] n ys = refl
-slice_get-seam (x ∷ xs) n ys = slice_get-seam xs n ys
 
 -- the number of a closed interval stays
 pub number_stays : {a b : Timeline} → Precedes a b → (i : ℕ) → i < interval a → slice_get (numbers b) i ≡ slice_get (numbers a) i

@@ -3,3 +3,4 @@ pub mod Paths
 pub mod Chain
 pub mod Table
 pub mod Moves
+pub mod Gets

@@ -2,7 +2,7 @@
 use Rattle.std.specs.Prelude.{◌≡◌, ℕ, ◌≤◌, List, length, take}
 
 -- the numbers, and how many more fit without memory
-pub record Closed : Type 0 where
+pub record ClosedList : Type 0 where
   pub numbers : List ℕ
   pub spare : ℕ
 

@@ -161,6 +161,12 @@ pub(crate) fn front_of(chunks: &Option<Arc<Chunk>>, count: u32) -> &Option<Arc<C
     rest
 }
 
+fn alike(left: &[u32; 8], right: &[u32; 8]) -> bool
+    ensures { IsTrue result ↔ (left.now ≡ right.now) }
+{
+    left == right
+}
+
 /// Whether two chains of equally many chunks hold the same numbers.
 pub(crate) fn same(left: &Option<Arc<Chunk>>, right: &Option<Arc<Chunk>>) -> bool
     requires { length (held left.now) ≡ length (held right.now) }
@@ -171,7 +177,7 @@ pub(crate) fn same(left: &Option<Arc<Chunk>>, right: &Option<Arc<Chunk>>) -> boo
     while let (Some(a), Some(b)) = (one, other) {
         let a: &Chunk = a;
         let b: &Chunk = b;
-        if a.block != b.block {
+        if !alike(&a.block, &b.block) {
             return false;
         }
         one = &a.before;

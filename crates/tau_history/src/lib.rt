@@ -2,7 +2,10 @@
 #![tactic(auto)]
 
 mod chunk;
+mod closed;
 mod fate;
+mod history;
 pub mod laws;
 
 pub use fate::Fate;
+pub use history::History;
