@@ -52,6 +52,9 @@ on_chain a b c (later_interval n r e l) (later_interval m s f k) =
 pub comparable_below : {a b c : Timeline} → Precedes a c → Precedes b c → AreComparable a b
 comparable_below {a} {b} {c} p q = either a b (on_chain a b c (below_of p) (below_of q))
 
+pub law_comparable : (a b c : Timeline) → Precedes a c → Precedes b c → AreComparable a b
+law_comparable a b c p q = comparable_below p q
+
 pub interval_grows : {a b : Timeline} → Precedes a b → interval a ≤ interval b
 interval_grows {a} {b} p = by_parts (below_of p) where
   by_parts : IsBelow a b → interval a ≤ interval b
