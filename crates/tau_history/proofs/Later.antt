@@ -22,10 +22,10 @@ pub index_grows : {a b : Timeline} → Precedes a b → (i : ℕ) → i ≤ inte
 index_grows {a} {b} p i le = ⊎_elim
     (λ lt. omega (arith, index_stays p i lt))
     (λ ge.
-      let here : i ≡ interval a = omega arith in
-      let n = own_number_grows p in
-      let later : slice_index (numbers b) i ≡ n.0 = get_or_from_slice_get (numbers b) i n.0 0 (ap (slice_get (numbers b)) here ∙ n.1) in
-      omega (arith, own_number a i here, later, n.2))
+    let here : i ≡ interval a = omega arith in
+    let n = own_number_grows p in
+    let later : slice_index (numbers b) i ≡ n.0 = get_or_from_slice_get (numbers b) i n.0 0 (ap (slice_get (numbers b)) here ∙ n.1) in
+    omega (arith, own_number a i here, later, n.2))
     (cases_lt i (interval a))
 
 pub reached_stays : {a b : Timeline} {i m : ℕ} → Precedes a b → HasReached a i m → HasReached b i m
@@ -49,6 +49,7 @@ stable_not_open : (a b : Timeline) (i m : ℕ) → Precedes a b → IsStable a i
 stable_not_open a b i m p s o = by_parts (below_of p) where
   same : interval a ≡ interval b
   same = sym s.own.interval_is ∙ o.own.interval_is
+
   by_parts : IsBelow a b → ⊥
   by_parts (fallen e l) = omega (arith, s.own.incarnation_is, o.own.incarnation_is)
   by_parts (same_point e l t) = let q = t s.mode in let r = o.mode in cc (q, r)
@@ -67,6 +68,7 @@ pub law_stable : (a b : Timeline) (i m : ℕ) → Precedes a b → fate a i m �
 law_stable a b i m p e = by_fate (fate b i m) refl where
   s : IsStable a i m
   s = has_row a i m Stable e
+
   by_fate : (f : Fate) → fate b i m ≡ f → ((fate b i m ≡ Stable) ⊎ (fate b i m ≡ Closed)) ⊎ (fate b i m ≡ Fallen)
   by_fate Ahead q = absurd (law_reached a b i m p (own_not_ahead a i m s.own) q)
   by_fate Open q = absurd (stable_not_open a b i m p s (has_row b i m Open q))

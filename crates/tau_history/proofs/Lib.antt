@@ -4,6 +4,6 @@ pub mod Chain
 pub mod Table
 pub mod Gets
 pub mod Before
-pub mod Tests
+pub mod Precedence
 pub mod Later
 pub mod Moves

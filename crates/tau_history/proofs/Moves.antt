@@ -33,11 +33,11 @@ fallen_before stabilize h i n r = inl (record { within = r.within; below_number 
 fallen_before fall h i n r = ⊎_elim
     (λ lt. inl (record { within = r.within; below_number = omega (arith, r.below_number, fall_below h i lt) }))
     (λ ge.
-      let here : i ≡ interval h = omega (arith, r.within) in
-      let up = own_number (moved fall h) i here in
-      ⊎_elim (λ lt. inl (record { within = r.within; below_number = omega (arith, own_number h i here) }))
-        (λ le. inr (refl, record { interval_is = here; incarnation_is = omega (arith, up, r.below_number) }))
-        (cases_lt n h.last))
+    let here : i ≡ interval h = omega (arith, r.within) in
+    let up = own_number (moved fall h) i here in
+    ⊎_elim (λ lt. inl (record { within = r.within; below_number = omega (arith, own_number h i here) }))
+    (λ le. inr (refl, record { interval_is = here; incarnation_is = omega (arith, up, r.below_number) }))
+    (cases_lt n h.last))
     (cases_lt i (interval h))
 fallen_before close h i n r = ⊎_elim
     (λ lt. absurd (omega (arith, r.within, r.below_number, length-numbers h, close_own h i (omega (arith, r.within, length-numbers h)))))
@@ -49,8 +49,9 @@ own_fallen h i n o = record { within = omega (arith, o.interval_is); below_numbe
 
 own_closed : (h : Timeline) (i n : ℕ) → IsOwn h i n → IsClosed (moved close h) i n
 own_closed h i n o = record {
-    below = omega (arith, length-numbers h, o.interval_is);
-    number = o.incarnation_is ∙ sym (own_number h i o.interval_is) ∙ sym (close_within h i (omega (arith, o.interval_is))) }
+  below = omega (arith, length-numbers h, o.interval_is);
+  number = o.incarnation_is ∙ sym (own_number h i o.interval_is) ∙ sym (close_within h i (omega (arith, o.interval_is)));
+}
 
 closed_before : (m : Move) (h : Timeline) (i n : ℕ) → IsClosed (moved m h) i n → IsClosed h i n ⊎ ((m ≡ close) × IsOwn h i n)
 closed_before keep h i n r = inl r
@@ -60,8 +61,8 @@ closed_before close h i n r =
     let le : i ≤ interval h = omega (arith, r.below, length-numbers h) in
     let same = r.number ∙ close_within h i le in
     ⊎_elim (λ lt. inl (record { below = lt; number = same }))
-      (λ ge. let here : i ≡ interval h = omega arith in inr (refl, record { interval_is = here; incarnation_is = same ∙ own_number h i here }))
-      (cases_lt i (interval h))
+    (λ ge. let here : i ≡ interval h = omega arith in inr (refl, record { interval_is = here; incarnation_is = same ∙ own_number h i here }))
+    (cases_lt i (interval h))
 
 stable_before : (m : Move) (h : Timeline) (i n : ℕ) → IsStable (moved m h) i n → IsStable h i n ⊎ ((m ≡ stabilize) × IsOwn h i n)
 stable_before keep h i n r = inl r
@@ -71,18 +72,20 @@ stable_before close h i n r = absurd (cc (r.mode))
 
 -- a point is Fallen after a move exactly where it was before, or the move is a fall made at it
 pub fallen_after : (m : Move) (h : Timeline) (i n : ℕ) → (fate (moved m h) i n ≡ Fallen) ↔ ((fate h i n ≡ Fallen) ⊎ ((m ≡ fall) × IsOwn h i n))
-fallen_after m h i n =
-    (λ e. ⊎_elim (λ r. inl (fate-fallen h i n r)) (λ p. inr p) (fallen_before m h i n (has_row (moved m h) i n Fallen e)),
-     λ q. fate-fallen (moved m h) i n (⊎_elim (λ e. fallen_stays (precedes_moved m h) (has_row h i n Fallen e)) (λ p. by_move m p.0 p.1) q)) where
+fallen_after m h i n = (
+  λ e. ⊎_elim (λ r. inl (fate-fallen h i n r)) (λ p. inr p) (fallen_before m h i n (has_row (moved m h) i n Fallen e)),
+  λ q. fate-fallen (moved m h) i n (⊎_elim (λ e. fallen_stays (precedes_moved m h) (has_row h i n Fallen e)) (λ p. by_move m p.0 p.1) q),
+) where
   by_move : (k : Move) → k ≡ fall → IsOwn h i n → IsFallen (moved k h) i n
   by_move fall e o = own_fallen h i n o
   by_move k e o = absurd (cc)
 
 -- and Closed exactly where it was before, or the move is a close made at it
 pub closed_after : (m : Move) (h : Timeline) (i n : ℕ) → (fate (moved m h) i n ≡ Closed) ↔ ((fate h i n ≡ Closed) ⊎ ((m ≡ close) × IsOwn h i n))
-closed_after m h i n =
-    (λ e. ⊎_elim (λ r. inl (fate-closed h i n r)) (λ p. inr p) (closed_before m h i n (has_row (moved m h) i n Closed e)),
-     λ q. fate-closed (moved m h) i n (⊎_elim (λ e. closed_stays (precedes_moved m h) (has_row h i n Closed e)) (λ p. by_move m p.0 p.1) q)) where
+closed_after m h i n = (
+  λ e. ⊎_elim (λ r. inl (fate-closed h i n r)) (λ p. inr p) (closed_before m h i n (has_row (moved m h) i n Closed e)),
+  λ q. fate-closed (moved m h) i n (⊎_elim (λ e. closed_stays (precedes_moved m h) (has_row h i n Closed e)) (λ p. by_move m p.0 p.1) q),
+) where
   by_move : (k : Move) → k ≡ close → IsOwn h i n → IsClosed (moved k h) i n
   by_move close e o = own_closed h i n o
   by_move k e o = absurd (cc)
@@ -101,16 +104,16 @@ reached_before stabilize h i n r = inl (record { within = r.within; not_above = 
 reached_before fall h i n r = ⊎_elim
     (λ lt. inl (record { within = r.within; not_above = omega (arith, r.not_above, fall_below h i lt) }))
     (λ ge.
-      let here : i ≡ interval h = omega (arith, r.within) in
-      let up = own_number (moved fall h) i here in
-      ⊎_elim (λ lt. inr (record { interval_is = here; incarnation_is = omega (arith, up, r.not_above) }))
-        (λ le. inl (record { within = r.within; not_above = omega (arith, own_number h i here) }))
-        (cases_lt h.last n))
+    let here : i ≡ interval h = omega (arith, r.within) in
+    let up = own_number (moved fall h) i here in
+    ⊎_elim (λ lt. inr (record { interval_is = here; incarnation_is = omega (arith, up, r.not_above) }))
+    (λ le. inl (record { within = r.within; not_above = omega (arith, own_number h i here) }))
+    (cases_lt h.last n))
     (cases_lt i (interval h))
 reached_before close h i n r = ⊎_elim
     (λ lt.
-      let here : i ≡ interval h + 1 = omega (arith, r.within, length-numbers h) in
-      inr (record { interval_is = here ∙ sym (length-numbers h); incarnation_is = omega (arith, r.not_above, close_own h i here) }))
+    let here : i ≡ interval h + 1 = omega (arith, r.within, length-numbers h) in
+    inr (record { interval_is = here ∙ sym (length-numbers h); incarnation_is = omega (arith, r.not_above, close_own h i here) }))
     (λ le. inl (record { within = le; not_above = omega (arith, r.not_above, close_within h i le) }))
     (cases_lt (interval h) i)
 

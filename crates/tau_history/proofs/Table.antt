@@ -73,17 +73,19 @@ pub record Row (h : Timeline) (i m : ℕ) : Type 0 where
 
 ahead_past : (h : Timeline) (i m : ℕ) → interval h < i → IsAhead h i m
 ahead_past h i m lt = record {
-    not_closed = λ r. omega (arith, r.below);
-    not_fallen = λ r. omega (arith, r.within);
-    not_stable = λ r. omega (arith, r.own.interval_is);
-    not_open = λ r. omega (arith, r.own.interval_is) }
+  not_closed = λ r. omega (arith, r.below);
+  not_fallen = λ r. omega (arith, r.within);
+  not_stable = λ r. omega (arith, r.own.interval_is);
+  not_open = λ r. omega (arith, r.own.interval_is);
+}
 
 ahead_more : (h : Timeline) (i m : ℕ) → slice_index (numbers h) i < m → IsAhead h i m
 ahead_more h i m lt = record {
-    not_closed = λ r. omega (arith, r.number);
-    not_fallen = λ r. omega (arith, r.below_number);
-    not_stable = λ r. omega (arith, own_number h i r.own.interval_is, r.own.incarnation_is);
-    not_open = λ r. omega (arith, own_number h i r.own.interval_is, r.own.incarnation_is) }
+  not_closed = λ r. omega (arith, r.number);
+  not_fallen = λ r. omega (arith, r.below_number);
+  not_stable = λ r. omega (arith, own_number h i r.own.interval_is, r.own.incarnation_is);
+  not_open = λ r. omega (arith, own_number h i r.own.interval_is, r.own.incarnation_is);
+}
 
 own_row : (h : Timeline) (i m : ℕ) → IsOwn h i m → Row h i m
 own_row h i m o = ⊎_elim
@@ -101,11 +103,11 @@ pub row_of : (h : Timeline) (i m : ℕ) → Row h i m
 row_of h i m = ⊎_elim
     (λ lt. record { fate_of = Ahead; is = fate-past h i m lt; row = ahead_past h i m lt })
     (λ le. ⊎_elim (λ e. number_row h i m le e)
-      (λ d. ⊎_elim
-        (λ lt. let r : IsFallen h i m = record { within = le; below_number = lt } in record { fate_of = Fallen; is = fate-fallen h i m r; row = r })
-        (λ lt. record { fate_of = Ahead; is = fate-more h i m le lt; row = ahead_more h i m lt })
-        d)
-      (cases_order m (slice_index (numbers h) i)))
+    (λ d. ⊎_elim
+    (λ lt. let r : IsFallen h i m = record { within = le; below_number = lt } in record { fate_of = Fallen; is = fate-fallen h i m r; row = r })
+    (λ lt. record { fate_of = Ahead; is = fate-more h i m le lt; row = ahead_more h i m lt })
+    d)
+    (cases_order m (slice_index (numbers h) i)))
     (cases_lt (interval h) i)
 
 pub has_row : (h : Timeline) (i m : ℕ) (f : Fate) → fate h i m ≡ f → HasFate h i m f
@@ -145,10 +147,12 @@ pub not_ahead : (h : Timeline) (i m : ℕ) → HasReached h i m → fate h i m �
 not_ahead h i m r e = by_number (cases_order m (slice_index (numbers h) i)) where
   a : IsAhead h i m
   a = has_row h i m Ahead e
+
   by_mode : IsOwn h i m → ⊥
   by_mode o = ⊎_elim (λ s. a.not_stable (record { own = o; mode = s })) (λ s. a.not_open (record { own = o; mode = s })) (cases_Bool h.stable)
+
   by_number : (m ≡ slice_index (numbers h) i) ⊎ ((m < slice_index (numbers h) i) ⊎ (slice_index (numbers h) i < m)) → ⊥
   by_number (inl q) = ⊎_elim (λ lt. a.not_closed (record { below = lt; number = q }))
-    (λ ge. let here : i ≡ interval h = omega (arith, r.within) in by_mode (record { interval_is = here; incarnation_is = q ∙ own_number h i here })) (cases_lt i (interval h))
+      (λ ge. let here : i ≡ interval h = omega (arith, r.within) in by_mode (record { interval_is = here; incarnation_is = q ∙ own_number h i here })) (cases_lt i (interval h))
   by_number (inr (inl lt)) = a.not_fallen (record { within = r.within; below_number = lt })
   by_number (inr (inr lt)) = omega (arith, r.not_above)

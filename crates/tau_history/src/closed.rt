@@ -35,7 +35,12 @@ impl ClosedNumbers {
         ensures numbers { result.numbers ≡ [] }
         ensures spare { result.spare ≡ 8 }
     {
-        ClosedNumbers { chunks: None, tail: [0; 8], tail_len: 0, alloc }
+        ClosedNumbers {
+            chunks: None,
+            tail: [0; 8],
+            tail_len: 0,
+            alloc,
+        }
     }
 
     pub(crate) fn len(&self) -> u32
@@ -50,7 +55,11 @@ impl ClosedNumbers {
         ensures { slice_get self.now.numbers k ≡ Some result }
     {
         let below = count_of(&self.chunks);
-        if k < below { number_in(&self.chunks, k) } else { self.tail[(k - below) as usize] }
+        if k < below {
+            number_in(&self.chunks, k)
+        } else {
+            self.tail[(k - below) as usize]
+        }
     }
 
     /// Makes room for one more number.
@@ -82,7 +91,12 @@ impl ClosedNumbers {
         ensures { IfOk result (λ c. c ≡ self.now) }
     {
         let chunks = share(&self.chunks)?;
-        Ok(ClosedNumbers { chunks, tail: self.tail, tail_len: self.tail_len, alloc: self.alloc })
+        Ok(ClosedNumbers {
+            chunks,
+            tail: self.tail,
+            tail_len: self.tail_len,
+            alloc: self.alloc,
+        })
     }
 
     /// Whether the later numbers begin with these, in time linear in these.
@@ -91,7 +105,10 @@ impl ClosedNumbers {
         ensures { IsTrue result ↔ IsFront self.now.numbers later.now.numbers }
     {
         let chunked = count_of(&self.chunks).min(count_of(&later.chunks));
-        if !same(front_of(&self.chunks, chunked), front_of(&later.chunks, chunked)) {
+        if !same(
+            front_of(&self.chunks, chunked),
+            front_of(&later.chunks, chunked),
+        ) {
             return false;
         }
         for k in chunked..self.len() {
