@@ -1,8 +1,8 @@
 -- Strictly before, told by interval, incarnation and mode.
-use Rattle.std.proofs.Common.{◌≡◌, ◌≢◌, ℕ, ◌+◌, ◌<◌, ◌≤◌, ◌↔◌, nat_lt, Bool, true, false, not, IsTrue, List, [], ◌∷◌, ◌++◌, length, refl, sym, ap, ◌∙◌, length-append, arith}
+use Rattle.std.proofs.Common.{◌≡◌, ◌≢◌, ℕ, ◌↔◌, nat_lt, Bool, true, false, IsTrue, ◌∷◌, length, refl, sym, ap, ◌∙◌, length-append, arith}
 use Rattle.std.proofs.lemmas.Bool.{ltb-true, lt-ltb}
 use Rattle.tau_history.specs.Timeline.{Timeline, interval}
-use Rattle.tau_history.specs.Order.{Precedes, AreComparable, IsBefore}
+use Rattle.tau_history.specs.Order.{AreComparable, IsBefore}
 use Rattle.tau_history.proofs.Order.{IsBelow, fallen, same_point, later_interval, below_of, RanksBelow, by_interval, by_incarnation, by_mode, rank_of, precedes_by_rank, same_parts}
 
 rank_before : (a b : Timeline) → IsBefore a b → RanksBelow a b

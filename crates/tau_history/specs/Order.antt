@@ -1,6 +1,6 @@
 -- The order of histories (docs/rules.md, "Histories").
-use Rattle.std.specs.Prelude.{◌≡◌, ◌≢◌, ◌<◌, ◌⊎◌, IsTrue}
-use Rattle.tau_history.specs.Timeline.{Timeline, Move, keep, stabilize, close, fall, moved, interval}
+use Rattle.std.specs.Prelude.{◌≡◌, ◌≢◌, ◌⊎◌, IsTrue}
+use Rattle.tau_history.specs.Timeline.{Timeline, Move, keep, stabilize, close, fall, moved}
 
 -- only a stable history makes the move `close`
 abbrev pub MayMove : Move → Timeline → Type 0

@@ -1,5 +1,4 @@
 use Rattle.std.proofs.Common.{◌≡◌, not, false, sym, ap, ◌∙◌}
-use Rattle.tau_history.specs.Timeline.{interval}
 use Rattle.tau_history.proofs.Before.{before_by_interval, before_by_incarnation, before_by_mode}
 use Rattle.tau_history.proofs.history.History.is_before.Goals as goal
 
