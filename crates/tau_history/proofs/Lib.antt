@@ -1,0 +1,10 @@
+pub mod Order
+pub mod Paths
+pub mod Chain
+pub mod Table
+pub mod Gets
+pub mod Before
+pub mod Precedence
+pub mod Later
+pub mod Moves
+pub mod Sequence
