@@ -1,2 +1,5 @@
+pub mod Consistency
+pub mod Leaving
 pub mod Lists
+pub mod Rooms
 pub mod Search

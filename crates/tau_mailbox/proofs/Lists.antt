@@ -1,6 +1,6 @@
 -- `find` and `filter` where the elements that pass are known by their places.
 use Rattle.std.proofs.Common.{◌≡◌, ◌≢◌, ℕ, zero, suc, ◌<◌, ◌≤◌, ◌+◌, Bool, true, false, List, [], ◌∷◌, ◌++◌, length, get_or, take, drop, find, filter, remove, All, Some, None, cond, refl, ap, arith}
-use Rattle.std.proofs.lemmas.List.Elements.{All-head, All-tail}
+use Rattle.std.proofs.lemmas.List.Elements.{All-tail, filter-append}
 
 -- nothing is found where nothing passes
 pub find-none : {X : Type 0} (p : X → Bool) (xs : List X) → All (λ x. p x ≡ false) xs → find p xs ≡ None
@@ -29,3 +29,32 @@ pub filter-one : {X : Type 0} (p : X → Bool) (xs : List X) (i : ℕ) → i < l
 filter-one p [] i lt failed others = absurd (omega (arith, lt))
 filter-one p (x ∷ xs) zero lt failed others = rw (failed x) (filter-all p xs (λ k d h. others (suc k) d (λ e. absurd (omega (arith, e))) (omega (arith, h))))
 filter-one p (x ∷ xs) (suc i) lt failed others = rw (others 0 x (λ e. absurd (omega (arith, e))) (omega arith)) (ap (λ ys. x ∷ ys) (filter-one p xs i (omega (arith, lt)) failed (λ j d ne h. others (suc j) d (λ e. ne (omega (arith, e))) (omega (arith, h)))))
+
+-- a filter of a filter, in either order
+pub filter-comm : {X : Type 0} (p q : X → Bool) (xs : List X) → filter p (filter q xs) ≡ filter q (filter p xs)
+filter-comm p q [] = refl
+filter-comm p q (x ∷ xs) = grind (arith, filter-comm p q xs)
+
+-- an element that fails makes no difference to a filter
+pub filter-without : {X : Type 0} (p : X → Bool) (xs : List X) (y : X) (ys : List X) → p y ≡ false → filter p (xs ++ y ∷ ys) ≡ filter p (xs ++ ys)
+filter-without p [] y ys failed = rw failed refl
+filter-without p (x ∷ xs) y ys failed = rw (filter-without p xs y ys failed) refl
+
+-- one that passes stands between what passes before it and after it
+pub filter-around : {X : Type 0} (p : X → Bool) (xs : List X) (y : X) (ys : List X) → p y ≡ true → filter p (xs ++ y ∷ ys) ≡ filter p xs ++ y ∷ filter p ys
+filter-around p xs y ys passed = rw (filter-append p xs (y ∷ ys), passed) refl
+
+-- where none of xs passes, the search may begin after them
+pub find-append : {X : Type 0} (p : X → Bool) (xs ys : List X) → All (λ x. p x ≡ false) xs → find p (xs ++ ys) ≡ find p ys
+find-append p [] ys fails = refl
+find-append p (x ∷ xs) ys fails = rw (fails 0 x (omega arith)) (find-append p xs ys (All-tail (λ y. p y ≡ false) x xs fails))
+
+-- tests that agree at each element find the same
+pub find-agree : {X : Type 0} (p q : X → Bool) (xs : List X) → All (λ x. p x ≡ q x) xs → find p xs ≡ find q xs
+find-agree p q [] same = refl
+find-agree p q (x ∷ xs) same = rw (same 0 x (omega arith), find-agree p q xs (All-tail (λ y. p y ≡ q y) x xs same)) refl
+
+-- nothing is kept where nothing passes
+pub filter-none : {X : Type 0} (p : X → Bool) (xs : List X) → All (λ x. p x ≡ false) xs → filter p xs ≡ []
+filter-none p [] fails = refl
+filter-none p (x ∷ xs) fails = rw (fails 0 x (omega arith)) (filter-none p xs (All-tail (λ y. p y ≡ false) x xs fails))

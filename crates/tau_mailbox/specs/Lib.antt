@@ -1,3 +1,5 @@
-pub mod Letters
-pub mod InFlight
+pub mod Consistent
 pub mod Firsts
+pub mod InFlight
+pub mod Letters
+pub mod Parts

@@ -79,6 +79,7 @@ impl Letters {
     pub(crate) fn take_out(&mut self, message: u32) -> Option<Letter>
         ensures found { result ≡ find (is_message message) self.old.letters }
         ensures rest { self.new.letters ≡ filter (is_other message) self.old.letters }
+        ensures none { IfNone result (self.new ≡ self.old) }
         ensures ascending { IsAscending self.new.letters }
         ensures room { self.old.room ≤ self.new.room }
     {

@@ -8,3 +8,4 @@ mod firsts;
 mod letter;
 mod letters;
 mod mailboxes;
+mod parts;
