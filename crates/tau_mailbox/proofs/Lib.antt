@@ -1,3 +1,4 @@
+pub mod Blocks
 pub mod Consistency
 pub mod Leaving
 pub mod Lists

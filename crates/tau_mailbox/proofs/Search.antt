@@ -1,9 +1,11 @@
 -- Ascending letters, and the place that a binary search gives.
-use Rattle.std.proofs.Common.{◌≡◌, ◌≢◌, ℕ, ◌<◌, ◌≤◌, Bool, true, false, eqb, ltb, not, List, length, get_or, drop, find, filter, remove, sym, ap, arith}
+use Rattle.std.proofs.Common.{◌≡◌, ◌≢◌, ℕ, ◌<◌, ◌≤◌, Bool, true, false, eqb, ltb, not, List, length, get_or, drop, find, filter, remove, sym, ap, ◌-◌, Some, slice_get, MatchBool, Any, refl, ◌∙◌, arith}
 use Rattle.std.proofs.lemmas.Bool.Decides.{nat_tests}
+use Rattle.std.specs.Prelude.{unwrap_or}
+use Rattle.std.proofs.lemmas.Option.{unwrap_or-slice_get, slice_get_within}
 use Rattle.std.specs.List.Sorted.{IsPartitionedBy, IsPartitionPoint}
 use Rattle.tau_mailbox.specs.declared.letter.Letter.{Letter}
-use Rattle.tau_mailbox.specs.Letters.{is_message, is_other, is_after, IsAscending, IsLowerBound, IsAbsent, IsPlaceOf}
+use Rattle.tau_mailbox.specs.Letters.{is_message, is_other, is_after, IsAscending, AllBelow, IsLowerBound, IsAbsent, IsPlaceOf}
 use Rattle.tau_mailbox.proofs.Lists.{find-none, filter-all, find-first, find-from, filter-one}
 
 -- ascending letters are parted by a bound
@@ -43,3 +45,13 @@ present m ls k up b lt e = record {
 -- the search for a later letter may begin at the bound
 pub find-after : (m q : ℕ) (ls : List Letter) (k : ℕ) → IsLowerBound m ls k → find (is_after m q) (drop k ls) ≡ find (is_after m q) ls
 find-after m q ls k b = sym (find-from (is_after m q) ls k (λ j d h lt. grind (arith, nat_tests, b.below j d h)))
+
+-- the last letter tells whether all are below m
+pub ends-below : (m : ℕ) (ls : List Letter) (x : Letter) → IsAscending ls → slice_get ls (length ls - 1) ≡ Some x → MatchBool (ltb x.message m) (AllBelow m ls) (Any (λ l. m ≤ l.message) ls)
+ends-below m ls x up last = by (ltb x.message m) refl
+  where
+    at : (d : Letter) → get_or ls (length ls - 1) d ≡ x
+    at d = sym (unwrap_or-slice_get ls (length ls - 1) d) ∙ ap (λ o. unwrap_or o d) last
+    by : (b : Bool) → ltb x.message m ≡ b → MatchBool b (AllBelow m ls) (Any (λ l. m ≤ l.message) ls)
+    by true t = λ k d lt. let here : (get_or ls (length ls - 1) d).message ≡ x.message = ap (λ (l : Letter). l.message) (at d) in grind (arith, nat_tests, up k (length ls - 1) d)
+    by false t = (length ls - 1, x, slice_get_within ls (length ls - 1) x last, at x, grind (arith, nat_tests))

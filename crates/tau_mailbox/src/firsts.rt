@@ -7,7 +7,7 @@ ghost use Rattle.tau_mailbox.specs.Firsts.{Indexes, Leaves, first_after};
 use std::collections::HashMap;
 
 use crate::letter::Letter;
-use crate::letters::Letters;
+use crate::order::Order;
 
 /// A receiver's first letter, and how many letters are for it.
 #[derive(Clone, Copy)]
@@ -41,7 +41,7 @@ pub(crate) fn note_arrival(firsts: &mut HashMap<u32, First>, letter: Letter)
 }
 
 /// Notes that a letter left, so that the given ones are left.
-pub(crate) fn note_leave(firsts: &mut HashMap<u32, First>, left: &Letters, letter: Letter)
+pub(crate) fn note_leave(firsts: &mut HashMap<u32, First>, left: &Order, letter: Letter)
     ensures indexes { (ls : List Letter) → Leaves letter ls left.now.letters → Indexes firsts.old ls → Indexes firsts.new left.now.letters }
     ensures room { spare firsts.old ≤ spare firsts.new }
 {
@@ -58,7 +58,7 @@ pub(crate) fn note_leave(firsts: &mut HashMap<u32, First>, left: &Letters, lette
 }
 
 /// The receiver's first letter after one of its letters left.
-fn after_leave(first: First, left: &Letters, letter: Letter) -> Option<First>
+fn after_leave(first: First, left: &Order, letter: Letter) -> Option<First>
     ensures { result ≡ first_after first letter left.now.letters }
 {
     if first.count <= 1 {

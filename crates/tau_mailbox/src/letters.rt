@@ -1,5 +1,5 @@
 // An ascending list of letters, with room for more.
-ghost use Rattle.std.specs.Prelude.{◌≡◌, ◌<◌, ◌≤◌, ◌+◌, ◌^◌, ◌&&◌, [], ◌∷◌, ◌++◌, length, nat_lt, find, filter, slice_get, OnOk, OnErr, IfSome, IfNone};
+ghost use Rattle.std.specs.Prelude.{◌≡◌, ◌<◌, ◌≤◌, ◌+◌, ◌^◌, [], ◌∷◌, ◌++◌, length, find, filter, slice_get, Any, MatchBool, IfOk, OnOk, IfSome, IfNone};
 ghost use Rattle.tau_mailbox.specs.Letters.{is_message, is_other, is_after, IsAscending, AllBelow, IsLowerBound, IsAbsent, IsPlaceOf};
 
 use std::alloc::{AllocError, Global};
@@ -32,6 +32,22 @@ impl Letters {
         Letters {
             items: Vec::new(alloc),
         }
+    }
+
+    /// No letters, with room for as many as given.
+    pub(crate) fn with_room(alloc: Global, room: usize) -> Result<Self, AllocError>
+        ensures letters { IfOk result (λ l. l.letters ≡ []) }
+        ensures room { IfOk result (λ l. l.room ≡ room) }
+    {
+        let items = Vec::with_capacity(alloc, room)?;
+        Ok(Letters { items })
+    }
+
+    /// How many more letters fit without memory.
+    pub(crate) fn room(&self) -> usize
+        ensures { result ≡ self.now.room }
+    {
+        self.items.capacity() - self.items.len()
     }
 
     pub(crate) fn len(&self) -> usize
@@ -85,6 +101,16 @@ impl Letters {
     {
         let place = place_of(&self.items, message)?;
         Some(self.items.remove(place))
+    }
+
+    /// Whether all messages are below the given one.
+    pub(crate) fn ends_below(&self, message: u32) -> bool
+        ensures { MatchBool result (AllBelow message self.now.letters) (Any (λ l. message ≤ l.message) self.now.letters) }
+    {
+        match self.items.last() {
+            Some(last) => last.message < message,
+            None => true,
+        }
     }
 
     /// The first letter for a receiver whose message is above the given one.

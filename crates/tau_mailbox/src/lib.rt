@@ -8,4 +8,5 @@ mod firsts;
 mod letter;
 mod letters;
 mod mailboxes;
+mod order;
 mod parts;

@@ -7,13 +7,14 @@ use std::marker::Model;
 use crate::firsts::{First, first_letter, note_arrival, note_leave};
 use crate::letter::Letter;
 use crate::letters::Letters;
+use crate::order::Order;
 use crate::parts::{empty_parts, push_at, reserve_at, take_at};
 
 /// The messages in flight (docs/rules.md, "Messages in flight"), seen as the number of nodes, the list of letters by
 /// ascending message, and for each node how many more letters fit without memory.
 #[derive(Drop)]
 pub struct Mailboxes {
-    order: Letters,
+    order: Order,
     parts: Vec<Letters>,
     firsts: HashMap<u32, First>,
 }
@@ -43,7 +44,7 @@ impl Mailboxes {
     {
         let parts = empty_parts(alloc, nodes)?;
         Ok(Mailboxes {
-            order: Letters::new(alloc),
+            order: Order::new(alloc),
             parts,
             firsts: HashMap::new(alloc),
         })
