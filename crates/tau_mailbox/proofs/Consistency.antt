@@ -1,19 +1,19 @@
 -- How the parts and the index follow a change of the list.
-use Rattle.std.proofs.Common.{◌≡◌, ◌≢◌, ℕ, zero, suc, ◌<◌, ◌≤◌, ◌+◌, ◌^◌, Bool, true, false, eqb, cond, List, [], ◌∷◌, ◌++◌, length, get_or, set, find, filter, All, Option, Some, None, nat_eq, sym, refl, ap, ◌∙◌, subst, inl, inr, ⊎_elim, arith}
+use Rattle.std.proofs.Common.{◌≡◌, ◌≢◌, ℕ, ◌<◌, ◌≤◌, true, false, eqb, List, [], ◌∷◌, ◌++◌, length, get_or, filter, nat_eq, sym, refl, ap, ◌∙◌, ⊎_elim, arith}
 use Rattle.std.specs.HashMap.{get}
 use Rattle.std.proofs.lemmas.Bool.{cases_eq}
 use Rattle.std.proofs.lemmas.Bool.Decides.{nat_tests}
 use Rattle.std.proofs.lemmas.List.{append-nil, length-set, get_or-set_same, get_or-set_other}
-use Rattle.std.proofs.lemmas.List.Elements.{All-push, All-weaker, All-filter, filter-append}
+use Rattle.std.proofs.lemmas.List.Elements.{All-push, All-filter, filter-append}
 use Rattle.std.proofs.lemmas.List.Kept.{AllPairs-filter}
 use Rattle.std.proofs.lemmas.List.Quantifiers.{all_pairs_push}
 use Rattle.tau_mailbox.specs.declared.letter.Letter.{Letter}
-use Rattle.tau_mailbox.specs.Letters.{WithRoom, is_at, is_other, IsAscending, AllBelow}
+use Rattle.tau_mailbox.specs.Letters.{WithRoom, is_at, is_other, AllBelow}
 use Rattle.tau_mailbox.specs.Parts.{ChangesAt, Keeps, Gains, Loses}
 use Rattle.tau_mailbox.specs.Firsts.{Index, Indexes, Leaves}
 use Rattle.tau_mailbox.specs.Consistent.{IsConsistent}
 use Rattle.tau_mailbox.proofs.Lists.{filter-comm, filter-none}
-use Rattle.tau_mailbox.proofs.Leaving.{Split, split-leaving, others-at, held-by}
+use Rattle.tau_mailbox.proofs.Leaving.{split-leaving, others-at, held-by}
 
 -- a change of one part keeps their number
 pub length-changed : (i : ℕ) (R : WithRoom → WithRoom → Type 0) (ps qs : List WithRoom) → ChangesAt i R ps qs → length qs ≡ length ps
@@ -29,51 +29,53 @@ by-node i R ps qs old new lt change right here others n d within = ⊎_elim same
   where
     short : n < length ps
     short = omega (arith, length-changed i R ps qs change)
+
     same : n ≡ i → (get_or qs n d).letters ≡ filter (is_at n) new
     same e = rw (e, change.is, get_or-set_same ps i change.part d lt) (here (get_or ps i d) change.part (change.related d) (right i d lt))
+
     apart : n ≢ i → (get_or qs n d).letters ≡ filter (is_at n) new
     apart ne = rw (change.is, get_or-set_other ps i n change.part d ne) (right n d short ∙ others n ne)
 
 -- more room
 pub consistent-kept : (ps qs : List WithRoom) (m n : Index) (ls : List Letter) (i : ℕ) → IsConsistent ps m ls → i < length ps → ChangesAt i Keeps ps qs → ((q : ℕ) → get nat_eq n q ≡ get nat_eq m q) → IsConsistent qs n ls
 consistent-kept ps qs m n ls i c lt change same =
-  let len = length-changed i Keeps ps qs change in
-  record {
-    ascending = c.ascending;
-    homes = rw len c.homes;
-    by_node = by-node i Keeps ps qs ls ls lt change c.by_node (λ p q k e. k.0 ∙ e) (λ n ne. refl);
-    by_receiver = λ q. same q ∙ c.by_receiver q;
-    few = rw len c.few;
-  }
+    let len = length-changed i Keeps ps qs change in
+    record {
+      ascending = c.ascending;
+      homes = rw len c.homes;
+      by_node = by-node i Keeps ps qs ls ls lt change c.by_node (λ p q k e. k.0 ∙ e) (λ n ne. refl);
+      by_receiver = λ q. same q ∙ c.by_receiver q;
+      few = rw len c.few;
+    }
 
 -- a letter arrives
 pub consistent-arrived : (ps qs : List WithRoom) (m n : Index) (ls : List Letter) (x : Letter) → IsConsistent ps m ls → x.node < length ps → AllBelow x.message ls → ChangesAt x.node (Gains x) ps qs → Indexes n (ls ++ x ∷ []) → IsConsistent qs n (ls ++ x ∷ [])
 consistent-arrived ps qs m n ls x c lt last change index =
-  let len = length-changed x.node (Gains x) ps qs change in
-  let itself : eqb x.node x.node ≡ true = grind (arith, nat_tests) in
-  record {
-    ascending = all_pairs_push (λ (a b : Letter). a.message < b.message) ls x c.ascending (λ k d within. last k d within);
-    homes = rw len (All-push (λ (l : Letter). l.node < length ps) ls x c.homes lt);
-    by_node = by-node x.node (Gains x) ps qs ls (ls ++ x ∷ []) lt change c.by_node
-      (λ p q k e. k.0 ∙ rw (filter-append (is_at x.node) ls (x ∷ []), itself) (ap (λ ys. ys ++ x ∷ []) e))
-      (λ n ne. let other : eqb x.node n ≡ false = grind (arith, nat_tests) in rw (filter-append (is_at n) ls (x ∷ []), other) (sym (append-nil (filter (is_at n) ls))));
-    by_receiver = index;
-    few = rw len c.few;
-  }
+    let len = length-changed x.node (Gains x) ps qs change in
+    let itself : eqb x.node x.node ≡ true = grind (arith, nat_tests) in
+    record {
+      ascending = all_pairs_push (λ (a b : Letter). a.message < b.message) ls x c.ascending (λ k d within. last k d within);
+      homes = rw len (All-push (λ (l : Letter). l.node < length ps) ls x c.homes lt);
+      by_node = by-node x.node (Gains x) ps qs ls (ls ++ x ∷ []) lt change c.by_node
+          (λ p q k e. k.0 ∙ rw (filter-append (is_at x.node) ls (x ∷ []), itself) (ap (λ ys. ys ++ x ∷ []) e))
+          (λ n ne. let other : eqb x.node n ≡ false = grind (arith, nat_tests) in rw (filter-append (is_at n) ls (x ∷ []), other) (sym (append-nil (filter (is_at n) ls))));
+      by_receiver = index;
+      few = rw len c.few;
+    }
 
 -- a letter leaves
 pub consistent-left : (ps qs : List WithRoom) (m n : Index) (old new : List Letter) (x : Letter) → IsConsistent ps m old → x.node < length ps → Leaves x old new → ChangesAt x.node (Loses x.message) ps qs → Indexes n new → IsConsistent qs n new
 consistent-left ps qs m n old new x c lt leaves change index =
-  let len = length-changed x.node (Loses x.message) ps qs change in
-  record {
-    ascending = rw leaves.rest (AllPairs-filter (λ (a b : Letter). a.message < b.message) (is_other x.message) old c.ascending);
-    homes = rw (len, leaves.rest) (All-filter (is_other x.message) (λ (l : Letter). l.node < length ps) old c.homes);
-    by_node = by-node x.node (Loses x.message) ps qs old new lt change c.by_node
-      (λ p q k e. k.0 ∙ rw (e, leaves.rest) (filter-comm (is_other x.message) (is_at x.node) old))
-      (λ n ne. others-at x old new n (split-leaving x old new leaves) (grind (arith, nat_tests)));
-    by_receiver = index;
-    few = rw len c.few;
-  }
+    let len = length-changed x.node (Loses x.message) ps qs change in
+    record {
+      ascending = rw leaves.rest (AllPairs-filter (λ (a b : Letter). a.message < b.message) (is_other x.message) old c.ascending);
+      homes = rw (len, leaves.rest) (All-filter (is_other x.message) (λ (l : Letter). l.node < length ps) old c.homes);
+      by_node = by-node x.node (Loses x.message) ps qs old new lt change c.by_node
+          (λ p q k e. k.0 ∙ rw (e, leaves.rest) (filter-comm (is_other x.message) (is_at x.node) old))
+          (λ n ne. others-at x old new n (split-leaving x old new leaves) (grind (arith, nat_tests)));
+      by_receiver = index;
+      few = rw len c.few;
+    }
 
 -- the letter that leaves has a node
 pub home-of : (ps : List WithRoom) (m : Index) (old new : List Letter) (x : Letter) → IsConsistent ps m old → Leaves x old new → x.node < length ps

@@ -1,5 +1,5 @@
 -- `find` and `filter` where the elements that pass are known by their places.
-use Rattle.std.proofs.Common.{◌≡◌, ◌≢◌, ℕ, zero, suc, ◌<◌, ◌≤◌, ◌+◌, Bool, true, false, List, [], ◌∷◌, ◌++◌, length, get_or, take, drop, find, filter, remove, All, Some, None, cond, refl, ap, arith}
+use Rattle.std.proofs.Common.{◌≡◌, ◌≢◌, ℕ, zero, suc, ◌<◌, Bool, true, false, List, [], ◌∷◌, ◌++◌, length, get_or, drop, find, filter, remove, All, Some, None, refl, ap, arith}
 use Rattle.std.proofs.lemmas.List.Elements.{All-tail, filter-append}
 
 -- nothing is found where nothing passes

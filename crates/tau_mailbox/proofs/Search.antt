@@ -1,5 +1,5 @@
 -- Ascending letters, and the place that a binary search gives.
-use Rattle.std.proofs.Common.{◌≡◌, ◌≢◌, ℕ, ◌<◌, ◌≤◌, Bool, true, false, eqb, ltb, not, List, length, get_or, drop, find, filter, remove, sym, ap, ◌-◌, Some, slice_get, MatchBool, Any, refl, ◌∙◌, arith}
+use Rattle.std.proofs.Common.{◌≡◌, ◌≢◌, ℕ, ◌<◌, ◌≤◌, Bool, true, false, eqb, ltb, not, List, length, get_or, drop, find, sym, ap, ◌-◌, Some, slice_get, MatchBool, Any, refl, ◌∙◌, arith}
 use Rattle.std.proofs.lemmas.Bool.Decides.{nat_tests}
 use Rattle.std.specs.Prelude.{unwrap_or}
 use Rattle.std.proofs.lemmas.Option.{unwrap_or-slice_get, slice_get_within}
@@ -52,6 +52,7 @@ ends-below m ls x up last = by (ltb x.message m) refl
   where
     at : (d : Letter) → get_or ls (length ls - 1) d ≡ x
     at d = sym (unwrap_or-slice_get ls (length ls - 1) d) ∙ ap (λ o. unwrap_or o d) last
+
     by : (b : Bool) → ltb x.message m ≡ b → MatchBool b (AllBelow m ls) (Any (λ l. m ≤ l.message) ls)
     by true t = λ k d lt. let here : (get_or ls (length ls - 1) d).message ≡ x.message = ap (λ (l : Letter). l.message) (at d) in grind (arith, nat_tests, up k (length ls - 1) d)
     by false t = (length ls - 1, x, slice_get_within ls (length ls - 1) x last, at x, grind (arith, nat_tests))

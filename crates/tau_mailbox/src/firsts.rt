@@ -4,10 +4,9 @@ ghost use Rattle.std.specs.HashMap.{get, spare, Updates};
 ghost use Rattle.std.specs.Option.{option_map};
 ghost use Rattle.tau_mailbox.specs.Firsts.{Indexes, Leaves, first_after};
 
-use std::collections::HashMap;
-
 use crate::letter::Letter;
 use crate::order::Order;
+use std::collections::HashMap;
 
 /// A receiver's first letter, and how many letters are for it.
 #[derive(Clone, Copy)]

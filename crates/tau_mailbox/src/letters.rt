@@ -2,10 +2,9 @@
 ghost use Rattle.std.specs.Prelude.{◌≡◌, ◌<◌, ◌≤◌, ◌+◌, ◌^◌, [], ◌∷◌, ◌++◌, length, find, filter, slice_get, Any, MatchBool, IfOk, OnOk, IfSome, IfNone};
 ghost use Rattle.tau_mailbox.specs.Letters.{is_message, is_other, is_after, IsAscending, AllBelow, IsLowerBound, IsAbsent, IsPlaceOf};
 
+use crate::letter::Letter;
 use std::alloc::{AllocError, Global};
 use std::marker::Model;
-
-use crate::letter::Letter;
 
 /// Letters by ascending message.
 #[derive(Drop)]
@@ -86,9 +85,19 @@ impl Letters {
         ensures letters { self.new.letters ≡ self.old.letters ++ letter ∷ [] }
         ensures ascending { IsAscending self.new.letters }
         ensures room { self.new.room + 1 ≡ self.old.room }
-        ensures len { length self.new.letters < 2 ^ 64 }
     {
         self.items.push_reserved(letter);
+    }
+
+    /// Puts the letters of a later list at the end, in the room that there is.
+    pub(crate) fn append(&mut self, later: &Letters)
+        requires room { length later.now.letters ≤ self.old.room }
+        requires ascending { IsAscending (self.old.letters ++ later.now.letters) }
+        ensures { self.new.letters ≡ self.old.letters ++ later.now.letters }
+    {
+        let Ok(()) = self.items.extend_from_slice(&later.items) else {
+            unreachable!()
+        };
     }
 
     /// Takes the letter of a message out.

@@ -1,14 +1,13 @@
 ghost use Rattle.std.specs.Prelude.{◌≡◌, ◌<◌, ◌≤◌, ◌↔◌, [], ◌∷◌, ◌++◌, length, slice_get, find, filter, IsTrue, IfOk, OnOk, OnErr, All};
 
-use std::alloc::{AllocError, Global};
-use std::collections::HashMap;
-use std::marker::Model;
-
 use crate::firsts::{First, first_letter, note_arrival, note_leave};
 use crate::letter::Letter;
 use crate::letters::Letters;
 use crate::order::Order;
 use crate::parts::{empty_parts, push_at, reserve_at, take_at};
+use std::alloc::{AllocError, Global};
+use std::collections::HashMap;
+use std::marker::Model;
 
 /// The messages in flight (docs/rules.md, "Messages in flight"), seen as the number of nodes, the list of letters by
 /// ascending message, and for each node how many more letters fit without memory.

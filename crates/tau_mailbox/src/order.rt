@@ -5,12 +5,11 @@ ghost use Rattle.std.specs.Vec.{vec_capacity};
 ghost use Rattle.tau_mailbox.specs.Letters.{WithRoom};
 ghost use Rattle.tau_mailbox.specs.Order.{all_of, AllFilled, IsBlockOf};
 
+use crate::letter::Letter;
+use crate::letters::Letters;
 use std::alloc::{AllocError, Global};
 use std::marker::Model;
 use std::mem;
-
-use crate::letter::Letter;
-use crate::letters::Letters;
 
 /// How many letters a block has room for.
 const BLOCK: usize = 512;
@@ -105,8 +104,10 @@ impl Order {
         ensures none { IfNone result (self.new ≡ self.old) }
         ensures room { self.old.room ≤ self.new.room }
     {
-        let found = take_from(&mut self.blocks, &mut self.tail, message)?;
+        let place = block_of(&self.blocks, message);
+        let found = take_from(&mut self.blocks, &mut self.tail, place, message)?;
         self.len -= 1;
+        join_around(&mut self.blocks, place);
         Some(found)
     }
 
@@ -162,17 +163,22 @@ fn block_of(blocks: &[Letters], message: u32) -> usize
     low
 }
 
-/// Takes the letter of a message out of the blocks or the tail.
-fn take_from(blocks: &mut Vec<Letters>, tail: &mut Letters, message: u32) -> Option<Letter>
+/// Takes the letter of a message out of the block at a place, or out of the tail where there is no such block.
+fn take_from(
+    blocks: &mut Vec<Letters>,
+    tail: &mut Letters,
+    place: usize,
+    message: u32,
+) -> Option<Letter>
     requires ascending { IsAscending (all_of blocks.old.items ++ tail.old.letters) }
     requires filled { AllFilled blocks.old.items }
+    requires place { IsBlockOf message blocks.old.items place }
     ensures found { result ≡ find (is_message message) (all_of blocks.old.items ++ tail.old.letters) }
     ensures rest { all_of blocks.new.items ++ tail.new.letters ≡ filter (is_other message) (all_of blocks.old.items ++ tail.old.letters) }
     ensures filled { AllFilled blocks.new.items }
     ensures none { IfNone result ((blocks.new.items ≡ blocks.old.items) × (tail.new ≡ tail.old)) }
     ensures room { tail.old.room ≤ tail.new.room }
 {
-    let place = block_of(blocks, message);
     if place == blocks.len() {
         return tail.take_out(message);
     }
@@ -193,4 +199,38 @@ fn take_in(blocks: &mut Vec<Letters>, place: usize, message: u32) -> Option<Lett
         let _ = blocks.remove(place);
     }
     Some(found)
+}
+
+/// Joins the block at a place with its neighbours where they fit, so that few letters don't stay in many blocks.
+fn join_around(blocks: &mut Vec<Letters>, place: usize)
+    requires ascending { IsAscending (all_of blocks.old.items) }
+    requires filled { AllFilled blocks.old.items }
+    ensures letters { all_of blocks.new.items ≡ all_of blocks.old.items }
+    ensures filled { AllFilled blocks.new.items }
+{
+    join_next(blocks, place);
+    if place > 0 {
+        join_next(blocks, place - 1);
+    }
+}
+
+/// Moves the letters of the block after a place into the one there, where they fit.
+fn join_next(blocks: &mut Vec<Letters>, place: usize)
+    requires ascending { IsAscending (all_of blocks.old.items) }
+    requires filled { AllFilled blocks.old.items }
+    ensures letters { all_of blocks.new.items ≡ all_of blocks.old.items }
+    ensures filled { AllFilled blocks.new.items }
+{
+    let count = blocks.len();
+    if count <= place {
+        return;
+    }
+    if count - place == 1 {
+        return;
+    }
+    if blocks[place].room() < blocks[place + 1].len() {
+        return;
+    }
+    let next = blocks.remove(place + 1);
+    blocks[place].append(&next);
 }

@@ -4,10 +4,9 @@ ghost use Rattle.std.specs.List.{HoldsAt};
 ghost use Rattle.tau_mailbox.specs.Letters.{WithRoom, AllBelow};
 ghost use Rattle.tau_mailbox.specs.Parts.{ChangesAt, Keeps, Gains, Loses};
 
-use std::alloc::{AllocError, Global};
-
 use crate::letter::Letter;
 use crate::letters::Letters;
+use std::alloc::{AllocError, Global};
 
 /// No letters at any of the nodes.
 pub(crate) fn empty_parts(alloc: Global, nodes: u32) -> Result<Vec<Letters>, AllocError>

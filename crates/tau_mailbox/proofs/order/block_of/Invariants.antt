@@ -1,6 +1,6 @@
-use Rattle.std.proofs.Common.{◌-◌, ◌<◌, ◌≤◌, length, take, get_or, ℕ}
+use Rattle.std.proofs.Common.{◌-◌, ◌<◌, ◌≤◌, length, take, get_or}
 use Rattle.tau_mailbox.specs.Letters.{WithRoom, AllBelow}
-use Rattle.tau_mailbox.specs.Order.{all_of, Reaches, IsBlockOf}
+use Rattle.tau_mailbox.specs.Order.{all_of, Reaches}
 use Rattle.tau_mailbox.proofs.order.block_of.Given as goal
 
 abbrev pub invariant-loop-low : goal.invariant-loop-low

@@ -1,4 +1,4 @@
-use Rattle.std.proofs.Common.{◌<◌, length, arith}
+use Rattle.std.proofs.Common.{arith}
 use Rattle.tau_mailbox.proofs.Blocks.{all-changed}
 use Rattle.tau_mailbox.proofs.order.take_in.Goals as goal
 

@@ -8,4 +8,4 @@ pub returns-in-Some : goal.returns-in-Some
 returns-in-Some c =
     rw (← c.self.view_is)
     (ends-below c.args.message c.self.inside.items.items c.in-Some.last.now c.self.invariant
-      (sym (c.in-Some.ensures.value ∙ ap (λ (ls : List Letter). slice_get ls (length ls - 1)) c.deref.ensures.value)))
+    (sym (c.in-Some.ensures.value ∙ ap (λ (ls : List Letter). slice_get ls (length ls - 1)) c.deref.ensures.value)))

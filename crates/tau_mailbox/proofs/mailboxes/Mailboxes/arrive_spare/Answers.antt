@@ -1,7 +1,7 @@
-use Rattle.std.proofs.Common.{sym, ap, ◌∙◌, min, ◌≤◌, ◌<◌, ◌+◌, arith, List, length}
+use Rattle.std.proofs.Common.{ap, min, arith, length}
 use Rattle.std.specs.HashMap.{spare}
 use Rattle.std.proofs.lemmas.List.{length_push}
-use Rattle.tau_mailbox.specs.Letters.{WithRoom, AllBelow, is_at}
+use Rattle.tau_mailbox.specs.Letters.{is_at}
 use Rattle.tau_mailbox.proofs.Leaving.{count-fits, below-filtered}
 use Rattle.tau_mailbox.proofs.Consistency.{consistent-arrived}
 use Rattle.tau_mailbox.proofs.Rooms.{room-falls, room-has}
@@ -30,7 +30,7 @@ pub invariant_of-self : goal.invariant_of-self
 invariant_of-self c =
     rw c.push_spare.ensures.letters
     (consistent-arrived _ _ _ _ _ _ c.self.invariant (rw (← c.self.view_is) at c.requires.node) (rw (← c.self.view_is) at c.requires.last) c.push_at.ensures
-      (c.note_arrival.ensures.indexes _ c.self.invariant.by_receiver))
+    (c.note_arrival.ensures.indexes _ c.self.invariant.by_receiver))
 
 pub returns-clause-room : goal.returns-clause-room
 returns-clause-room c = λ n.

@@ -1,4 +1,4 @@
-use Rattle.std.proofs.Common.{◌∙◌, sym, ap, arith}
+use Rattle.std.proofs.Common.{◌∙◌, sym, ap}
 use Rattle.std.specs.Option.{option_map}
 use Rattle.tau_mailbox.specs.declared.firsts.First.{First}
 use Rattle.tau_mailbox.specs.Letters.{is_for}

@@ -1,7 +1,5 @@
-use Rattle.std.proofs.Common.{sym, ◌∙◌, min, ◌≤◌, ◌+◌, arith, List}
+use Rattle.std.proofs.Common.{sym, ◌∙◌, min, arith}
 use Rattle.std.specs.HashMap.{spare}
-use Rattle.tau_mailbox.specs.declared.letter.Letter.{Letter}
-use Rattle.tau_mailbox.specs.Firsts.{Leaves}
 use Rattle.tau_mailbox.proofs.Leaving.{leaves-found}
 use Rattle.tau_mailbox.proofs.Consistency.{consistent-left, home-of}
 use Rattle.tau_mailbox.proofs.Rooms.{room-falls}
@@ -9,7 +7,7 @@ use Rattle.tau_mailbox.proofs.mailboxes.Mailboxes.leave.Goals as goal
 
 pub take_at-requires : goal.take_at-requires
 take_at-requires c =
-    let leaves = leaves-found c.args.message _ _ c.take_out.new.self.letters c.self.invariant.ascending (sym c.take_out.ensures.found ∙ c.in_ok-letter.was) c.take_out.ensures.rest in
+    let leaves = leaves-found c.args.message c.in_ok-letter.letter c.self.inside.order.letters c.take_out.new.self.letters c.self.invariant.ascending (sym c.take_out.ensures.found ∙ c.in_ok-letter.was) c.take_out.ensures.rest in
     omega (arith, home-of _ _ _ _ _ c.self.invariant leaves, c.self.inside.parts.ok.0)
 
 pub invariant_of-self : goal.invariant_of-self
@@ -17,7 +15,7 @@ invariant_of-self c = rw c.in_err-letter.ensures.none c.self.invariant
 
 pub invariant_of-self-2 : goal.invariant_of-self-2
 invariant_of-self-2 c =
-    let leaves = leaves-found c.args.message _ _ c.take_out.new.self.letters c.self.invariant.ascending (sym c.take_out.ensures.found ∙ c.in_ok-letter.was) c.take_out.ensures.rest in
+    let leaves = leaves-found c.args.message c.in_ok-letter.letter c.self.inside.order.letters c.take_out.new.self.letters c.self.invariant.ascending (sym c.take_out.ensures.found ∙ c.in_ok-letter.was) c.take_out.ensures.rest in
     consistent-left _ _ _ _ _ _ _ c.self.invariant (home-of _ _ _ _ _ c.self.invariant leaves) leaves c.take_at.ensures (c.note_leave.ensures.indexes _ leaves c.self.invariant.by_receiver)
 
 pub returns-clause-room : goal.returns-clause-room

@@ -1,4 +1,4 @@
-use Rattle.std.proofs.Common.{sym, ◌∙◌, min, ◌<◌, ◌≤◌, ◌+◌, length, arith, List}
+use Rattle.std.proofs.Common.{min, ◌<◌, length, arith}
 use Rattle.std.specs.HashMap.{spare}
 use Rattle.tau_mailbox.proofs.Rooms.{room-same, room-falls, room-from}
 use Rattle.tau_mailbox.proofs.Consistency.{length-changed}

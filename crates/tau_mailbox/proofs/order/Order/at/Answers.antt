@@ -10,9 +10,9 @@ returns-then-left-len c =
     let tail = c.self.inside.tail.letters in
     rw (← c.self.view_is)
     (c.at.ensures ∙ ap (λ (b : WithRoom). slice_get b.letters c.loop-block.left) c.block-item.is
-      ∙ sym (get-in-block blocks tail c.loop-block.block-index c.loop-block.left c.block-item.result (omega arith) (rw (← c.block-item.is) (omega (arith, c.len-len.ensures.len))))
-      ∙ c.loop-block.invariant
-      ∙ ap (λ (bs : List WithRoom). slice_get (all_of bs ++ tail) c.args.k) c.deref-block-items.ensures.value)
+    ∙ sym (get-in-block blocks tail c.loop-block.block-index c.loop-block.left c.block-item.result (omega arith) (rw (← c.block-item.is) (omega (arith, c.len-len.ensures.len))))
+    ∙ c.loop-block.invariant
+    ∙ ap (λ (bs : List WithRoom). slice_get (all_of bs ++ tail) c.args.k) c.deref-block-items.ensures.value)
 
 pub loop-block-preserved : goal.loop-block-preserved
 loop-block-preserved c =
@@ -20,4 +20,4 @@ loop-block-preserved c =
     let tail = c.self.inside.tail.letters in
     rw (c.len-len.ensures.len ∙ ap (λ (b : WithRoom). length b.letters) c.block-item.is)
     (get-after-block blocks tail c.loop-block.block-index c.loop-block.left c.block-item.result (omega arith) (rw (← c.block-item.is) (omega (arith, c.len-len.ensures.len)))
-      ∙ c.loop-block.invariant)
+    ∙ c.loop-block.invariant)

@@ -1,4 +1,4 @@
-use Rattle.std.proofs.Common.{◌++◌, ◌∷◌, [], append_assoc, List, arith, sym, ap, ◌∙◌, length}
+use Rattle.std.proofs.Common.{◌++◌, ◌∷◌, [], append_assoc, arith, sym, ap, ◌∙◌, length}
 use Rattle.std.proofs.lemmas.List.{length_push}
 use Rattle.tau_mailbox.specs.Order.{all_of}
 use Rattle.tau_mailbox.proofs.Blocks.{below-right, order-pushed, length-below}
@@ -20,5 +20,9 @@ invariant_of-self c =
 pub returns-clause-len : goal.returns-clause-len
 returns-clause-len c =
     let whole = all_of c.self.inside.blocks.items ++ c.self.inside.tail.letters in
-    omega (arith, ap length (ap (λ ls. all_of c.self.inside.blocks.items ++ ls) c.push_spare.ensures.letters ∙ sym (append_assoc (all_of c.self.inside.blocks.items) c.self.inside.tail.letters (c.args.letter ∷ []))),
-      length_push whole c.args.letter, length-below c.args.letter.message whole c.self.invariant.ascending (rw (← c.self.view_is) at c.requires.last))
+    omega (
+      arith,
+      ap length (ap (λ ls. all_of c.self.inside.blocks.items ++ ls) c.push_spare.ensures.letters ∙ sym (append_assoc (all_of c.self.inside.blocks.items) c.self.inside.tail.letters (c.args.letter ∷ []))),
+      length_push whole c.args.letter,
+      length-below c.args.letter.message whole c.self.invariant.ascending (rw (← c.self.view_is) at c.requires.last),
+    )
