@@ -10,3 +10,5 @@ mod letters;
 mod mailboxes;
 mod order;
 mod parts;
+#[cfg(test)]
+mod tests;

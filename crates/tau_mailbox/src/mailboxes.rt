@@ -11,6 +11,9 @@ use std::marker::Model;
 
 /// The messages in flight (docs/rules.md, "Messages in flight"), seen as the number of nodes, the list of letters by
 /// ascending message, and for each node how many more letters fit without memory.
+///
+/// A letter arrives at the end. One leaves by binary searches and a move within its block of the list and within its
+/// node's letters. The letter at a place is found by passing over whole blocks, a receiver's first one by its number.
 #[derive(Drop)]
 pub struct Mailboxes {
     order: Order,
@@ -36,7 +39,7 @@ impl Mailboxes {
     ghost use Rattle.tau_mailbox.specs.Letters.{is_message, is_other, is_for, is_at, IsAscending, AllBelow};
     ghost use Rattle.tau_mailbox.specs.InFlight.{InFlight, room, KeepsRoom, TakesPlace};
 
-    /// No letters, at the given number of nodes.
+    /// No letters, at the given number of nodes. It fails only for want of memory.
     pub fn new(alloc: Global, nodes: u32) -> Result<Mailboxes, AllocError>
         ensures nodes { IfOk result (λ m. m.nodes ≡ nodes) }
         ensures letters { IfOk result (λ m. m.letters ≡ []) }
@@ -72,7 +75,7 @@ impl Mailboxes {
         self.parts.len() as u32
     }
 
-    /// Makes room for one more letter at a node.
+    /// Makes room for one more letter at a node. It fails only for want of memory.
     pub fn reserve(&mut self, node: u32) -> Result<(), AllocError>
         requires { node < self.old.nodes }
         ensures letters { self.new.letters ≡ self.old.letters }
@@ -85,7 +88,8 @@ impl Mailboxes {
         reserve_at(&mut self.parts, node as usize)
     }
 
-    /// Puts a letter at its node. Its message is above all that are there.
+    /// Puts a letter at its node. Its message is above all that are there. It fails only for want of memory, and the
+    /// letters then stay.
     pub fn arrive(&mut self, letter: Letter) -> Result<(), AllocError>
         requires node { letter.node < self.old.nodes }
         requires last { AllBelow letter.message self.old.letters }
