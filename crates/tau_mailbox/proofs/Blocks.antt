@@ -4,7 +4,6 @@ use Rattle.std.proofs.lemmas.Bool.Decides.{nat_tests}
 use Rattle.std.proofs.lemmas.List.{length-append, length_push, get_or_read, get_or_default, at_drop_more, take_all, get_or_append_left, get_or-append-add, append-nil}
 use Rattle.std.proofs.lemmas.List.Kept.{AllPairs-filter}
 use Rattle.std.proofs.lemmas.List.Quantifiers.{all_pairs_push}
-use Rattle.std.proofs.lemmas.List.Concat.{flat_map-append}
 use Rattle.std.proofs.lemmas.List.Elements.{All-append, All-set, All-take, All-drop, filter-append}
 use Rattle.std.proofs.lemmas.List.Edits.{get_or-remove_below}
 use Rattle.tau_mailbox.specs.declared.letter.Letter.{Letter}
@@ -65,9 +64,6 @@ pub all-set : (bs : List WithRoom) (k : ℕ) (b : WithRoom) → k < length bs �
 all-set [] k c lt = absurd (omega (arith, lt))
 all-set (b ∷ bs) zero c lt = refl
 all-set (b ∷ bs) (suc k) c lt = rw (all-set bs k c (omega (arith, lt))) (sym (append_assoc b.letters (all_of (take k bs)) (c.letters ++ all_of (drop (suc k) bs))))
-
-pub all-remove : (bs : List WithRoom) (k : ℕ) → all_of (remove bs k) ≡ all_of (take k bs) ++ all_of (drop (suc k) bs)
-all-remove bs k = flat_map-append (λ (b : WithRoom). b.letters) (take k bs) (drop (suc k) bs)
 
 pub all-more : (bs : List WithRoom) (k : ℕ) (d : WithRoom) → k < length bs → all_of (take (suc k) bs) ≡ all_of (take k bs) ++ (get_or bs k d).letters
 all-more [] k d lt = absurd (omega (arith, lt))

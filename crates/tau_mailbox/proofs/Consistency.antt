@@ -1,6 +1,5 @@
 -- How the parts and the index follow a change of the list.
-use Rattle.std.proofs.Common.{◌≡◌, ◌≢◌, ℕ, ◌<◌, ◌≤◌, true, false, eqb, List, [], ◌∷◌, ◌++◌, length, get_or, filter, nat_eq, sym, refl, ap, ◌∙◌, ⊎_elim, arith}
-use Rattle.std.specs.HashMap.{get}
+use Rattle.std.proofs.Common.{◌≡◌, ◌≢◌, ℕ, ◌<◌, ◌≤◌, true, false, eqb, List, [], ◌∷◌, ◌++◌, length, get_or, filter, sym, ap, ◌∙◌, ⊎_elim, arith}
 use Rattle.std.proofs.lemmas.Bool.{cases_eq}
 use Rattle.std.proofs.lemmas.Bool.Decides.{nat_tests}
 use Rattle.std.proofs.lemmas.List.{append-nil, length-set, get_or-set_same, get_or-set_other}
@@ -9,7 +8,7 @@ use Rattle.std.proofs.lemmas.List.Kept.{AllPairs-filter}
 use Rattle.std.proofs.lemmas.List.Quantifiers.{all_pairs_push}
 use Rattle.tau_mailbox.specs.declared.letter.Letter.{Letter}
 use Rattle.tau_mailbox.specs.Letters.{WithRoom, is_at, is_other, AllBelow}
-use Rattle.tau_mailbox.specs.Parts.{ChangesAt, Keeps, Gains, Loses}
+use Rattle.tau_mailbox.specs.Parts.{ChangesAt, Gains, Loses}
 use Rattle.tau_mailbox.specs.Firsts.{Index, Indexes, Leaves}
 use Rattle.tau_mailbox.specs.Consistent.{IsConsistent}
 use Rattle.tau_mailbox.proofs.Lists.{filter-comm, filter-none}
@@ -35,18 +34,6 @@ by-node i R ps qs old new lt change right here others n d within = ⊎_elim same
 
     apart : n ≢ i → (get_or qs n d).letters ≡ filter (is_at n) new
     apart ne = rw (change.is, get_or-set_other ps i n change.part d ne) (right n d short ∙ others n ne)
-
--- more room
-pub consistent-kept : (ps qs : List WithRoom) (m n : Index) (ls : List Letter) (i : ℕ) → IsConsistent ps m ls → i < length ps → ChangesAt i Keeps ps qs → ((q : ℕ) → get nat_eq n q ≡ get nat_eq m q) → IsConsistent qs n ls
-consistent-kept ps qs m n ls i c lt change same =
-    let len = length-changed i Keeps ps qs change in
-    record {
-      ascending = c.ascending;
-      homes = rw len c.homes;
-      by_node = by-node i Keeps ps qs ls ls lt change c.by_node (λ p q k e. k.0 ∙ e) (λ n ne. refl);
-      by_receiver = λ q. same q ∙ c.by_receiver q;
-      few = rw len c.few;
-    }
 
 -- a letter arrives
 pub consistent-arrived : (ps qs : List WithRoom) (m n : Index) (ls : List Letter) (x : Letter) → IsConsistent ps m ls → x.node < length ps → AllBelow x.message ls → ChangesAt x.node (Gains x) ps qs → Indexes n (ls ++ x ∷ []) → IsConsistent qs n (ls ++ x ∷ [])

@@ -1,6 +1,5 @@
 -- The room of each node, after a change of one part.
-use Rattle.std.proofs.Common.{◌≡◌, ℕ, zero, suc, ◌<◌, ◌≤◌, ◌+◌, min, List, [], ◌∷◌, length, get_or, set, arith}
-use Rattle.std.proofs.lemmas.List.{get_or-map}
+use Rattle.std.proofs.Common.{ℕ, zero, suc, ◌<◌, ◌≤◌, ◌+◌, List, [], ◌∷◌, length, get_or, set, arith}
 use Rattle.tau_mailbox.specs.Letters.{WithRoom}
 use Rattle.tau_mailbox.specs.Parts.{ChangesAt, rooms_of}
 
@@ -17,10 +16,6 @@ room-changed (p ∷ ps) zero q a b e k h zero = omega (arith, k p, h)
 room-changed (p ∷ ps) zero q a b e k h (suc n) = room-same ps a b e h n
 room-changed (p ∷ ps) (suc i) q a b e k h zero = omega (arith, h)
 room-changed (p ∷ ps) (suc i) q a b e k h (suc n) = room-changed ps i q a b e k h n
-
--- the room of the part at place n
-pub room-at : (ps : List WithRoom) (n : ℕ) (d : WithRoom) (a : ℕ) → n < length ps → get_or (rooms_of ps a) n 0 ≡ min (get_or ps n d).room a
-room-at ps n d a lt = get_or-map (λ (p : WithRoom). min p.room a) ps n d 0 lt
 
 -- the room of each node falls by at most e where that of the changed part does
 pub room-falls : (i : ℕ) (R : WithRoom → WithRoom → Type 0) (ps qs : List WithRoom) (a b e : ℕ) → ChangesAt i R ps qs → ((p q : WithRoom) → R p q → p.room ≤ q.room + e) → a ≤ b + e → (n : ℕ) → get_or (rooms_of ps a) n 0 ≤ get_or (rooms_of qs b) n 0 + e
