@@ -1,0 +1,6 @@
+pub mod Blocks
+pub mod Consistency
+pub mod Leaving
+pub mod Lists
+pub mod Rooms
+pub mod Search

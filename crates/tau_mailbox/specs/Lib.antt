@@ -1,0 +1,6 @@
+pub mod Consistent
+pub mod Firsts
+pub mod InFlight
+pub mod Letters
+pub mod Order
+pub mod Parts
