@@ -3,7 +3,7 @@ use Rattle.std.proofs.Common.{◌≡◌, ◌⊎◌, ◌↔◌, List, [], ◌∷�
 use Rattle.std.specs.Result.{IfOk}
 use Rattle.std.specs.List.{Contains}
 use Rattle.std.proofs.lemmas.List.Elements.{Contains-append_left, Contains-push_cases, Contains-push}
-use Rattle.tau_points.specs.Members.{Adds, AddsAll}
+use Rattle.tau_points.specs.Members.{Adds, AddsAll, SameMembers}
 use Rattle.tau_points.specs.Reach.{Reach, start, next, IsClosed}
 use Rattle.tau_points.proofs.Membership.{Contains-none}
 use Rattle.tau_points.proofs.Reach.{least}
@@ -66,6 +66,6 @@ module _ {A : Type 0} (L : A → A → Type 0) where
             (λ (e : y ≡ x). inr ((pushes z).1 (inr (subst (λ (w : A). L w z) e l)))) ((adds y).0 h)
         }
 
-pub IfOk-reached : {A E : Type 0} (L : A → A → Type 0) (P : A → Type 0) (done : List A) (r : Result (List A) E) → IfOk r (λ set. set ≡ done) → ((q : A) → Contains done q ↔ Reach L P q) → IfOk r (λ set. (q : A) → Contains set q ↔ Reach L P q)
-IfOk-reached L P done (Ok set) e all = λ q. subst (λ l. Contains l q ↔ Reach L P q) (sym e) (all q)
-IfOk-reached L P done (Err error) e all = tt
+pub IfOk-reached : {A E : Type 0} (L : A → A → Type 0) (P : A → Type 0) (done : List A) (r : Result (List A) E) → IfOk r (SameMembers done) → ((q : A) → Contains done q ↔ Reach L P q) → IfOk r (λ set. (q : A) → Contains set q ↔ Reach L P q)
+IfOk-reached L P done (Ok set) same all = λ q. (λ h. (all q).0 ((same q).1 h), λ r. (same q).0 ((all q).1 r))
+IfOk-reached L P done (Err error) same all = tt

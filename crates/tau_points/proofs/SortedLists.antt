@@ -276,7 +276,7 @@ inserted {K} {R} o x xs ys zs i e s within place is =
     let at = subst P e (within, place) in
     (subst (IsStrictlySortedBy R) (sym is) (sorted_place o x xs i at.0 s at.1.before at.1.after), subst (λ (l : List K). Adds xs l x) (sym is) (Adds-place x xs i))
 
-tail_of : {K : Type 0} (i : ℕ) (xs : List K) → take (length xs - i) (drop i xs) ≡ drop i xs
+pub tail_of : {K : Type 0} (i : ℕ) (xs : List K) → take (length xs - i) (drop i xs) ≡ drop i xs
 tail_of i xs = take_all (length xs - i) (drop i xs) (omega (arith, length-drop i xs))
 
 none_left : {K : Type 0} (i : ℕ) (xs : List K) → length xs ≤ i → drop i xs ≡ []

@@ -26,8 +26,10 @@ impl Links for Relation {
     ghost leads = { λ links. Leads links };
 
     fn push_next(&self, point: &Point, stack: &mut Vec<Point>) -> Result<(), AllocError> {
-        let (first, past) = self.span(point);
-        for pair in &self.pairs()[first..past] {
+        for pair in &self.pairs()[self.first_from(point)..] {
+            if pair.0 != *point {
+                return Ok(());
+            }
             stack.push(pair.1)?;
         }
         Ok(())

@@ -133,15 +133,13 @@ pub(crate) fn merge<T: Exact + Copy>(items: &mut Vec<T>, others: &[T]) -> Result
     Ok(())
 }
 
-/// The items of a list in any order, ascending, each once.
-pub(crate) fn sorted_from<T: Exact + Copy>(alloc: Global, items: &[T]) -> Result<Vec<T>, AllocError>
-    ensures sorted { IfOk result (λ all. IsStrictlySortedBy T.cmp all.items) }
-    ensures members { IfOk result (λ all. SameMembers items.now all.items) }
+/// Puts a list in any order into ascending order, each item once.
+pub(crate) fn arrange<T: Exact + Copy>(items: &mut Vec<T>)
+    ensures sorted { IsStrictlySortedBy T.cmp items.new.items }
+    ensures members { SameMembers items.old.items items.new.items }
 {
-    let mut all = Vec::from_slice(alloc, items)?;
-    all.sort_unstable();
-    all.dedup();
-    Ok(all)
+    items.sort_unstable();
+    items.dedup();
 }
 
 /// Keeps the items at which `keep` answers true.
@@ -149,6 +147,7 @@ pub(crate) fn retain<T: Exact + Copy, F: FnMut(&T) -> bool>(items: &mut Vec<T>, 
     requires callable { F.IsAlwaysCallable keep }
     requires sorted { IsStrictlySortedBy T.cmp items.old.items }
     ensures sorted { IsStrictlySortedBy T.cmp items.new.items }
+    ensures fewer { HasAll items.old.items items.new.items }
     ensures kept { (test : T → Bool) → ComputesKey F.FnMut test keep → items.new.items ≡ filter test items.old.items }
 {
     items.retain(keep);
