@@ -29,12 +29,12 @@ point_eq p q = nat_eq p.who q.who && (nat_eq p.interval q.interval && nat_eq p.i
 pub point_eq-Decides : (p q : Point) → Decides (point_eq p q) (p ≡ q)
 point_eq-Decides p q = (
   λ e. let first = and_parts _ _ e in
-    let second = and_parts _ _ first.1 in
-    let who = eqb-true _ _ first.0 in
-    let interval = eqb-true _ _ second.0 in
-    let incarnation = eqb-true _ _ second.1 in
-    λ i. record { who = who i; interval = interval i; incarnation = incarnation i },
-  λ e. rw (eq-eqb p.who q.who (ap (λ (r : Point). r.who) e), eq-eqb p.interval q.interval (ap (λ (r : Point). r.interval) e), eq-eqb p.incarnation q.incarnation (ap (λ (r : Point). r.incarnation) e))
+      let second = and_parts _ _ first.1 in
+      let who = eqb-true _ _ first.0 in
+      let interval = eqb-true _ _ second.0 in
+      let incarnation = eqb-true _ _ second.1 in
+      λ i. record { who = who i; interval = interval i; incarnation = incarnation i },
+  λ e. rw (eq-eqb p.who q.who (ap (λ (r : Point). r.who) e), eq-eqb p.interval q.interval (ap (λ (r : Point). r.interval) e), eq-eqb p.incarnation q.incarnation (ap (λ (r : Point). r.incarnation) e)),
 )
 
 not_false : (b : Bool) → not b ≡ false → b ≡ true
@@ -51,10 +51,10 @@ point_eq-laws = and_equiv (on_equiv (λ (p : Point). p.who) nat_eq_equiv) (and_e
 pub pair_eq-Decides : (x y : Point × Point) → Decides (point_eq x.0 y.0 && point_eq x.1 y.1) (x ≡ y)
 pair_eq-Decides x y = (
   λ e. let parts = and_parts _ _ e in
-    let from = (point_eq-Decides x.0 y.0).0 parts.0 in
-    let to = (point_eq-Decides x.1 y.1).0 parts.1 in
-    λ i. (from i, to i),
-  λ e. rw ((point_eq-Decides x.0 y.0).1 (ap (λ (z : Point × Point). z.0) e), (point_eq-Decides x.1 y.1).1 (ap (λ (z : Point × Point). z.1) e))
+      let from = (point_eq-Decides x.0 y.0).0 parts.0 in
+      let to = (point_eq-Decides x.1 y.1).0 parts.1 in
+      λ i. (from i, to i),
+  λ e. rw ((point_eq-Decides x.0 y.0).1 (ap (λ (z : Point × Point). z.0) e), (point_eq-Decides x.1 y.1).1 (ap (λ (z : Point × Point). z.1) e)),
 )
 
 -- what a test of two lists says of two values that are seen as these lists
@@ -122,7 +122,7 @@ lt_up_cases q a b Greater e up below = cc
 pub sources_after : (q : Point) (xs : List (Point × Point)) (i k : ℕ) (d : Point × Point) → IsAscendingInPairs xs → point_cmp q (get_or xs i d).0 ≡ Less → i ≤ k → k < length xs → point_cmp q (get_or xs k d).0 ≡ Less
 sources_after q xs i k d s after le within =
     ⊎_elim (λ (less : i < k). lt_up_cases q (get_or xs i d).0 (get_or xs k d).0 (point_cmp (get_or xs i d).0 (get_or xs k d).0) refl
-        (source_not_after (get_or xs i d) (get_or xs k d) (Less-from_sorted pair_cmp xs i k d s less within)) after)
+    (source_not_after (get_or xs i d) (get_or xs k d) (Less-from_sorted pair_cmp xs i k d s less within)) after)
     (λ (same : k ≤ i). let e : i ≡ k = omega arith in subst (λ n. point_cmp q (get_or xs n d).0 ≡ Less) e after)
     (Rattle.std.proofs.lemmas.Bool.cases_lt i k)
 
@@ -160,10 +160,10 @@ IsPast q xs j = IsPartitionPoint (λ (x : Point × Point). is_le (point_cmp x.0 
 in_order : (q : Point) (xs : List (Point × Point)) (i j : ℕ) → i ≤ length xs → IsFirst q xs i → IsPast q xs j → i ≤ j
 in_order q xs i j within first past =
     ⊎_elim (λ (less : j < i).
-        let d : Point × Point = any_pair in
-        let low : point_cmp (get_or xs j d).0 q ≡ Less = lt_only (point_cmp (get_or xs j d).0 q) (first.0 j d (omega arith) less) in
-        let high : point_cmp (get_or xs j d).0 q ≡ Greater = gt_only (point_cmp (get_or xs j d).0 q) (past.1 j d (omega arith) (omega arith)) in
-        cc)
+    let d : Point × Point = any_pair in
+    let low : point_cmp (get_or xs j d).0 q ≡ Less = lt_only (point_cmp (get_or xs j d).0 q) (first.0 j d (omega arith) less) in
+    let high : point_cmp (get_or xs j d).0 q ≡ Greater = gt_only (point_cmp (get_or xs j d).0 q) (past.1 j d (omega arith) (omega arith)) in
+    cc)
     (λ (le : i ≤ j). le) (Rattle.std.proofs.lemmas.Bool.cases_lt j i)
 
 span_of : (q : Point) (xs : List (Point × Point)) (i j : ℕ) → i ≤ length xs → IsFirst q xs i → IsPast q xs j → j ≤ length xs → IsSpan q xs i j
@@ -171,7 +171,7 @@ span_of q xs i j within first past fits = record {
   ordered = in_order q xs i j within first past;
   before = λ k d low high. lt_only (point_cmp (get_or xs k d).0 q) (first.0 k d low high);
   inside = λ k d low high. point_cmp-exact (get_or xs k d).0 q (eq_only (point_cmp (get_or xs k d).0 q) (first.1 k d low (omega arith)) (past.0 k d (omega arith) high));
-  after = λ k d low high. flips point_cmp-total (get_or xs k d).0 q (gt_only (point_cmp (get_or xs k d).0 q) (past.1 k d low high))
+  after = λ k d low high. flips point_cmp-total (get_or xs k d).0 q (gt_only (point_cmp (get_or xs k d).0 q) (past.1 k d low high));
 }
 
 -- the two ends in the pairs, which are seen as xs

@@ -29,9 +29,9 @@ has_iff ks q = (Contains-from_any (λ x y. (point_eq-Decides x y).0) q ks, list_
 pub Adds-table : (ks ns : List Point) (x : Point) → ((q : Point) → has ns q ≡ cond (point_eq x q) true (has ks q)) → Adds ks ns x
 Adds-table ks ns x updates q = (
   λ here. ⊎_elim (λ e. inr (sym ((point_eq-Decides x q).0 e))) (λ old. inl ((has_iff ks q).0 old))
-    (either (point_eq x q) (has ks q) (sym (updates q) ∙ (has_iff ns q).1 here)),
+      (either (point_eq x q) (has ks q) (sym (updates q) ∙ (has_iff ns q).1 here)),
   λ c. (has_iff ns q).0 (updates q ∙ ⊎_elim (λ old. or_right (point_eq x q) (has ks q) ((has_iff ks q).1 old))
-    (λ (e : q ≡ x). or_left (point_eq x q) (has ks q) ((point_eq-Decides x q).1 (sym e))) c)
+      (λ (e : q ≡ x). or_left (point_eq x q) (has ks q) ((point_eq-Decides x q).1 (sym e))) c),
 )
 
 known_cases : (ks : List Point) (x : Point) (b c : Bool) → has ks x ≡ c → b ≡ not c → OnFalse b (Contains ks x)

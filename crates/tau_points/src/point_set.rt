@@ -5,12 +5,11 @@ ghost use Rattle.tau_points.specs.declared.point.Point.{Point};
 ghost use Rattle.tau_points.specs.Order.{IsAscending};
 ghost use Rattle.tau_points.specs.Members.{Adds, Joins, SameMembers, HasAll};
 
-use std::alloc::{AllocError, Global};
-use std::marker::Model;
-
 use crate::point::Point;
 use crate::sorted;
 use crate::visited::Visited;
+use std::alloc::{AllocError, Global};
+use std::marker::Model;
 
 /// A set of points, seen as the ascending list of its distinct points (docs/rules.md, "Points").
 #[derive(Drop)]

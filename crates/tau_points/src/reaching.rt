@@ -4,12 +4,11 @@ ghost use Rattle.tau_points.specs.Order.{IsAscending};
 ghost use Rattle.tau_points.specs.Members.{AddsAll};
 ghost use Rattle.tau_points.specs.Reach.{Reach, Leads};
 
-use std::alloc::{AllocError, Global};
-
 use crate::point::Point;
 use crate::point_set::PointSet;
 use crate::relation::Relation;
 use crate::visited::Visited;
+use std::alloc::{AllocError, Global};
 
 /// What leads from point to point. [`search`] follows it. An implementation gives `leads`, the relation that it
 /// stands for, and `push_next`, which walks it from one point.

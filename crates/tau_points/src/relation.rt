@@ -8,11 +8,10 @@ ghost use Rattle.tau_points.specs.declared.point.Point.{Point};
 ghost use Rattle.tau_points.specs.Order.{point_cmp, IsAscendingInPairs};
 ghost use Rattle.tau_points.specs.Members.{Adds, Joins, SameMembers, HasAll};
 
-use std::alloc::{AllocError, Global};
-use std::marker::Model;
-
 use crate::point::Point;
 use crate::sorted;
+use std::alloc::{AllocError, Global};
+use std::marker::Model;
 
 /// A set of pairs of points, seen as the ascending list of its distinct pairs (docs/rules.md, "Views").
 #[derive(Drop)]

@@ -7,10 +7,9 @@ ghost use Rattle.std.specs.List.Sorted.{IsStrictlySortedBy};
 ghost use Rattle.tau_points.specs.Members.{Adds, Joins, HasAll, SameMembers, IsPlace};
 ghost use Rattle.tau_points.specs.Exact.{point_cmp-exact, pair_cmp-exact};
 
+use crate::point::Point;
 use std::alloc::{AllocError, Global};
 use std::cmp::Ordering;
-
-use crate::point::Point;
 
 /// An order in which a value compares equal only to itself.
 pub(crate) trait Exact: Ord {
@@ -83,7 +82,12 @@ fn count_missing<T: Exact>(items: &[T], others: &[T]) -> usize
 }
 
 /// The items of both lists, with room for `len` taken first.
-fn merged<T: Exact + Copy>(alloc: Global, ours: &[T], theirs: &[T], len: usize) -> Result<Vec<T>, AllocError>
+fn merged<T: Exact + Copy>(
+    alloc: Global,
+    ours: &[T],
+    theirs: &[T],
+    len: usize,
+) -> Result<Vec<T>, AllocError>
     requires ours { IsStrictlySortedBy T.cmp ours.now }
     requires theirs { IsStrictlySortedBy T.cmp theirs.now }
     ensures sorted { IfOk result (λ all. IsStrictlySortedBy T.cmp all.items) }

@@ -2,11 +2,10 @@ ghost use Rattle.std.specs.Prelude.{◌≡◌, ◌+◌, ◌^◌, ◌<◌, [], le
 ghost use Rattle.std.specs.Bool.{OnTrue, OnFalse};
 ghost use Rattle.tau_points.specs.Members.{Adds};
 
+use crate::point::Point;
 use std::alloc::{AllocError, Global};
 use std::collections::HashSet;
 use std::marker::Model;
-
-use crate::point::Point;
 
 /// The points that a search has come to, seen as their list in some order.
 #[derive(Drop)]

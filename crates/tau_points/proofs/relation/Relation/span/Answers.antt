@@ -10,7 +10,7 @@ is_span : (c : goal.After-partition_point-past) → IsSpan c.args.from.now c.arg
 is_span c =
     span_read c.args.from.now _ _ _ _ _ c.deref.ensures.value c.self.view_is c.first_from-first.ensures.within c.partition_point-past.ensures.bound c.first_from-first.ensures.before c.first_from-first.ensures.not_before
     (IsPartitionPoint-from_clause (λ (x : Point × Point). is_le (point_cmp x.0 c.args.from.now)) _ _ c.partition_point-past.ensures.partitioned
-      (partitioned_le c.args.from.now _ (subst IsAscendingInPairs (sym c.deref.ensures.value) c.self.invariant)) (λ a r f k. search rules))
+    (partitioned_le c.args.from.now _ (subst IsAscendingInPairs (sym c.deref.ensures.value) c.self.invariant)) (λ a r f k. search rules))
 
 pub returns-clause-ordered : goal.returns-clause-ordered
 returns-clause-ordered c = (is_span c).ordered
