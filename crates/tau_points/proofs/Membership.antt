@@ -1,8 +1,9 @@
 -- Facts on the members of a list.
-use Rattle.std.proofs.Common.{◌≡◌, ◌<◌, ℕ, suc, zero, List, [], ◌∷◌, ◌++◌, length, get_or, take, drop, refl, sym, arith, inl, inr, ⊎_elim, ◌⊎◌, subst}
+use Rattle.std.proofs.Common.{◌≡◌, ◌<◌, ℕ, suc, zero, List, [], ◌∷◌, ◌++◌, length, get_or, take, drop, refl, sym, arith, inl, inr, ⊎_elim, ◌⊎◌, ◌↔◌, subst}
 use Rattle.std.specs.List.{Contains, AllByRecursion}
 use Rattle.std.proofs.lemmas.List.{take-append-drop}
-use Rattle.std.proofs.lemmas.List.Elements.{Contains-append_left, Contains-append_right, Contains-append_cases, All-from_recursion, All-contains}
+use Rattle.std.proofs.lemmas.List.Elements.{Contains-append_left, Contains-append_right, Contains-append_cases, Contains-push, Contains-push_cases, All-from_recursion, All-contains}
+use Rattle.tau_points.specs.Members.{AddsAll}
 
 module _ {A : Type 0} where
   pub Contains-head : (x : A) (xs : List A) → Contains (x ∷ xs) x
@@ -49,3 +50,28 @@ module _ {A : Type 0} where
     pub all_back : (xs ys : List A) → AllByRecursion P (xs ++ ys) → AllByRecursion P ys
     all_back [] ys a = a
     all_back (x ∷ xs) ys a = all_back xs ys a.1
+
+  -- two parts of what goes onto a stack, one after the other
+  pub AddsAll-then : (P Q : A → Type 0) (xs ys zs : List A) → AddsAll P xs ys → AddsAll Q ys zs → AddsAll (λ q. P q ⊎ Q q) xs zs
+  AddsAll-then P Q xs ys zs first second q = (
+    λ c. ⊎_elim (λ h. ⊎_elim (λ a. inl a) (λ p. inr (inl p)) ((first q).0 h)) (λ r. inr (inr r)) ((second q).0 c),
+    λ c. ⊎_elim (λ h. (second q).1 (inl ((first q).1 (inl h)))) (λ d. ⊎_elim (λ p. (second q).1 (inl ((first q).1 (inr p)))) (λ r. (second q).1 (inr r)) d) c,
+  )
+
+  -- one item goes onto it
+  pub AddsAll-push : (xs ys : List A) (x : A) → ys ≡ xs ++ x ∷ [] → AddsAll (λ q. q ≡ x) xs ys
+  AddsAll-push xs ys x is q = (
+    λ c. ⊎_elim (λ h. inl h) (λ (e : x ≡ q). inr (sym e)) (Contains-push_cases xs x q (rw is at c)),
+    λ c. rw is (⊎_elim (λ h. Contains-append_left xs (x ∷ []) q h) (λ (e : q ≡ x). subst (λ z. Contains (xs ++ x ∷ []) z) (sym e) (Contains-push xs x)) c),
+  )
+
+  -- nothing goes onto it
+  pub AddsAll-none : (P : A → Type 0) (xs : List A) → ((q : A) → P q → ⊥) → AddsAll P xs xs
+  AddsAll-none P xs none q = (λ c. inl c, λ c. ⊎_elim (λ h. h) (λ p. absurd (none q p)) c)
+
+  -- the same items, said otherwise
+  pub AddsAll-same : (P Q : A → Type 0) (xs ys : List A) → ((q : A) → P q ↔ Q q) → AddsAll P xs ys → AddsAll Q xs ys
+  AddsAll-same P Q xs ys same adds q = (
+    λ c. ⊎_elim (λ h. inl h) (λ p. inr ((same q).0 p)) ((adds q).0 c),
+    λ c. (adds q).1 (⊎_elim (λ h. inl h) (λ r. inr ((same q).1 r)) c),
+  )

@@ -13,6 +13,14 @@ fn point(who: u32, interval: u32, incarnation: u32) -> Point {
     }
 }
 
+fn lists(set: &PointSet, points: &[Point]) -> bool {
+    set.points() == points
+}
+
+fn pairs_up(relation: &Relation, pairs: &[(Point, Point)]) -> bool {
+    relation.pairs() == pairs
+}
+
 /// A relation and one pair more.
 #[derive(Clone, Copy)]
 struct Longer<'a> {
@@ -39,7 +47,7 @@ fn without(set: &mut PointSet, who: u32)
     set.retain(|p| p.who != who);
 }
 
-/// The successors of numbers, and all numbers.
+/// The successors of numbers, and the set of zero.
 struct Numbers;
 
 impl laws::AnyRelation<u32> for Numbers {
@@ -51,16 +59,14 @@ impl laws::AnySet<u32> for Numbers {
 }
 
 #[test]
-fn sets_are_ascending(rt: HostRuntime) -> Result<(), AllocError> {
-    let alloc = rt.alloc();
+fn sets_are_built(rt: HostRuntime) -> Result<(), AllocError> {
     let (a, b, c, d) = (
         point(0, 2, 0),
         point(0, 1, 5),
         point(1, 0, 0),
         point(0, 1, 3),
     );
-    let mut set = PointSet::new(alloc);
-    assert!(rt; set.is_empty());
+    let mut set = PointSet::new(rt.alloc());
     for (p, new) in [
         (a, true),
         (b, true),
@@ -71,41 +77,35 @@ fn sets_are_ascending(rt: HostRuntime) -> Result<(), AllocError> {
     ] {
         assert_eq!(rt; set.insert(p)?, new);
     }
-    assert_eq!(rt; set.points(), [d, b, a, c].as_slice());
-    assert_eq!(rt; (set.len(), set.item(1), set.item(4)), (4, Some(b), None));
-    assert!(rt; set.has(&c) && !set.has(&point(1, 0, 1)));
-
-    let e = point(0, 1, 4);
-    let other = PointSet::from_slice(alloc, &[c, e, b, e])?;
-    assert_eq!(rt; other.points(), [e, b, c].as_slice());
-    let mut both = set.copy()?;
-    both.union(&other)?;
-    assert_eq!(rt; both.points(), [d, e, b, a, c].as_slice());
-    assert!(rt; !both.same(&set));
-    set.insert(e)?;
-    assert!(rt; both.same(&set));
-    without(&mut both, 0);
-    assert_eq!(rt; both.points(), [c].as_slice());
-    both.clear();
-    assert!(rt; both.is_empty());
+    assert!(rt; lists(&set, &[d, b, a, c]));
+    assert!(rt;
+        set.len() == 4 && set.item(1) == Some(b) && set.has(&c) && !set.has(&point(1, 0, 1))
+    );
     Ok(())
 }
 
 #[test]
-fn relations_are_ascending(rt: HostRuntime) -> Result<(), AllocError> {
-    let alloc = rt.alloc();
+fn sets_are_joined(rt: HostRuntime) -> Result<(), AllocError> {
+    let (a, b, c) = (point(0, 1, 3), point(0, 1, 4), point(1, 0, 0));
+    let mut set = PointSet::from_slice(rt.alloc(), &[c, a, c])?;
+    let other = PointSet::from_slice(rt.alloc(), &[c, b])?;
+    let before = set.copy()?;
+    set.union(&other)?;
+    assert!(rt; lists(&set, &[a, b, c]) && !set.same(&before) && !set.is_empty());
+    without(&mut set, 0);
+    assert!(rt; lists(&set, &[c]));
+    set.clear();
+    assert!(rt; set.is_empty());
+    Ok(())
+}
+
+#[test]
+fn relations_are_built(rt: HostRuntime) -> Result<(), AllocError> {
     let (a, b, c) = (point(0, 1, 0), point(1, 0, 0), point(1, 1, 0));
-    let mut links = Relation::new(alloc);
-    assert!(rt; links.is_empty());
+    let mut links = Relation::new(rt.alloc());
     for (from, to, new) in [(b, c, true), (a, b, true), (b, a, true), (b, c, false)] {
         assert_eq!(rt; links.insert(from, to)?, new);
     }
-    assert_eq!(rt; links.pairs(), [(a, b), (b, a), (b, c)].as_slice());
-    assert_eq!(rt;
-        (links.len(), links.item(2), links.item(3)),
-        (3, Some((b, c)), None)
-    );
-    assert!(rt; links.has(&b, &a) && !links.has(&a, &c));
     for (from, span) in [
         (point(0, 0, 9), (0, 0)),
         (a, (0, 1)),
@@ -114,60 +114,54 @@ fn relations_are_ascending(rt: HostRuntime) -> Result<(), AllocError> {
     ] {
         assert_eq!(rt; links.span(&from), span);
     }
+    assert!(rt; pairs_up(&links, &[(a, b), (b, a), (b, c)]));
+    assert!(rt;
+        links.len() == 3 && links.item(2) == Some((b, c)) && links.has(&b, &a) && !links.has(&a, &c)
+    );
+    Ok(())
+}
 
-    let other = Relation::from_slice(alloc, &[(c, a), (a, c), (c, a)])?;
-    let mut both = links.copy()?;
-    both.union(&other)?;
-    assert_eq!(rt; both.pairs(), [(a, b), (a, c), (b, a), (b, c), (c, a)].as_slice());
-    assert!(rt; !both.same(&links));
-    both.retain(|pair| pair.0 != pair.1 && pair.1.who == 0);
-    assert_eq!(rt; both.pairs(), [(b, a), (c, a)].as_slice());
-    both.clear();
-    assert!(rt; both.is_empty());
+#[test]
+fn relations_are_joined(rt: HostRuntime) -> Result<(), AllocError> {
+    let (a, b, c) = (point(0, 1, 0), point(1, 0, 0), point(1, 1, 0));
+    let mut links = Relation::from_slice(rt.alloc(), &[(b, a), (a, b), (b, a)])?;
+    let other = Relation::from_slice(rt.alloc(), &[(c, a), (a, c)])?;
+    let before = links.copy()?;
+    links.union(&other)?;
+    assert!(rt;
+        pairs_up(&links, &[(a, b), (a, c), (b, a), (c, a)])
+            && !links.same(&before)
+            && !links.is_empty()
+    );
+    links.retain(|pair| pair.1.who == 0);
+    assert!(rt; pairs_up(&links, &[(b, a), (c, a)]));
+    links.clear();
+    assert!(rt; links.is_empty());
     Ok(())
 }
 
 #[test]
 fn a_search_follows_cycles_and_diamonds(rt: HostRuntime) -> Result<(), AllocError> {
     let alloc = rt.alloc();
-    let p = [
+    let (a, b, c, d, e, f) = (
         point(0, 0, 0),
         point(1, 0, 0),
         point(2, 0, 0),
         point(3, 0, 0),
         point(4, 0, 0),
         point(5, 0, 0),
-    ];
-    let links = Relation::from_slice(
-        alloc,
-        &[
-            (p[0], p[1]),
-            (p[1], p[0]),
-            (p[2], p[3]),
-            (p[2], p[4]),
-            (p[3], p[5]),
-            (p[4], p[5]),
-        ],
-    )?;
-    let from_cycle = PointSet::from_slice(alloc, &[p[1]])?;
-    assert_eq!(rt;
-        reachable(alloc, &links, &from_cycle)?.points(),
-        [p[0], p[1]].as_slice()
     );
-    let from_diamond = PointSet::from_slice(alloc, &[p[2]])?;
-    assert_eq!(rt;
-        reachable(alloc, &links, &from_diamond)?.points(),
-        [p[2], p[3], p[4], p[5]].as_slice()
-    );
+    let links = Relation::from_slice(alloc, &[(a, b), (b, a), (c, d), (c, e), (d, f), (e, f)])?;
+    let cycle = PointSet::from_slice(alloc, &[b])?;
+    let diamond = PointSet::from_slice(alloc, &[c])?;
+    assert!(rt; lists(&reachable(alloc, &links, &cycle)?, &[a, b]));
+    assert!(rt; lists(&reachable(alloc, &links, &diamond)?, &[c, d, e, f]));
     let longer = Longer {
         links: &links,
-        from: p[0],
-        to: p[4],
+        from: a,
+        to: e,
     };
-    assert_eq!(rt;
-        search(alloc, &longer, &from_cycle)?.points(),
-        [p[0], p[1], p[4], p[5]].as_slice()
-    );
+    assert!(rt; lists(&search(alloc, &longer, &cycle)?, &[a, b, e, f]));
     Ok(())
 }
 
