@@ -1,6 +1,6 @@
 -- What a closure keeps of a list.
-use Rattle.std.proofs.Common.{◌≡◌, ◌∙◌, ℕ, suc, zero, Bool, true, false, cond, List, [], ◌∷◌, length, refl, sym, ap, arith, subst, ⊎_elim}
-use Rattle.std.specs.Fn.{AlwaysReturns, CalledAt, ComputesKey}
+use Rattle.std.proofs.Common.{◌≡◌, ◌∙◌, Bool, true, false, cond, List, [], ◌∷◌, length, refl, sym, ap, arith, subst, ⊎_elim}
+use Rattle.std.specs.Fn.{CalledAt, ComputesKey}
 use Rattle.tau_points.specs.Members.{HasAll}
 use Rattle.tau_points.proofs.Membership.{Contains-head, Contains-later, Contains-none, Contains-cons_cases}
 use Rattle.std.specs.List.{AllByRecursion, Contains, filter, items_where_true}

@@ -1,9 +1,9 @@
 -- The laws of what is reached, and what a search keeps.
 use Rattle.std.proofs.lemmas.List.{get_or_default, get_or_append_left}
 use Rattle.std.proofs.lemmas.List.Quantifiers.{all_pairs_push}
-use Rattle.std.proofs.Common.{◌≡◌, ◌<◌, ◌⊎◌, ◌↔◌, arith, length, get_or, length-append, List, [], ◌∷◌, ◌++◌, refl, sym, ◌∙◌, inl, inr, ⊎_elim, subst, ap}
+use Rattle.std.proofs.Common.{◌≡◌, ◌<◌, ◌⊎◌, arith, length, get_or, length-append, List, [], ◌∷◌, ◌++◌, refl, sym, ◌∙◌, inl, inr, ⊎_elim, subst, ap}
 use Rattle.std.specs.List.{Contains, AllPairs}
-use Rattle.tau_points.specs.Reach.{Reach, start, next, IsWithin, IsClosed, Path, SimplePath, LeadsAlong, HasDecidableEquality}
+use Rattle.tau_points.specs.Reach.{Reach, start, next, IsClosed, Path, SimplePath, LeadsAlong, HasDecidableEquality}
 use Rattle.tau_points.specs.ReachLaws.{IsLeast, IsMonotone, ReachesUnion, IsNested, IsRestricted, IsReachedByPath, IsReachedBySimplePath}
 use Rattle.tau_points.proofs.Membership.{Contains-head, Contains-later, Contains-none, Contains-cons_cases}
 

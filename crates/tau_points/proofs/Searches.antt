@@ -4,7 +4,7 @@ use Rattle.std.specs.Result.{IfOk}
 use Rattle.std.specs.List.{Contains}
 use Rattle.std.proofs.lemmas.List.Elements.{Contains-append_left, Contains-push_cases, Contains-push}
 use Rattle.tau_points.specs.Members.{Adds, AddsAll, SameMembers}
-use Rattle.tau_points.specs.Reach.{Reach, start, next, IsClosed}
+use Rattle.tau_points.specs.Reach.{Reach, start, next}
 use Rattle.tau_points.proofs.Membership.{Contains-none}
 use Rattle.tau_points.proofs.Reach.{least}
 

@@ -1,22 +1,22 @@
 -- Facts on lists in which each item is before all later ones.
 use Rattle.std.proofs.Common.{◌≡◌, ◌-◌, ◌<◌, ◌≤◌, ◌+◌, ℕ, suc, zero, List, [], ◌∷◌, ◌++◌, length, get_or, take, drop, refl, sym, ap, ◌∙◌, arith, inl, inr, ⊎_elim, ◌⊎◌, ◌↔◌, subst, append_assoc, Ok, Err, Result, Bool, false, add-one, drop-cons, length-drop, ap₂}
 use Rattle.std.proofs.lemmas.List.{take_more, take_all, drop_all, append-nil}
-use Rattle.std.specs.List.{Contains, AllByRecursion, AllWithin, HoldsAt, dedup}
+use Rattle.std.specs.List.{Contains, AllByRecursion, AllWithin, dedup}
 use Rattle.std.specs.List.Sorted.{IsStrictlySortedBy, IsBinarySearchResult, IsSearchInRange, IsSortedBy, IsPermutation}
 use Rattle.std.specs.Result.{OnOk, IfErr}
 use Rattle.std.proofs.lemmas.Map.Lookups.{CmpEqualImpliesEq}
 use Rattle.std.proofs.lemmas.Map.Views.{tells_apart}
 use Rattle.std.proofs.lemmas.List.Kept.{Contains-dedup, Contains-from_dedup}
 use Rattle.std.specs.Cmp.{IsTotalOrder, IsEquivalence}
-use Rattle.std.specs.Ordering.{ordering_index, ordering_reverse, is_lt, eq_by_cmp}
+use Rattle.std.specs.Ordering.{ordering_reverse, is_lt, eq_by_cmp}
 use Rattle.std.specs.declared.cmp.Ordering.{Ordering}
-use Rattle.std.specs.declared.cmp.Ordering.TheVariants.{Less, Equal, Greater}
+use Rattle.std.specs.declared.cmp.Ordering.TheVariants.{Less, Greater}
 use Rattle.std.proofs.lemmas.Cmp.{tied_itself}
 use Rattle.std.proofs.lemmas.Map.Keys.{Less-from_sorted}
 use Rattle.std.proofs.lemmas.List.Sorted.{searchable_from_sorted, Contains-permutation, IsPermutation-sym}
 use Rattle.std.proofs.lemmas.List.Elements.{Contains-append_left, Contains-append_right, Contains-append_cases}
 use Rattle.tau_points.specs.Members.{Adds, Joins, HasAll, SameMembers, IsPlace}
-use Rattle.tau_points.proofs.Membership.{Contains-head, Contains-later, Contains-none, Contains-cons_cases, Contains-take, Contains-drop, Contains-split, all_at, all_from_each, all_append, all_front, all_back}
+use Rattle.tau_points.proofs.Membership.{Contains-head, Contains-later, Contains-none, Contains-cons_cases, Contains-take, Contains-drop, Contains-split, all_at, all_append, all_front, all_back}
 
 module _ {K : Type 0} (R : K → K → Ordering) where
   pub sorted_nil : IsStrictlySortedBy R []

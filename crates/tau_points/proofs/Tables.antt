@@ -1,5 +1,5 @@
 -- What an insert into a hash table of points says of its members.
-use Rattle.std.proofs.Common.{◌≡◌, ◌⊎◌, ◌∙◌, Bool, List, true, false, cond, not, refl, sym, ap, inl, inr, ⊎_elim}
+use Rattle.std.proofs.Common.{◌≡◌, ◌⊎◌, ◌∙◌, Bool, List, true, false, cond, not, refl, sym, inl, inr, ⊎_elim}
 use Rattle.std.specs.Bool.{OnFalse}
 use Rattle.std.specs.List.{Contains, list_any}
 use Rattle.std.proofs.lemmas.Map.Views.{Contains-from_any, list_any-from_Contains}

@@ -1,9 +1,6 @@
 -- Only equal points, and only equal pairs of points, compare as equal.
-use Rattle.std.proofs.Common.{◌≡◌, rules, arith}
 use Rattle.std.proofs.lemmas.Map.Lookups.{CmpEqualImpliesEq, exact_unsigned, exact_pairs}
-use Rattle.std.specs.declared.cmp.Ordering.TheVariants.{Equal}
 use Rattle.tau_points.specs.Order.{point_cmp, pair_cmp}
-use Rattle.tau_points.specs.declared.point.Point.{Point}
 
 pub point_cmp-exact : CmpEqualImpliesEq point_cmp
 point_cmp-exact p q e =

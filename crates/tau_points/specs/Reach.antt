@@ -1,5 +1,5 @@
 -- What is reached from a set by following a relation.
-use Rattle.std.specs.Prelude.{◌≡◌, ◌↔◌, ◌⊎◌, List, [], ◌∷◌, Contains, AllPairs}
+use Rattle.std.specs.Prelude.{◌≡◌, ◌⊎◌, List, [], ◌∷◌, Contains, AllPairs}
 
 -- the least set that holds P and, with x, each y to which L leads from x
 pub data Reach {A : Type 0} (L : A → A → Type 0) (P : A → Type 0) : A → Type 0 where

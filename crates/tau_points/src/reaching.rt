@@ -36,7 +36,7 @@ impl Links for Relation {
 }
 
 /// The points that are reached from a set by following links: those of the set, and with each point all to which it
-/// leads. The time grows with the number of links from these points, times the logarithm of the number of points.
+/// leads (docs/rules.md, "Known past"). Each point that is reached is asked once for the points to which it leads.
 pub fn search<L: Links>(alloc: Global, links: &L, from: &PointSet) -> Result<PointSet, AllocError>
     ensures ascending { IfOk result IsAscending }
     ensures reached { IfOk result (λ set. (q : Point) → Contains set q ↔ Reach (L.leads links.now) (Contains from.now) q) }
@@ -51,7 +51,8 @@ pub fn search<L: Links>(alloc: Global, links: &L, from: &PointSet) -> Result<Poi
     PointSet::from_visited(alloc, &visited)
 }
 
-/// The points that are reached from a set by following the pairs of a relation.
+/// The points that are reached from a set by following the pairs of a relation. The time is by the number of pairs
+/// that are followed, and for each point by the logarithm of the number of all pairs.
 pub fn reachable(alloc: Global, links: &Relation, from: &PointSet) -> Result<PointSet, AllocError>
     ensures ascending { IfOk result IsAscending }
     ensures reached { IfOk result (λ set. (q : Point) → Contains set q ↔ Reach (Leads links.now) (Contains from.now) q) }

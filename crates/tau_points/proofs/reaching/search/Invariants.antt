@@ -1,4 +1,4 @@
-use Rattle.std.proofs.Common.{◌≡◌, ◌+◌, ◌-◌, ◌*◌, ◌^◌, length, vec_len}
+use Rattle.std.proofs.Common.{◌+◌, ◌-◌, ◌*◌, ◌^◌, length, vec_len}
 use Rattle.std.specs.List.{Contains}
 use Rattle.tau_points.proofs.Searches.{Searching}
 use Rattle.tau_points.proofs.reaching.search.Given as goal

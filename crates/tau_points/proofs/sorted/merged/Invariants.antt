@@ -1,4 +1,4 @@
-use Rattle.std.proofs.Common.{◌≡◌, ◌+◌, ◌-◌, ◌≤◌, length, drop}
+use Rattle.std.proofs.Common.{◌+◌, ◌-◌, ◌≤◌, length, drop}
 use Rattle.tau_points.proofs.SortedLists.{Merging}
 use Rattle.tau_points.proofs.sorted.merged.Given as goal
 
