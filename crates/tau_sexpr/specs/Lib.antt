@@ -1,0 +1,4 @@
+pub mod Bytes
+pub mod Tree
+pub mod Form
+pub mod Falls

@@ -1,0 +1,44 @@
+//! The classes of bytes.
+ghost use Rattle.std.specs.Prelude.{◌↔◌, IsTrue, All};
+ghost use Rattle.tau_sexpr.specs.Bytes.{IsWordByte, IsTextByte, is_word_sign as word_sign};
+
+/// Whether a word may hold this byte: a letter, a digit or one of `- _ + * / % < > = ? ! .`
+/// (docs/formats.md, "Texts and forms").
+#[tactic(auto, unfolding(crate::specs::Bytes::is_word_byte, crate::specs::Bytes::is_letter_or_digit, crate::specs::Bytes::is_word_sign))]
+pub fn is_word_byte(byte: u8) -> bool
+    ensures { IsTrue result ↔ IsWordByte byte }
+{
+    byte.is_ascii_alphanumeric() || is_word_sign(byte)
+}
+
+#[tactic(auto, unfolding(crate::specs::Bytes::is_word_sign))]
+fn is_word_sign(byte: u8) -> bool
+    ensures { IsTrue result ↔ IsTrue (word_sign byte) }
+{
+    matches!(
+        byte,
+        b'-' | b'_' | b'+' | b'*' | b'/' | b'%' | b'<' | b'>' | b'=' | b'?' | b'!' | b'.'
+    )
+}
+
+/// Whether a text may hold this byte: 0x20 to 0x7E, or 0x0A (docs/formats.md, "Texts and forms").
+#[tactic(auto, unfolding(crate::specs::Bytes::is_text_byte))]
+pub fn is_text_byte(byte: u8) -> bool
+    ensures { IsTrue result ↔ IsTextByte byte }
+{
+    matches!(byte, 0x20..=0x7E | 0x0A)
+}
+
+/// Whether a word may hold all of these bytes.
+pub fn are_word_bytes(bytes: &[u8]) -> bool
+    ensures { IsTrue result ↔ All IsWordByte bytes.now }
+{
+    bytes.iter().all(|byte| is_word_byte(*byte))
+}
+
+/// Whether a text may hold all of these bytes.
+pub fn are_text_bytes(bytes: &[u8]) -> bool
+    ensures { IsTrue result ↔ All IsTextByte bytes.now }
+{
+    bytes.iter().all(|byte| is_text_byte(*byte))
+}
