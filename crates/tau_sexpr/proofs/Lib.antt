@@ -5,3 +5,4 @@ pub mod RunLemmas
 pub mod SoundLemmas
 pub mod FaultLemmas
 pub mod LawLemmas
+pub mod ScanLemmas

@@ -24,14 +24,14 @@ unfolding run step
 run_outside b bs at s k e = ap (λ k. and_then (step_outside k b at s) (go_on bs)) e
 
 -- a comment, after its semicolon
-pub run_comment : (line bs : List ℕ) → All (λ b. b ≢ 10) line → EndsLine bs → (at : ℕ) (s : Stack) (z : Result (List Tree) FormError) → ((at : ℕ) → run bs at outside s ≡ z) → run (line ++ bs) at comment s ≡ z
+pub run_comment : (line bs : List ℕ) → All (λ b. b ≢ 10) line → EndsLine bs → (at : ℕ) (s : Stack) (z : Result (List Tree) FormError) → ((p : ℕ) → p ≡ at + length line → run bs p outside s ≡ z) → run (line ++ bs) at comment s ≡ z
 unfolding run step finish
-run_comment [] [] all ends at s z k = k at
+run_comment [] [] all ends at s z k = k at (omega arith)
 run_comment [] (b ∷ bs) all ends at s z k =
-    ap (λ t. run bs (at + 1) (if t then outside else comment) s) (eq-eqb b 10 ends) ∙ sym (run_outside b bs at s Blank (ap kind_of ends ∙ kind_line_feed)) ∙ k at
+    ap (λ t. run bs (at + 1) (if t then outside else comment) s) (eq-eqb b 10 ends) ∙ sym (run_outside b bs at s Blank (ap kind_of ends ∙ kind_line_feed)) ∙ k at (omega arith)
 run_comment (b ∷ line) bs all ends at s z k =
     ap (λ t. run (line ++ bs) (at + 1) (if t then outside else comment) s) (ne_eqb b 10 (All-head (λ b. b ≢ 10) b line all))
-    ∙ run_comment line bs (All-tail (λ b. b ≢ 10) b line all) ends (at + 1) s z k
+    ∙ run_comment line bs (All-tail (λ b. b ≢ 10) b line all) ends (at + 1) s z (λ p e. k p (omega arith))
 
 -- a byte that no word holds ends the word before it
 word_ends : (k : ByteKind) (w : List ℕ) (b at : ℕ) (s : Stack) → k ≢ OfWord → step_word k w b at s ≡ step_outside k b at (with_form s (word w))
@@ -57,14 +57,14 @@ unfolding run step
 word_goes_on b bs w at s is = ap (λ k. and_then (step_word k w b at s) (go_on bs)) (kind_word b is)
 
 -- the bytes of a word that has begun
-pub run_word : (v bs w : List ℕ) → All IsWordByte v → EndsWord bs → (at : ℕ) (s : Stack) (z : Result (List Tree) FormError) → ((at : ℕ) → run bs at outside (with_form s (word (w ++ v))) ≡ z) → run (v ++ bs) at (in_word w) s ≡ z
+pub run_word : (v bs w : List ℕ) → All IsWordByte v → EndsWord bs → (at : ℕ) (s : Stack) (z : Result (List Tree) FormError) → ((p : ℕ) → p ≡ at + length v → run bs p outside (with_form s (word (w ++ v))) ≡ z) → run (v ++ bs) at (in_word w) s ≡ z
 unfolding run step
 run_word [] bs w all ends at s z k =
-    run_word_end bs w at s ends ∙ ap (λ v. run bs at outside (with_form s (word v))) (sym (append-nil w)) ∙ k at
+    run_word_end bs w at s ends ∙ ap (λ v. run bs at outside (with_form s (word v))) (sym (append-nil w)) ∙ k at (omega arith)
 run_word (b ∷ v) bs w all ends at s z k =
     word_goes_on b (v ++ bs) w at s (All-head IsWordByte b v all)
     ∙ run_word v bs (w ++ b ∷ []) (All-tail IsWordByte b v all) ends (at + 1) s z
-    (λ at. ap (λ u. run bs at outside (with_form s (word u))) (append_assoc w (b ∷ []) v) ∙ k at)
+    (λ p e. ap (λ u. run bs p outside (with_form s (word u))) (append_assoc w (b ∷ []) v) ∙ k p (omega arith))
 
 -- the third of three tests is the first to hold
 third : {A : Type 0} (x y z : Bool) (a b c d : A) → x ≡ false → y ≡ false → z ≡ true → (if x then a else if y then b else if z then c else d) ≡ c
@@ -74,6 +74,14 @@ third x y z a b c d e f g = absurd (cc)
 pub run_plain : (b : ℕ) (bs u : List ℕ) (at : ℕ) (s : Stack) → IsTrue (is_plain b) → run (b ∷ bs) at (in_text u) s ≡ run bs (at + 1) (in_text (u ++ b ∷ [])) s
 unfolding run step
 run_plain b bs u at s is = ap (λ r. and_then r (go_on bs)) (third (b == 34) (b == 92) (is_plain b) _ _ _ _ (plain_tests b is).0 (plain_tests b is).1 is)
+
+-- bytes in quotes that stand for themselves
+pub run_plains : (v bs u : List ℕ) → All (λ b. IsTrue (is_plain b)) v → (at : ℕ) (s : Stack) → run (v ++ bs) at (in_text u) s ≡ run bs (at + length v) (in_text (u ++ v)) s
+run_plains [] bs u all at s = ap₂ (λ p w. run bs p (in_text w) s) (omega arith) (sym (append-nil u))
+run_plains (b ∷ v) bs u all at s =
+    run_plain b (v ++ bs) u at s (All-head (λ b. IsTrue (is_plain b)) b v all)
+    ∙ run_plains v bs (u ++ b ∷ []) (All-tail (λ b. IsTrue (is_plain b)) b v all) (at + 1) s
+    ∙ ap₂ (λ p w. run bs p (in_text w) s) (omega arith) (append_assoc u (b ∷ []) v)
 
 -- the bytes of a text, up to its closing quote
 pub run_text : {bs t rest : List ℕ} → Quotes bs t rest → (u : List ℕ) (at : ℕ) (s : Stack) (z : Result (List Tree) FormError) → ((at : ℕ) → run rest at outside (with_form s (text (u ++ t))) ≡ z) → run bs at (in_text u) s ≡ z
@@ -94,11 +102,11 @@ run_forms (a_blank {b = b} {bs = bs} is spelled) at lists forms depth z k =
     run_outside b bs at (stack lists forms) Blank (kind_blank b is) ∙ run_forms spelled (at + 1) lists forms depth z k
 run_forms (a_comment line bs all ends spelled) at lists forms depth z k =
     run_outside 59 (line ++ bs) at (stack lists forms) Semicolon kind_semicolon
-    ∙ run_comment line bs all ends (at + 1) (stack lists forms) z (λ at. run_forms spelled at lists forms depth z k)
+    ∙ run_comment line bs all ends (at + 1) (stack lists forms) z (λ p e. run_forms spelled p lists forms depth z k)
 run_forms (a_word {b = b} w bs {rest = rest} {ts = ts} all ends spelled) at lists forms depth z k =
     run_outside b (w ++ bs) at (stack lists forms) OfWord (kind_word b (All-head IsWordByte b w all))
     ∙ run_word w bs (b ∷ []) (All-tail IsWordByte b w all) ends (at + 1) (stack lists forms) z
-    (λ at. run_forms spelled at lists (forms ++ word (b ∷ w) ∷ []) depth z
+    (λ p e. run_forms spelled p lists (forms ++ word (b ∷ w) ∷ []) depth z
         (λ at. ap (λ us. run rest at outside (stack lists us)) (append_assoc forms (word (b ∷ w) ∷ []) (items_of ts)) ∙ k at))
 run_forms (a_text {bs = bs} {t = t} {after = after} {rest = rest} {ts = ts} quotes spelled) at lists forms depth z k =
     run_outside 34 bs at (stack lists forms) Quote kind_quote

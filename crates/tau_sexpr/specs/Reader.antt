@@ -1,9 +1,10 @@
 -- The reader byte by byte, of which its private functions speak. No public clause cites this file.
-use Rattle.std.specs.Prelude.{◌≡◌, ◌≢◌, ℕ, ◌+◌, ◌==◌, nat_lt, List, [], ◌∷◌, ◌++◌, length, Result, Ok, Err, Option, Some, None, if◌then◌else◌}
+use Rattle.std.specs.Prelude.{◌≡◌, ◌≢◌, ℕ, ◌+◌, ◌==◌, nat_lt, List, [], ◌∷◌, ◌++◌, length, reverse, Result, Ok, Err, Option, Some, None, if◌then◌else◌}
 use Rattle.tau_sexpr.specs.Tree.{Tree, word, text, list, inside}
 use Rattle.tau_sexpr.specs.Kinds.{kind_of, is_plain, meaning}
 use Rattle.tau_sexpr.specs.declared.bytes.ByteKind.{ByteKind}
 use Rattle.tau_sexpr.specs.declared.bytes.ByteKind.TheVariants.{Blank, Semicolon, Opening, Closing, Quote, OfWord, Other}
+use Rattle.tau_sexpr.specs.declared.reader.OpenLists.{OpenLists}
 use Rattle.tau_sexpr.specs.declared.faults.FormError.{FormError}
 use Rattle.tau_sexpr.specs.declared.faults.FormError.TheVariants.{BadByte, Unopened, Unclosed, BadText, TooDeep, NoMemory}
 
@@ -97,6 +98,19 @@ run (b ∷ bs) at mode s = and_then (step b at mode s) (λ r. run bs r.at r.mode
 -- what all bytes give
 abbrev pub read_all : List ℕ → Result (List Tree) FormError
 read_all bs = run bs 0 outside (stack [] [])
+
+-- what a call that takes one byte answers, but for want of memory
+abbrev pub TellsStep : FormError → Result Reader FormError → Type 0
+TellsStep NoMemory r = Unit {0}
+TellsStep e r = r ≡ Err e
+
+abbrev pub Steps : {U : Type 0} → Result U FormError → ℕ → Stack → Result Reader FormError → Type 0
+Steps (Ok u) at s r = r ≡ Ok (reader (at + 1) outside s)
+Steps (Err e) at s r = TellsStep e r
+
+-- what is held by the program
+abbrev pub stack_of : OpenLists → Stack
+stack_of o = stack (reverse o.outer.items) o.forms
 
 -- an error says what the reader gives, but for want of memory
 abbrev pub Tells : FormError → Result (List Tree) FormError → Type 0

@@ -1,5 +1,5 @@
 -- How bytes spell forms: their tokens in order, with blanks and comments between them.
-use Rattle.std.specs.Prelude.{◌≡◌, ◌≢◌, ℕ, suc, List, [], ◌∷◌, ◌++◌, Some, IsTrue}
+use Rattle.std.specs.Prelude.{◌≡◌, ◌≢◌, ℕ, suc, List, [], ◌∷◌, ◌++◌, Some, IsTrue, false}
 use Rattle.std.specs.List.{All}
 use Rattle.tau_sexpr.specs.Bytes.{is_blank, IsWordByte}
 use Rattle.tau_sexpr.specs.Kinds.{is_plain, meaning}
@@ -14,6 +14,11 @@ EndsWord (b ∷ bs) = ¬ IsWordByte b
 abbrev pub EndsLine : List ℕ → Type 0
 EndsLine [] = Unit {0}
 EndsLine (b ∷ bs) = b ≡ 10
+
+-- bytes in quotes that stand for themselves end there
+abbrev pub EndsPlain : List ℕ → Type 0
+EndsPlain [] = Unit {0}
+EndsPlain (b ∷ bs) = is_plain b ≡ false
 
 -- the bytes after an opening quote mean this text, up to its closing quote, and the rest is left
 pub data Quotes : List ℕ → List ℕ → List ℕ → Type 0 where

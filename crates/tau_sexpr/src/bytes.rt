@@ -1,7 +1,7 @@
 //! The classes of bytes.
 ghost use Rattle.std.specs.Prelude.{◌≡◌, ◌↔◌, IsTrue, All};
 ghost use Rattle.tau_sexpr.specs.Bytes.{IsWordByte, IsTextByte, is_word_sign as word_sign};
-ghost use Rattle.tau_sexpr.specs.Kinds.{kind_of};
+ghost use Rattle.tau_sexpr.specs.Kinds.{kind_of, is_plain as plain_test};
 
 /// Whether a word may hold this byte: a letter, a digit or one of `- _ + * / % < > = ? ! .`
 /// (docs/formats.md, "Texts and forms").
@@ -54,6 +54,14 @@ pub enum ByteKind {
     Quote,
     OfWord,
     Other,
+}
+
+/// Whether a byte in quotes stands for itself.
+#[tactic(auto, unfolding(crate::specs::Kinds::is_plain))]
+pub fn is_plain(byte: u8) -> bool
+    ensures { IsTrue result ↔ IsTrue (plain_test byte) }
+{
+    matches!(byte, 0x20..=0x7E) && byte != b'"' && byte != b'\\'
 }
 
 /// The kind of a byte.

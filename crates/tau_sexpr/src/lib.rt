@@ -3,6 +3,7 @@
 
 mod bytes;
 mod faults;
+mod reader;
 mod texts;
 mod trees;
 mod words;
