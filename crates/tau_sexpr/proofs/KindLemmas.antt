@@ -78,3 +78,7 @@ line_feed_blank b e = subst (λ c. IsTrue (is_blank c)) (sym e) (kind_is 10 Blan
 pub plain_tests : (b : ℕ) → IsTrue (is_plain b) → ((b == 34) ≡ false) × ((b == 92) ≡ false)
 unfolding is_plain
 plain_tests b h = grind (arith, nat_tests)
+
+pub plain_text : (b : ℕ) → IsTrue (is_plain b) → IsTrue (is_text_byte b)
+unfolding is_plain is_text_byte
+plain_text b h = grind (arith, nat_tests)

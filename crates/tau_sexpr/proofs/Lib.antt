@@ -6,3 +6,4 @@ pub mod SoundLemmas
 pub mod FaultLemmas
 pub mod LawLemmas
 pub mod ScanLemmas
+pub mod PlaceLemmas

@@ -1,7 +1,7 @@
 //! The classes of bytes.
 ghost use Rattle.std.specs.Prelude.{◌≡◌, ◌↔◌, IsTrue, All};
 ghost use Rattle.tau_sexpr.specs.Bytes.{IsWordByte, IsTextByte, is_word_sign as word_sign};
-ghost use Rattle.tau_sexpr.specs.Kinds.{kind_of, is_plain as plain_test};
+ghost use Rattle.tau_sexpr.specs.Kinds.{kind_of, is_plain as plain_test, meaning as meaning_of};
 
 /// Whether a word may hold this byte: a letter, a digit or one of `- _ + * / % < > = ? ! .`
 /// (docs/formats.md, "Texts and forms").
@@ -62,6 +62,19 @@ pub fn is_plain(byte: u8) -> bool
     ensures { IsTrue result ↔ IsTrue (plain_test byte) }
 {
     matches!(byte, 0x20..=0x7E) && byte != b'"' && byte != b'\\'
+}
+
+/// What a backslash and this byte mean in quotes.
+#[tactic(auto, unfolding(crate::specs::Kinds::meaning))]
+pub fn meaning(byte: u8) -> Option<u8>
+    ensures { result ≡ meaning_of byte }
+{
+    match byte {
+        b'"' => Some(b'"'),
+        b'\\' => Some(b'\\'),
+        b'n' => Some(b'\n'),
+        _ => None,
+    }
 }
 
 /// The kind of a byte.

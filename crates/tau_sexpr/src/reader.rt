@@ -1,13 +1,13 @@
 //! Reading forms.
-ghost use Rattle.std.specs.Prelude.{◌≡◌, ◌≢◌, ◌+◌, ◌<◌, ◌≤◌, ◌⊎◌, ℕ, List, [], length, drop, slice_range, IsTrue, Result, Ok, Err, IfOk, IfErr, OnOk, All};
+ghost use Rattle.std.specs.Prelude.{◌≡◌, ◌≢◌, ◌+◌, ◌<◌, ◌≤◌, ◌⊎◌, ℕ, List, [], length, drop, slice_range, IsTrue, Result, Ok, Err, IfOk, IfErr, OnOk, All, IfSome, IfNone, ◌∷◌, ◌++◌};
 ghost use Rattle.tau_sexpr.specs.Bytes.{IsWordByte, IsTextByte};
 ghost use Rattle.tau_sexpr.specs.Kinds.{is_plain};
 ghost use Rattle.tau_sexpr.specs.Spelling.{EndsWord, EndsLine, EndsPlain};
 ghost use Rattle.tau_sexpr.specs.Tree.{text};
 ghost use Rattle.tau_sexpr.specs.Form.{tree_of};
-ghost use Rattle.tau_sexpr.specs.Reader.{Stack, stack, stack_of, with_form, step_outside, ended, run, read_all, outside, in_text, Steps, Tells, Gives};
+ghost use Rattle.tau_sexpr.specs.Reader.{Stack, stack, stack_of, with_form, step_outside, ended, run, read_all, outside, in_text, in_pair, Steps, Tells, Gives};
 
-use crate::bytes::{ByteKind, is_plain as is_plain_byte, is_word_byte, kind};
+use crate::bytes::{ByteKind, is_plain as is_plain_byte, is_word_byte, kind, meaning};
 use crate::{Form, FormError, Forms, Text, Word};
 use std::alloc::{AllocError, Global};
 use std::mem;
@@ -127,4 +127,77 @@ fn plain_end(bytes: &[u8], start: usize) -> usize
         }
     }
     bytes.len()
+}
+
+// What a backslash and the byte at this place mean.
+fn read_pair(bytes: &[u8], at: usize) -> Result<u8, FormError>
+    requires { at ≤ length bytes.now }
+    ensures ok { IfOk result (λ c. (at < length bytes.now) × IsTextByte c × ((u : List ℕ) (s : Stack) → run (drop at bytes.now) at (in_pair u) s ≡ run (drop (at + 1) bytes.now) (at + 1) (in_text (u ++ c ∷ [])) s)) }
+    ensures err { IfErr result (λ e. (u : List ℕ) (s : Stack) → run (drop at bytes.now) at (in_pair u) s ≡ Err e) }
+{
+    if at == bytes.len() {
+        return Err(FormError::Unclosed { at: at as u64 });
+    }
+    match meaning(bytes[at]) {
+        Some(byte) => Ok(byte),
+        None => Err(FormError::BadText { at: at as u64 }),
+    }
+}
+
+// What stands at this place in quotes, where no byte stands for itself: a pair, or `None` for the closing quote.
+fn read_mark(bytes: &[u8], at: usize) -> Result<Option<u8>, FormError>
+    requires within { at ≤ length bytes.now }
+    requires mark { EndsPlain (drop at bytes.now) }
+    ensures pair { IfOk result (λ o. IfSome o (λ c. (at + 1 < length bytes.now) × IsTextByte c × ((u : List ℕ) (s : Stack) → run (drop at bytes.now) at (in_text u) s ≡ run (drop (at + 2) bytes.now) (at + 2) (in_text (u ++ c ∷ [])) s))) }
+    ensures closing { IfOk result (λ o. IfNone o ((at < length bytes.now) × ((u : List ℕ) (s : Stack) → run (drop at bytes.now) at (in_text u) s ≡ run (drop (at + 1) bytes.now) (at + 1) outside (with_form s (text u))))) }
+    ensures err { IfErr result (λ e. (u : List ℕ) (s : Stack) → run (drop at bytes.now) at (in_text u) s ≡ Err e) }
+{
+    if at == bytes.len() {
+        return Err(FormError::Unclosed { at: at as u64 });
+    }
+    let byte = bytes[at];
+    if byte == b'"' {
+        return Ok(None);
+    }
+    if byte == b'\\' {
+        return match read_pair(bytes, at + 1) {
+            Ok(byte) => Ok(Some(byte)),
+            Err(error) => Err(error),
+        };
+    }
+    Err(FormError::BadText { at: at as u64 })
+}
+
+// Adds the bytes at this place that stand for themselves, and gives the place after them.
+fn put_plain(text: &mut Vec<u8>, bytes: &[u8], at: usize) -> Result<usize, AllocError>
+    requires { at ≤ length bytes.now }
+    ensures bounds { IfOk result (λ end. (at ≤ end) × (end ≤ length bytes.now)) }
+    ensures ends { IfOk result (λ end. EndsPlain (drop end bytes.now)) }
+    ensures text_bytes { OnOk result (All IsTextByte text.old.items → All IsTextByte text.new.items) }
+    ensures read { IfOk result (λ end. (s : Stack) → run (drop at bytes.now) at (in_text text.old.items) s ≡ run (drop end bytes.now) end (in_text text.new.items) s) }
+{
+    let end = plain_end(bytes, at);
+    text.extend_from_slice(&bytes[at..end])?;
+    Ok(end)
+}
+
+// The text whose first byte in quotes is at this place, and the place after its closing quote.
+fn read_text(alloc: Global, bytes: &[u8], start: usize) -> Result<(Text, usize), FormError>
+    requires { start ≤ length bytes.now }
+    ensures ok { IfOk result (λ r. (start < r.1) × (r.1 ≤ length bytes.now) × ((s : Stack) → run (drop start bytes.now) start (in_text []) s ≡ run (drop r.1 bytes.now) r.1 outside (with_form s (text r.0)))) }
+    ensures err { IfErr result (λ e. (s : Stack) → Tells e (run (drop start bytes.now) start (in_text []) s)) }
+{
+    let mut text = Vec::new(alloc);
+    let mut at = start;
+    loop {
+        let end = put_plain(&mut text, bytes, at)?;
+        match read_mark(bytes, end) {
+            Ok(Some(byte)) => {
+                text.push(byte)?;
+                at = end + 2;
+            }
+            Ok(None) => return Ok((Text::from_vec(alloc, text)?, end + 1)),
+            Err(error) => return Err(error),
+        }
+    }
 }
