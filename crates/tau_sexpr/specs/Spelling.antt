@@ -1,5 +1,7 @@
 -- How bytes spell forms: their tokens in order, with blanks and comments between them.
-use Rattle.std.specs.Prelude.{◌≡◌, ◌≢◌, ℕ, suc, List, [], ◌∷◌, ◌++◌, Some, IsTrue, false}
+use Rattle.std.specs.Prelude.{◌≡◌, ◌≢◌, ℕ, suc, List, [], ◌∷◌, ◌++◌, Some, IsTrue, false, Result, Err, ◌⊎◌}
+use Rattle.tau_sexpr.specs.declared.faults.FormError.{FormError}
+use Rattle.tau_sexpr.specs.declared.faults.FormError.TheVariants.{NoMemory}
 use Rattle.std.specs.List.{All}
 use Rattle.tau_sexpr.specs.Bytes.{is_blank, IsWordByte}
 use Rattle.tau_sexpr.specs.Kinds.{is_plain, meaning}
@@ -40,3 +42,7 @@ pub data Spells : ℕ → List ℕ → Trees → List ℕ → Type 0 where
 -- the bytes, all of them, spell these forms, and no list is deeper than 200
 abbrev pub IsSpelling : List ℕ → List Tree → Type 0
 IsSpelling bs ts = Spells 200 bs (inside ts) []
+
+-- the answer, or want of memory in its place
+abbrev pub IsUnlessNoMemory : Result (List Tree) FormError → Result (List Tree) FormError → Type 0
+IsUnlessNoMemory result answer = (result ≡ answer) ⊎ (result ≡ Err NoMemory)

@@ -10,6 +10,7 @@ mod words;
 
 pub use bytes::{are_text_bytes, are_word_bytes, is_text_byte, is_word_byte};
 pub use faults::FormError;
+pub use reader::read_forms;
 pub use texts::Text;
 pub use trees::{Form, Forms};
 pub use words::Word;

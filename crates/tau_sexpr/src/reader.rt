@@ -1,9 +1,11 @@
 //! Reading forms.
-ghost use Rattle.std.specs.Prelude.{◌≡◌, ◌≢◌, ◌+◌, ◌<◌, ◌≤◌, ◌⊎◌, ℕ, List, [], length, drop, slice_range, IsTrue, Result, Ok, Err, IfOk, IfErr, OnOk, All, IfSome, IfNone, ◌∷◌, ◌++◌};
+ghost use Rattle.std.specs.Prelude.{◌≡◌, ◌≢◌, ◌+◌, ◌<◌, ◌≤◌, ◌⊎◌, ℕ, List, [], length, drop, slice_range, slice_index, IsTrue, Result, Ok, Err, IfOk, IfErr, OnOk, All, IfSome, IfNone, ◌∷◌, ◌++◌};
 ghost use Rattle.tau_sexpr.specs.Bytes.{IsWordByte, IsTextByte};
-ghost use Rattle.tau_sexpr.specs.Kinds.{is_plain};
-ghost use Rattle.tau_sexpr.specs.Spelling.{EndsWord, EndsLine, EndsPlain};
-ghost use Rattle.tau_sexpr.specs.Tree.{text};
+ghost use Rattle.tau_sexpr.specs.Kinds.{is_plain, kind_of};
+ghost use Rattle.tau_sexpr.specs.Spelling.{EndsWord, EndsLine, EndsPlain, IsSpelling, IsUnlessNoMemory};
+ghost use Rattle.tau_sexpr.specs.Faults.{IsFirstFault};
+ghost use Rattle.tau_sexpr.specs.declared.faults.FormError.{FormError};
+ghost use Rattle.tau_sexpr.specs.Tree.{Tree, word, text, depths, HasWords};
 ghost use Rattle.tau_sexpr.specs.Form.{tree_of};
 ghost use Rattle.tau_sexpr.specs.Reader.{Stack, stack, stack_of, with_form, step_outside, ended, run, read_all, outside, in_text, in_pair, Steps, Tells, Gives};
 
@@ -11,6 +13,25 @@ use crate::bytes::{ByteKind, is_plain as is_plain_byte, is_word_byte, kind, mean
 use crate::{Form, FormError, Forms, Text, Word};
 use std::alloc::{AllocError, Global};
 use std::mem;
+
+/// Reads the forms of a text, given by its bytes (docs/formats.md, "Texts and forms").
+///
+/// The error is the first fault of the text with its place, in bytes counted from 0, or want of memory:
+/// `BadByte`, a byte that may not stand outside of texts in quotes and comments; `Unopened`, a `)` where no list is
+/// open; `Unclosed`, the length, where the text ends in a list or in quotes; `BadText`, a byte that may not stand in
+/// quotes where it does; `TooDeep`, a `(` where 200 lists are open.
+pub fn read_forms(alloc: Global, bytes: &[u8]) -> Result<Forms, FormError>
+    ensures spelled { IfOk result (λ forms. IsSpelling bytes.now forms) }
+    ensures read { (ts : List Tree) → IsSpelling bytes.now ts → IsUnlessNoMemory result (Ok ts) }
+
+    ensures faulty { IfErr result (λ e. e ≢ FormError.NoMemory → IsFirstFault bytes.now e) }
+    ensures first_fault { (e : FormError) → IsFirstFault bytes.now e → IsUnlessNoMemory result (Err e) }
+
+    ensures depth { IfOk result (λ forms. depths forms ≤ 200) }
+    ensures words { IfOk result (λ forms. All HasWords forms) }
+{
+    read_whole(alloc, bytes)
+}
 
 /// How many lists may be open.
 const DEPTH: usize = 200;
@@ -200,4 +221,60 @@ fn read_text(alloc: Global, bytes: &[u8], start: usize) -> Result<(Text, usize),
             Err(error) => return Err(error),
         }
     }
+}
+
+// The word that begins at this place, and the place after it.
+fn read_word(alloc: Global, bytes: &[u8], at: usize) -> Result<(Word, usize), AllocError>
+    requires within { at < length bytes.now }
+    requires begins { kind_of (slice_index bytes.now at) ≡ ByteKind.OfWord }
+    ensures bounds { IfOk result (λ r. (at < r.1) × (r.1 ≤ length bytes.now)) }
+    ensures read { IfOk result (λ r. (s : Stack) → run (drop at bytes.now) at outside s ≡ run (drop r.1 bytes.now) r.1 outside (with_form s (word r.0))) }
+{
+    let end = word_end(bytes, at + 1);
+    let word = Word::of(alloc, &bytes[at..end])?;
+    Ok((word, end))
+}
+
+// Takes the token, the comment or the blank at this place, and gives the place after it.
+fn read_token(alloc: Global, held: &mut OpenLists, bytes: &[u8], at: usize) -> Result<usize, FormError>
+    requires { at < length bytes.now }
+    ensures bounds { IfOk result (λ next. (at < next) × (next ≤ length bytes.now)) }
+    ensures ok { IfOk result (λ next. run (drop at bytes.now) at outside (stack_of held.old) ≡ run (drop next bytes.now) next outside (stack_of held.new)) }
+    ensures err { IfErr result (λ e. Tells e (run (drop at bytes.now) at outside (stack_of held.old))) }
+{
+    match kind(bytes[at]) {
+        ByteKind::Blank => Ok(at + 1),
+        ByteKind::Semicolon => Ok(line_end(bytes, at + 1)),
+        ByteKind::Opening => {
+            held.open(at)?;
+            Ok(at + 1)
+        }
+        ByteKind::Closing => {
+            held.close(at)?;
+            Ok(at + 1)
+        }
+        ByteKind::Quote => {
+            let (text, next) = read_text(alloc, bytes, at + 1)?;
+            held.add(Form::Text(text))?;
+            Ok(next)
+        }
+        ByteKind::OfWord => {
+            let (word, next) = read_word(alloc, bytes, at)?;
+            held.add(Form::Word(word))?;
+            Ok(next)
+        }
+        ByteKind::Other => Err(FormError::BadByte { at: at as u64 }),
+    }
+}
+
+// All forms of the bytes.
+fn read_whole(alloc: Global, bytes: &[u8]) -> Result<Forms, FormError>
+    ensures { Gives result (read_all bytes.now) }
+{
+    let mut held = OpenLists::new(alloc);
+    let mut at = 0;
+    while at < bytes.len() {
+        at = read_token(alloc, &mut held, bytes, at)?;
+    }
+    held.finish(at)
 }
