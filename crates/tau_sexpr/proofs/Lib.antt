@@ -7,3 +7,4 @@ pub mod FaultLemmas
 pub mod LawLemmas
 pub mod ScanLemmas
 pub mod PlaceLemmas
+pub mod PrintLemmas
