@@ -28,12 +28,12 @@ one_error r e f one two = cc
 pub fault_read : (bs : List ℕ) (e : FormError) → IsFirstFault bs e → read_all bs ≡ Err e
 fault_read bs e h = by (read_all bs) (judge_all bs)
   where
-  by : (r : Result (List Tree) FormError) → Judged bs r → r ≡ Err e
-  by (Ok ts) none = absurd (none e h.fault)
-  by (Err f) first =
-      let one : place_of e ≤ place_of f = h.first f first.fault in
-      let two : place_of f ≤ place_of e = first.first e h.fault in
-      ap (λ g. Err g) (one_fault bs f e first.fault h.fault (omega arith))
+    by : (r : Result (List Tree) FormError) → Judged bs r → r ≡ Err e
+    by (Ok ts) none = absurd (none e h.fault)
+    by (Err f) first =
+        let one : place_of e ≤ place_of f = h.first f first.fault in
+        let two : place_of f ≤ place_of e = first.first e h.fault in
+        ap (λ g. Err g) (one_fault bs f e first.fault h.fault (omega arith))
 
 pub read_fault : (bs : List ℕ) (e : FormError) → read_all bs ≡ Err e → IsFirstFault bs e
 read_fault bs e h = subst (Judged bs) h (judge_all bs)
@@ -47,9 +47,9 @@ without_fault bs ts e h = subst (Judged bs) (spelled_read bs ts h) (judge_all bs
 pub forms_or_fault : (bs : List ℕ) → HasFormsOrFault bs
 forms_or_fault bs = by (read_all bs) refl
   where
-  by : (r : Result (List Tree) FormError) → read_all bs ≡ r → HasFormsOrFault bs
-  by (Ok ts) e = inl (ts, read_spells bs ts e)
-  by (Err f) e = inr (f, read_fault bs f e)
+    by : (r : Result (List Tree) FormError) → read_all bs ≡ r → HasFormsOrFault bs
+    by (Ok ts) e = inl (ts, read_spells bs ts e)
+    by (Err f) e = inr (f, read_fault bs f e)
 
 pub fails_once : (bs : List ℕ) → FailsOnce bs
 fails_once bs e f one two = one_error (read_all bs) e f (fault_read bs e one) (fault_read bs f two)

@@ -46,11 +46,11 @@ pub meaning_text : (b c : ℕ) → meaning b ≡ Some c → IsTextByte c
 unfolding meaning is_text_byte
 meaning_text b c e = by (b == 34) (b == 92) (b == 110) e
   where
-  by : (x y z : Bool) → (if x then Some 34 else if y then Some 92 else if z then Some 10 else None) ≡ Some c → IsTextByte c
-  by true y z e = let is : 34 ≡ c = cc in subst IsTextByte is refl
-  by false true z e = let is : 92 ≡ c = cc in subst IsTextByte is refl
-  by false false true e = let is : 10 ≡ c = cc in subst IsTextByte is refl
-  by false false false e = absurd (cc)
+    by : (x y z : Bool) → (if x then Some 34 else if y then Some 92 else if z then Some 10 else None) ≡ Some c → IsTextByte c
+    by true y z e = let is : 34 ≡ c = cc in subst IsTextByte is refl
+    by false true z e = let is : 92 ≡ c = cc in subst IsTextByte is refl
+    by false false true e = let is : 10 ≡ c = cc in subst IsTextByte is refl
+    by false false false e = absurd (cc)
 
 pub quote_read : (bs : List ℕ) (at : ℕ) → at < length bs → get_or bs at 0 ≡ 34 → (u : List ℕ) (s : Stack) → run (drop at bs) at (in_text u) s ≡ run (drop (at + 1) bs) (at + 1) outside (with_form s (text u))
 unfolding step

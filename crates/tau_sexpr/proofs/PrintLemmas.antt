@@ -50,11 +50,11 @@ quotes_byte : (b : ℕ) (bs t rest : List ℕ) → IsTextByte b → Quotes bs t 
 unfolding quoted_byte meaning
 quotes_byte b bs t rest is quotes = by (b == 34) (b == 92) (b == 10) refl refl refl
   where
-  by : (x y z : Bool) → (b == 34) ≡ x → (b == 92) ≡ y → (b == 10) ≡ z → Quotes ((if x then 92 ∷ 34 ∷ [] else if y then 92 ∷ 92 ∷ [] else if z then 92 ∷ 110 ∷ [] else b ∷ []) ++ bs) (b ∷ t) rest
-  by true y z ex ey ez = subst (λ c. Quotes (92 ∷ 34 ∷ bs) (c ∷ t) rest) (sym (eqb-true b 34 ex)) (pair refl quotes)
-  by false true z ex ey ez = subst (λ c. Quotes (92 ∷ 92 ∷ bs) (c ∷ t) rest) (sym (eqb-true b 92 ey)) (pair refl quotes)
-  by false false true ex ey ez = subst (λ c. Quotes (92 ∷ 110 ∷ bs) (c ∷ t) rest) (sym (eqb-true b 10 ez)) (pair refl quotes)
-  by false false false ex ey ez = plain (text_plain b is ex ey ez) quotes
+    by : (x y z : Bool) → (b == 34) ≡ x → (b == 92) ≡ y → (b == 10) ≡ z → Quotes ((if x then 92 ∷ 34 ∷ [] else if y then 92 ∷ 92 ∷ [] else if z then 92 ∷ 110 ∷ [] else b ∷ []) ++ bs) (b ∷ t) rest
+    by true y z ex ey ez = subst (λ c. Quotes (92 ∷ 34 ∷ bs) (c ∷ t) rest) (sym (eqb-true b 34 ex)) (pair refl quotes)
+    by false true z ex ey ez = subst (λ c. Quotes (92 ∷ 92 ∷ bs) (c ∷ t) rest) (sym (eqb-true b 92 ey)) (pair refl quotes)
+    by false false true ex ey ez = subst (λ c. Quotes (92 ∷ 110 ∷ bs) (c ∷ t) rest) (sym (eqb-true b 10 ez)) (pair refl quotes)
+    by false false false ex ey ez = plain (text_plain b is ex ey ez) quotes
 
 quotes_text : (t bs : List ℕ) → All IsTextByte t → Quotes (flat_map quoted_byte t ++ 34 ∷ bs) t bs
 quotes_text [] bs all = closing

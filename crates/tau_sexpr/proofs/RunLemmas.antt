@@ -107,21 +107,21 @@ run_forms (a_word {b = b} w bs {rest = rest} {ts = ts} all ends spelled) at list
     run_outside b (w ++ bs) at (stack lists forms) OfWord (kind_word b (All-head IsWordByte b w all))
     ∙ run_word w bs (b ∷ []) (All-tail IsWordByte b w all) ends (at + 1) (stack lists forms) z
     (λ p e. run_forms spelled p lists (forms ++ word (b ∷ w) ∷ []) depth z
-        (λ at. ap (λ us. run rest at outside (stack lists us)) (append_assoc forms (word (b ∷ w) ∷ []) (items_of ts)) ∙ k at))
+    (λ at. ap (λ us. run rest at outside (stack lists us)) (append_assoc forms (word (b ∷ w) ∷ []) (items_of ts)) ∙ k at))
 run_forms (a_text {bs = bs} {t = t} {after = after} {rest = rest} {ts = ts} quotes spelled) at lists forms depth z k =
     run_outside 34 bs at (stack lists forms) Quote kind_quote
     ∙ run_text quotes [] (at + 1) (stack lists forms) z
     (λ at. run_forms spelled at lists (forms ++ text t ∷ []) depth z
-        (λ at. ap (λ us. run rest at outside (stack lists us)) (append_assoc forms (text t ∷ []) (items_of ts)) ∙ k at))
+    (λ at. ap (λ us. run rest at outside (stack lists us)) (append_assoc forms (text t ∷ []) (items_of ts)) ∙ k at))
 run_forms (a_list {d = d} {bs = bs} {after = after} {rest = rest} {us = us} {ts = ts} inner spelled) at lists forms depth z k =
     let room : length lists < 200 = omega arith in
     let opened : run (40 ∷ bs) at outside (stack lists forms) ≡ run bs (at + 1) outside (stack (forms ∷ lists) []) =
-        run_outside 40 bs at (stack lists forms) Opening kind_opening
-        ∙ ap (λ t. and_then (if t then Ok (reader (at + 1) outside (stack (forms ∷ lists) [])) else Err (TooDeep at)) (go_on bs)) (lt-ltb (length lists) 200 room) in
+    run_outside 40 bs at (stack lists forms) Opening kind_opening
+    ∙ ap (λ t. and_then (if t then Ok (reader (at + 1) outside (stack (forms ∷ lists) [])) else Err (TooDeep at)) (go_on bs)) (lt-ltb (length lists) 200 room) in
     let deeper : length (forms ∷ lists) + d ≡ 200 = omega arith in
     opened
     ∙ run_forms inner (at + 1) (forms ∷ lists) [] deeper z
     (λ at. run_outside 41 after at (stack (forms ∷ lists) (items_of us)) Closing kind_closing
-        ∙ ap (λ vs. run after (at + 1) outside (stack lists (forms ++ list vs ∷ []))) (inside-items_of us)
-        ∙ run_forms spelled (at + 1) lists (forms ++ list us ∷ []) depth z
-        (λ at. ap (λ us. run rest at outside (stack lists us)) (append_assoc forms (list us ∷ []) (items_of ts)) ∙ k at))
+    ∙ ap (λ vs. run after (at + 1) outside (stack lists (forms ++ list vs ∷ []))) (inside-items_of us)
+    ∙ run_forms spelled (at + 1) lists (forms ++ list us ∷ []) depth z
+    (λ at. ap (λ us. run rest at outside (stack lists us)) (append_assoc forms (list us ∷ []) (items_of ts)) ∙ k at))

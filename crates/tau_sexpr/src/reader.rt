@@ -236,7 +236,12 @@ fn read_word(alloc: Global, bytes: &[u8], at: usize) -> Result<(Word, usize), Al
 }
 
 // Takes the token, the comment or the blank at this place, and gives the place after it.
-fn read_token(alloc: Global, held: &mut OpenLists, bytes: &[u8], at: usize) -> Result<usize, FormError>
+fn read_token(
+    alloc: Global,
+    held: &mut OpenLists,
+    bytes: &[u8],
+    at: usize,
+) -> Result<usize, FormError>
     requires { at < length bytes.now }
     ensures bounds { IfOk result (λ next. (at < next) × (next ≤ length bytes.now)) }
     ensures ok { IfOk result (λ next. run (drop at bytes.now) at outside (stack_of held.old) ≡ run (drop next bytes.now) next outside (stack_of held.new)) }
