@@ -1,17 +1,16 @@
 -- The reader's fault is the first fault of the bytes.
-use Rattle.std.proofs.Common.{◌≡◌, ◌≢◌, ℕ, zero, suc, ◌+◌, ◌-◌, ◌<◌, ◌≤◌, ◌==◌, nat_lt, Bool, true, false, if◌then◌else◌, IsTrue, List, [], ◌∷◌, ◌++◌, length, drop, slice_get, Option, Some, None, Result, Ok, Err, refl, sym, ap, subst, ap₂, ◌∙◌, arith, length-drop, ◌⊎◌, ⊎_elim, inl, inr}
+use Rattle.std.proofs.Common.{◌≡◌, ◌≢◌, ℕ, zero, suc, ◌+◌, ◌<◌, ◌≤◌, ◌==◌, nat_lt, Bool, true, false, if◌then◌else◌, List, [], ◌∷◌, ◌++◌, length, drop, slice_get, Option, Some, None, Result, Ok, Err, refl, sym, ap, subst, ap₂, ◌∙◌, arith, length-drop, ◌⊎◌, ⊎_elim, inl, inr}
 use borrow.Author.Tests.{ltb-true, ltb-false}
-use Rattle.tau_sexpr.specs.Tree.{Tree, word, text, list, inside}
+use Rattle.tau_sexpr.specs.Tree.{Tree, word, text}
 use Rattle.tau_sexpr.specs.Kinds.{kind_of, is_plain, meaning}
 use Rattle.tau_sexpr.specs.Faults.{Part, in_comment, in_quotes, after_backslash, Lexical, lexical, moved_outside, moved, moved_by, state_at, place_of, IsBadInQuotes, IsBad, IsOpen, IsFault, a_byte, the_end, IsFirstFault}
 use Rattle.tau_sexpr.specs.Faults as faults
-use Rattle.tau_sexpr.specs.Reader.{Stack, stack, Reader, reader, Mode, outside, comment, in_word, in_text, in_pair, with_form, step, step_outside, step_word, step_text, step_pair, ended, closed, finish, and_then, run, read_all}
+use Rattle.tau_sexpr.specs.Reader.{Stack, stack, Reader, reader, Mode, outside, comment, in_word, in_text, in_pair, with_form, step, step_outside, step_word, step_pair, ended, closed, finish, and_then, run, read_all}
 use Rattle.tau_sexpr.specs.declared.bytes.ByteKind.{ByteKind}
 use Rattle.tau_sexpr.specs.declared.bytes.ByteKind.TheVariants.{Blank, Semicolon, Opening, Closing, Quote, OfWord, Other}
 use Rattle.tau_sexpr.specs.declared.faults.FormError.{FormError}
 use Rattle.tau_sexpr.specs.declared.faults.FormError.TheVariants.{BadByte, Unopened, Unclosed, BadText, TooDeep, NoMemory}
 use Rattle.tau_sexpr.proofs.RunLemmas.{go_on}
-use Rattle.tau_sexpr.proofs.KindLemmas.{plain_tests}
 
 -- what a mode lies in
 abbrev part_of : Mode → Part

@@ -1,12 +1,12 @@
 -- Spelling and first faults, by the reader.
-use Rattle.std.proofs.Common.{◌≡◌, ◌≢◌, ℕ, ◌≤◌, List, [], ◌∷◌, ◌++◌, Result, Ok, Err, refl, sym, ap, subst, ◌∙◌, ◌⊎◌, ⊎_elim, inl, inr, arith}
+use Rattle.std.proofs.Common.{◌≡◌, ◌≢◌, ℕ, ◌≤◌, List, [], Result, Ok, Err, refl, sym, ap, subst, ◌⊎◌, ⊎_elim, inl, inr, arith}
 use Rattle.std.specs.Result.{IfOk, IfErr}
 use Rattle.std.specs.List.{All}
-use Rattle.tau_sexpr.specs.Tree.{Tree, Trees, inside, items_of, items_of-inside, depth_of_all, depths, depth_of_all-inside, HasWords, AllHaveWords, All-items_of}
+use Rattle.tau_sexpr.specs.Tree.{Tree, Trees, inside, items_of-inside, depth_of_all, depths, depth_of_all-inside, HasWords, AllHaveWords, All-items_of}
 use Rattle.tau_sexpr.specs.Spelling.{Spells, at_end, at_closing, a_blank, a_comment, a_word, a_text, a_list, IsSpelling, IsUnlessNoMemory}
-use Rattle.tau_sexpr.specs.Faults.{place_of, IsFault, IsFirstFault}
+use Rattle.tau_sexpr.specs.Faults.{place_of, IsFirstFault}
 use Rattle.tau_sexpr.specs.Laws.{SpellsOnce, SpellsWithoutFault, HasFormsOrFault, FailsOnce}
-use Rattle.tau_sexpr.specs.Reader.{stack, outside, run, finish, read_all, Tells, Gives}
+use Rattle.tau_sexpr.specs.Reader.{run, finish, read_all, Tells, Gives}
 use Rattle.tau_sexpr.specs.declared.faults.FormError.{FormError}
 use Rattle.tau_sexpr.specs.declared.faults.FormError.TheVariants.{BadByte, Unopened, Unclosed, BadText, TooDeep, NoMemory}
 use Rattle.tau_sexpr.proofs.RunLemmas.{run_forms}

@@ -1,5 +1,5 @@
 -- What the reader does at a place of the bytes.
-use Rattle.std.proofs.Common.{◌≡◌, ◌≢◌, ℕ, suc, ◌+◌, ◌-◌, ◌<◌, ◌≤◌, ◌==◌, Bool, true, false, if◌then◌else◌, IsTrue, List, [], ◌∷◌, ◌++◌, length, take, drop, get_or, Option, Some, None, Result, Ok, Err, refl, sym, ap, ap₂, subst, ◌∙◌, arith}
+use Rattle.std.proofs.Common.{◌≡◌, ◌≢◌, ℕ, suc, ◌+◌, ◌-◌, ◌<◌, ◌≤◌, ◌==◌, Bool, true, false, if◌then◌else◌, IsTrue, List, [], ◌∷◌, ◌++◌, length, take, drop, get_or, Some, None, Result, Ok, Err, refl, sym, ap, ap₂, subst, ◌∙◌, arith}
 use Rattle.std.specs.List.{All, slice_range}
 use Rattle.std.proofs.lemmas.List.{drop_more, drop_all}
 use Rattle.std.proofs.lemmas.List.Elements.{All-cons}
@@ -8,7 +8,7 @@ use Rattle.tau_sexpr.specs.Tree.{Tree, word, text}
 use Rattle.tau_sexpr.specs.Bytes.{IsWordByte, IsTextByte, is_text_byte}
 use Rattle.tau_sexpr.specs.Kinds.{kind_of, is_plain, meaning}
 use Rattle.tau_sexpr.specs.Spelling.{EndsWord, EndsLine, EndsPlain}
-use Rattle.tau_sexpr.specs.Reader.{Stack, stack, Reader, reader, Mode, outside, comment, in_word, in_text, in_pair, with_form, step, step_outside, step_text, step_pair, finish, ended, and_then, run, Tells, TellsStep, Gives}
+use Rattle.tau_sexpr.specs.Reader.{Stack, Reader, reader, Mode, outside, comment, in_word, in_text, in_pair, with_form, step, step_outside, step_text, step_pair, finish, ended, and_then, run, Tells, TellsStep, Gives}
 use Rattle.tau_sexpr.specs.declared.bytes.ByteKind.{ByteKind}
 use Rattle.tau_sexpr.specs.declared.faults.FormError.{FormError}
 use Rattle.tau_sexpr.specs.declared.faults.FormError.TheVariants.{BadByte, Unopened, Unclosed, BadText, TooDeep, NoMemory}

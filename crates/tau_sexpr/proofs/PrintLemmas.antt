@@ -1,5 +1,5 @@
 -- What is printed spells its forms.
-use Rattle.std.proofs.Common.{◌≡◌, ◌≢◌, ℕ, zero, suc, ◌+◌, ◌*◌, ◌<◌, ◌≤◌, ◌==◌, Bool, true, false, if◌then◌else◌, IsTrue, List, [], ◌∷◌, ◌++◌, length, map, take, get_or, Some, Result, Ok, Err, Vec, refl, sym, ap, subst, ◌∙◌, arith, append_assoc, append-nil}
+use Rattle.std.proofs.Common.{◌≡◌, ◌≢◌, ℕ, zero, suc, ◌+◌, ◌<◌, ◌≤◌, ◌==◌, Bool, true, false, if◌then◌else◌, IsTrue, List, [], ◌∷◌, ◌++◌, length, map, take, get_or, Result, Ok, Err, Vec, refl, sym, ap, subst, ◌∙◌, arith, append_assoc, append-nil}
 use Rattle.std.specs.List.{All, flat_map}
 use Rattle.std.specs.Result.{IfOk, OnOk}
 use Rattle.std.specs.declared.alloc.AllocError.{AllocError}
@@ -10,7 +10,7 @@ use Rattle.std.proofs.lemmas.List.Elements.{All-head, All-tail, All-push}
 use borrow.Author.Tests.{ne_eqb}
 use Rattle.std.proofs.lemmas.Bool.{eqb-true}
 use Rattle.std.proofs.lemmas.Bool.Decides.{nat_tests}
-use Rattle.tau_sexpr.specs.Tree.{Tree, Trees, word, text, list, none, more, inside, size_of, sizes, depth_of, depth_of_all, depths, depth_of_all-inside, HasWords, AllHaveWords}
+use Rattle.tau_sexpr.specs.Tree.{Tree, Trees, word, text, list, none, more, inside, size_of, sizes, depth_of, depth_of_all, depths, HasWords, AllHaveWords}
 use Rattle.tau_sexpr.specs.Bytes.{is_blank, is_letter_or_digit, is_word_sign, is_word_byte, is_text_byte, IsWordByte, IsTextByte}
 use Rattle.tau_sexpr.specs.Kinds.{is_plain, meaning}
 use Rattle.tau_sexpr.specs.Spelling.{EndsWord, Quotes, closing, plain, pair, Spells, at_end, at_closing, a_blank, a_word, a_text, a_list, IsSpelling}

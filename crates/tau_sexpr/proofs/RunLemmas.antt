@@ -1,14 +1,14 @@
 -- What the reader does over whole tokens.
-use Rattle.std.proofs.Common.{◌≡◌, ◌≢◌, ℕ, suc, ◌+◌, ◌<◌, ◌==◌, nat_lt, Bool, true, false, if◌then◌else◌, IsTrue, List, [], ◌∷◌, ◌++◌, length, Option, Some, None, Result, Ok, Err, refl, sym, ap, ap₂, subst, ◌∙◌, arith, append_assoc, append-nil}
+use Rattle.std.proofs.Common.{◌≡◌, ◌≢◌, ℕ, ◌+◌, ◌<◌, ◌==◌, Bool, true, false, if◌then◌else◌, IsTrue, List, [], ◌∷◌, ◌++◌, length, Result, Ok, Err, refl, sym, ap, ap₂, ◌∙◌, arith, append_assoc, append-nil}
 use Rattle.std.specs.List.{All}
 use Rattle.std.proofs.lemmas.List.Elements.{All-head, All-tail}
-use Rattle.std.proofs.lemmas.Bool.{eqb-true, eq-eqb}
+use Rattle.std.proofs.lemmas.Bool.{eq-eqb}
 use borrow.Author.Tests.{ne_eqb, lt-ltb}
-use Rattle.tau_sexpr.specs.Tree.{Tree, Trees, word, text, list, none, more, inside, items_of, inside-items_of}
-use Rattle.tau_sexpr.specs.Bytes.{is_blank, IsWordByte}
-use Rattle.tau_sexpr.specs.Kinds.{kind_of, is_plain, meaning}
+use Rattle.tau_sexpr.specs.Tree.{Tree, Trees, word, text, list, items_of, inside-items_of}
+use Rattle.tau_sexpr.specs.Bytes.{IsWordByte}
+use Rattle.tau_sexpr.specs.Kinds.{kind_of, is_plain}
 use Rattle.tau_sexpr.specs.Spelling.{EndsWord, EndsLine, Quotes, closing, plain, pair, Spells, at_end, at_closing, a_blank, a_comment, a_word, a_text, a_list}
-use Rattle.tau_sexpr.specs.Reader.{Stack, stack, Reader, reader, Mode, outside, comment, in_word, in_text, in_pair, with_form, step, step_outside, step_word, step_text, step_pair, finish, and_then, run}
+use Rattle.tau_sexpr.specs.Reader.{Stack, stack, Reader, reader, outside, comment, in_word, in_text, with_form, step, step_outside, step_word, step_pair, finish, and_then, run}
 use Rattle.tau_sexpr.specs.declared.bytes.ByteKind.{ByteKind}
 use Rattle.tau_sexpr.specs.declared.bytes.ByteKind.TheVariants.{Blank, Semicolon, Opening, Closing, Quote, OfWord, Other}
 use Rattle.tau_sexpr.specs.declared.faults.FormError.{FormError}
