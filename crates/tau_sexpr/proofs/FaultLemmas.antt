@@ -1,6 +1,6 @@
 -- The reader's fault is the first fault of the bytes.
 use Rattle.std.proofs.Common.{◌≡◌, ◌≢◌, ℕ, zero, suc, ◌+◌, ◌<◌, ◌≤◌, ◌==◌, nat_lt, Bool, true, false, if◌then◌else◌, List, [], ◌∷◌, ◌++◌, length, drop, slice_get, Option, Some, None, Result, Ok, Err, refl, sym, ap, subst, ap₂, ◌∙◌, arith, length-drop, ◌⊎◌, ⊎_elim, inl, inr}
-use borrow.Author.Tests.{ltb-true, ltb-false}
+use borrow.Author.Tests.{ltb-true, ltb-false, eqb-true, eqb-false}
 use Rattle.tau_sexpr.specs.Tree.{Tree, word, text}
 use Rattle.tau_sexpr.specs.Kinds.{kind_of, is_plain, meaning}
 use Rattle.tau_sexpr.specs.Faults.{Part, in_comment, in_quotes, after_backslash, Lexical, lexical, moved_outside, moved, moved_by, state_at, place_of, IsBadInQuotes, IsBad, IsOpen, IsFault, a_byte, the_end, IsFirstFault}
@@ -105,21 +105,21 @@ judge_text b at t s le true y z ex ey ez = (
   ap (λ x. lexical (if x then faults.outside else if b == 92 then after_backslash else in_quotes) (length s.lists)) (sym ex),
   omega arith,
   le,
-  fine_inside in_quotes (length s.lists) b (λ h. cc) (λ bad. let no : (b == 34) ≡ false = bad.0 in absurd (cc)),
+  fine_inside in_quotes (length s.lists) b (λ h. cc) (λ bad. bad.0 (eqb-true b 34 ex)),
 )
 judge_text b at t s le false true z ex ey ez = (
   ap (λ x. lexical (if x then faults.outside else if true then after_backslash else in_quotes) (length s.lists)) (sym ex) ∙ ap (λ y. lexical (if b == 34 then faults.outside else if y then after_backslash else in_quotes) (length s.lists)) (sym ey),
   omega arith,
   le,
-  fine_inside in_quotes (length s.lists) b (λ h. cc) (λ bad. let no : (b == 92) ≡ false = bad.1 in absurd (cc)),
+  fine_inside in_quotes (length s.lists) b (λ h. cc) (λ bad. bad.1 (eqb-true b 92 ey)),
 )
 judge_text b at t s le false false true ex ey ez = (
   ap (λ x. lexical (if x then faults.outside else if false then after_backslash else in_quotes) (length s.lists)) (sym ex) ∙ ap (λ y. lexical (if b == 34 then faults.outside else if y then after_backslash else in_quotes) (length s.lists)) (sym ey),
   omega arith,
   le,
-  fine_inside in_quotes (length s.lists) b (λ h. cc) (λ bad. let no : is_plain b ≡ false = bad.2 in absurd (cc)),
+  fine_inside in_quotes (length s.lists) b (λ h. cc) (λ bad. bad.2 ez),
 )
-judge_text b at t s le false false false ex ey ez = ((ex, ey, ez), refl)
+judge_text b at t s le false false false ex ey ez = ((eqb-false b 34 ex, eqb-false b 92 ey, λ h. cc), refl)
 
 judge_pair : (b at : ℕ) (t : List ℕ) (s : Stack) → length s.lists ≤ 200 → (o : Option ℕ) → meaning b ≡ o → Judges after_backslash (length s.lists) b at (step_pair o t at s)
 judge_pair b at t s le None is = (is, refl)

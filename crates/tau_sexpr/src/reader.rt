@@ -243,7 +243,8 @@ fn read_token(
 ) -> Result<usize, FormError>
     requires { at < length bytes.now }
     ensures bounds { IfOk result (λ next. (at < next) × (next ≤ length bytes.now)) }
-    ensures ok { let whole = reading bytes.now at outside (stack_of held.old) in IfOk result (λ next. whole ≡ reading bytes.now next outside (stack_of held.new)) }
+    ensures ok { IfOk result (λ next. reading bytes.now at outside (stack_of held.old)
+        ≡ reading bytes.now next outside (stack_of held.new)) }
     ensures err { IfErr result (λ e. Tells e (reading bytes.now at outside (stack_of held.old))) }
 {
     match kind(bytes[at]) {

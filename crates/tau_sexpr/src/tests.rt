@@ -80,55 +80,94 @@ fn names_the_first_fault(rt: HostRuntime) {
     assert!(rt; printed(rt.alloc(), &deep).is_ok());
 }
 
-#[test]
+// Two words, made by pushes and at once.
 #[tactic(auto, using(crate::proofs::Literals::word_literal), unfolding(crate::specs::Bytes::is_word_byte, crate::specs::Bytes::is_letter_or_digit, crate::specs::Bytes::is_word_sign))]
-fn holds_words(rt: HostRuntime) {
-    let mut word = Word::new(rt.alloc());
-    assert!(rt; word.is_empty() && word.push(b'a').is_ok() && word.push(b'-').is_ok());
-    assert_eq!(rt; word.bytes(), b"a-".as_slice());
-    assert_eq!(rt;
-        (word.len(), word.item(1), word.item(2)),
-        (2, Some(&b'-'), None)
-    );
-    assert!(rt; word.copy().is_ok_and(|copy| copy.same(&word)));
-    assert!(rt; Word::of(rt.alloc(), b"a").is_ok_and(|other| !other.same(&word)));
-    assert!(rt; is_word_byte(b'%') && !is_word_byte(b'"'));
-    assert!(rt; are_word_bytes(b"a-9") && !are_word_bytes(b"a b"));
+fn two_words(alloc: Global) -> Option<(Word, Word)> {
+    let mut word = Word::new(alloc);
+    word.push(b'a').ok()?;
+    word.push(b'-').ok()?;
+    Some((word, Word::of(alloc, b"a-").ok()?))
 }
 
 #[test]
-#[tactic(auto, using(crate::proofs::Literals::text_literal), unfolding(crate::specs::Bytes::is_text_byte))]
-fn holds_texts(rt: HostRuntime) {
-    let mut text = Text::new(rt.alloc());
-    assert!(rt; text.is_empty() && text.push(b'a').is_ok());
-    let copy = text.copy().unwrap_or(Text::new(rt.alloc()));
-    assert!(rt; copy.same(&text) && text.push(b'\n').is_ok() && !copy.same(&text));
+fn holds_words(rt: HostRuntime) {
+    assert!(rt; Word::new(rt.alloc()).is_empty());
+    let Some((word, other)) = two_words(rt.alloc()) else {
+        panic!(rt; "no words");
+    };
+    assert!(rt; word.same(&other));
+    assert_eq!(rt; (word.bytes(), word.len()), (b"a-".as_slice(), 2));
+    assert_eq!(rt; (word.item(1), word.item(2)), (Some(&b'-'), None));
+    assert!(rt; word.copy().is_ok());
+    assert_eq!(rt; (is_word_byte(b'%'), is_word_byte(b'"')), (true, false));
     assert_eq!(rt;
-        (copy.bytes(), text.bytes()),
-        (b"a".as_slice(), b"a\n".as_slice())
+        (are_word_bytes(b"a-9"), are_word_bytes(b"a b")),
+        (true, false)
+    );
+}
+
+// Two texts, made by pushes and at once, and a copy of the first before its last byte.
+#[tactic(auto, using(crate::proofs::Literals::text_literal), unfolding(crate::specs::Bytes::is_text_byte))]
+fn three_texts(alloc: Global) -> Option<(Text, Text, Text)> {
+    let mut text = Text::new(alloc);
+    text.push(b'a').ok()?;
+    let copy = text.copy().ok()?;
+    text.push(b'\n').ok()?;
+    Some((text, Text::of(alloc, b"a\n").ok()?, copy))
+}
+
+#[test]
+fn holds_texts(rt: HostRuntime) {
+    assert!(rt; Text::new(rt.alloc()).is_empty());
+    let Some((text, other, copy)) = three_texts(rt.alloc()) else {
+        panic!(rt; "no texts");
+    };
+    assert!(rt; text.same(&other));
+    assert_eq!(rt;
+        (text.bytes(), copy.bytes()),
+        (b"a\n".as_slice(), b"a".as_slice())
     );
     assert_eq!(rt;
         (text.len(), text.item(1), text.item(2)),
         (2, Some(&b'\n'), None)
     );
-    assert!(rt; Text::of(rt.alloc(), b"a\n").is_ok_and(|other| other.same(&text)));
-    assert!(rt; is_text_byte(b'~') && !is_text_byte(b'\r'));
-    assert!(rt; are_text_bytes(b"a\n") && !are_text_bytes(b"\t"));
+    assert_eq!(rt; (is_text_byte(b'~'), is_text_byte(b'\r')), (true, false));
+    assert_eq!(rt;
+        (are_text_bytes(b"a\n"), are_text_bytes(b"\t")),
+        (true, false)
+    );
+}
+
+// A text, and a list of a copy of it.
+fn two_forms(alloc: Global) -> Option<Forms> {
+    let mut forms = Forms::new(alloc);
+    forms.push(Form::Text(Text::new(alloc))).ok()?;
+    let copy = forms.copy().ok()?;
+    forms.push(Form::List(copy)).ok()?;
+    Some(forms)
 }
 
 #[test]
 fn holds_forms(rt: HostRuntime) {
-    let mut forms = Forms::new(rt.alloc());
-    assert!(rt; forms.is_empty() && forms.push(Form::Text(Text::new(rt.alloc()))).is_ok());
-    let copy = forms.copy().unwrap_or(Forms::new(rt.alloc()));
-    assert!(rt; copy.same(&forms) && forms.push(Form::List(copy)).is_ok());
+    assert!(rt; Forms::new(rt.alloc()).is_empty());
+    let Some(forms) = two_forms(rt.alloc()) else {
+        panic!(rt; "no forms");
+    };
     assert_eq!(rt;
         (forms.len(), forms.size(), forms.item(2).is_none()),
         (2, 3, true)
     );
-    let items = forms.items();
-    assert!(rt; items.len() == 2 && items[1].size() == 2 && !items[0].same(&items[1]));
-    assert!(rt; items[1].copy().is_ok_and(|copy| copy.same(&items[1])));
+    let Some(list) = forms.item(1) else {
+        panic!(rt; "no list");
+    };
+    assert_eq!(rt;
+        (list.size(), forms.same(&forms), forms.items().len()),
+        (2, true, 2)
+    );
+    let Ok(copy) = list.copy() else {
+        panic!(rt; "no copy");
+    };
+    assert!(rt; list.same(&copy));
     spelling_is_unique(b"a");
     forms_or_first_fault(b"(");
 }
