@@ -1,0 +1,6 @@
+pub mod Val
+pub mod Sizes
+pub mod Value
+pub mod Falls
+pub mod Names
+pub mod Places
