@@ -2,7 +2,9 @@
 #![tactic(auto)]
 
 mod name_list;
+mod number_words;
 mod shared;
 
 pub use name_list::{Names, is_name};
+pub use number_words::{count_of, integer_of, word_of_count, word_of_integer};
 pub use shared::{Value, Values, in_bounds, levels, names_below, parts};
