@@ -4,4 +4,6 @@ pub mod Value
 pub mod Falls
 pub mod Names
 pub mod Numbers
+pub mod Meaning
+pub mod Reading
 pub mod Places
