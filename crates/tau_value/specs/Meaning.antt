@@ -8,6 +8,8 @@ use Rattle.tau_value.specs.Val.{Val, Vals}
 use Rattle.tau_value.specs.Sizes.{IsInBounds}
 use Rattle.tau_value.specs.Names.{is_name, place_of}
 use Rattle.tau_value.specs.Numbers.{count_in, integer_in}
+use Rattle.tau_value.specs.declared.faults.ValueError.{ValueError}
+use Rattle.tau_value.specs.declared.faults.ValueError.TheVariants as errors
 
 -- the words that begin the forms of names and lists
 abbrev pub name_word : List ℕ
@@ -102,3 +104,9 @@ pub record IsFirstFault (names : List (List ℕ)) (bound : ℕ) (t : Tree) (n : 
   pub fault : FaultAt names bound t n f
   pub least : (m : ℕ) (g : Fault) → FaultAt names bound t m g → n ≤ m
   pub only : (g : Fault) → FaultAt names bound t n g → f ≡ g
+
+-- an error tells the first fault of a form; want of memory tells nothing
+abbrev pub IsFault : List (List ℕ) → ℕ → Tree → ValueError → Type 0
+IsFault names bound t (errors.Shape node) = IsFirstFault names bound t node shape
+IsFault names bound t (errors.Unknown node) = IsFirstFault names bound t node unknown
+IsFault names bound t errors.NoMemory = Unit {0}

@@ -10,4 +10,5 @@ mod shared;
 pub use faults::ValueError;
 pub use name_list::{Names, is_name};
 pub use number_words::{count_of, integer_of, word_of_count, word_of_integer};
+pub use reading::value_of;
 pub use shared::{Value, Values, in_bounds, levels, names_below, parts};

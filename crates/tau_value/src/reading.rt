@@ -1,17 +1,43 @@
 //! Values read from forms.
-ghost use Rattle.std.specs.Prelude.{◌≡◌, ◌^◌, ◌<◌, ◌≤◌, ◌∷◌, ℕ, List, length, map, option_map};
+ghost use Rattle.std.specs.Prelude.{◌≡◌, ◌^◌, ◌<◌, ◌≤◌, ◌∷◌, ℕ, List, length, map, option_map, IfOk, IfErr};
 ghost use Rattle.tau_sexpr.specs.Form.{tree_of};
 ghost use Rattle.tau_sexpr.specs.Tree as tree;
 ghost use Rattle.tau_sexpr.specs.Tree.{inside, more, none};
-ghost use Rattle.tau_value.specs.Meaning.{name_word, word_value, number_named, named, counted, counted_all};
+ghost use Rattle.tau_value.specs.Meaning.{Means, IsFault, name_word, word_value, number_named, named, counted, counted_all};
 ghost use Rattle.tau_value.specs.Numbers.{capped};
 ghost use Rattle.tau_value.specs.Reading.{HasHead, Reads, ReadsAll};
-ghost use Rattle.tau_value.specs.Sizes.{parts_of, levels_of, parts_of_all, levels_of_all};
+ghost use Rattle.tau_value.specs.Sizes.{IsInBounds, NamesBelow, parts_of, levels_of, parts_of_all, levels_of_all};
+ghost use Rattle.tau_value.specs.Val.{Val};
 ghost use Rattle.tau_value.specs.Value.{val_of};
 
 use crate::{Names, Value, ValueError, Values, count_of, integer_of, is_name};
 use std::alloc::Global;
 use tau_sexpr::{Form, Forms, Word};
+
+/// The value that a form means, read with the names of the starts and a bound for the numbers of transactors
+/// (docs/formats.md, "Values"). It is in bounds, and the names in it are below the bound.
+/// `Shape` and `Unknown` come exactly at the first fault of the form: the least faulty node, in preorder within the form
+/// from 0. The names are found by their first place.
+pub fn value_of(
+    alloc: Global,
+    form: &Form,
+    names: &Names,
+    bound: u32,
+) -> Result<Value, ValueError>
+    requires { length names.now ≤ bound }
+    ensures value { IfOk result (λ v. Means names.now bound (tree_of form.now) (val_of v)) }
+    ensures within { IfOk result (λ v. IsInBounds (val_of v)) }
+    ensures names { IfOk result (λ v. NamesBelow bound (val_of v)) }
+    ensures fault { IfErr result (IsFault names.now bound (tree_of form.now)) }
+    ensures read { (v : Val) → Means names.now bound (tree_of form.now) v → IfErr result (λ e. e ≡ ValueError.NoMemory) }
+{
+    let extent = extent_of(form, names, bound);
+    if extent.parts > 65_536 || extent.levels > 64 {
+        return Err(ValueError::Shape { node: 0 });
+    }
+    let mut node = 0;
+    read(alloc, form, names, bound, &mut node)
+}
 
 // How the items of a list begin: after the word `list` come items, after the word `name` one form.
 #[derive(Clone, Copy)]
