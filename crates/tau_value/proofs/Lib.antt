@@ -4,3 +4,4 @@ pub mod NameLemmas
 pub mod NumberLemmas
 pub mod ReadingLemmas
 pub mod ValueLemmas
+pub mod WrittenLemmas

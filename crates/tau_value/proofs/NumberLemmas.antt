@@ -57,14 +57,14 @@ number_in-digits (c ∷ cs) h =
     let digit : (48 ≤ c) × (c ≤ 57) = (tells_all_ascii_digits.parts c cs h).0 in
     rw (ne_eqb c 45 (λ e. omega arith)) refl
 
-pos_fits : (n : ℕ) → in_i64 (pos n) ≡ Some (pos n) → n < 2 ^ 64
+pub pos_fits : (n : ℕ) → in_i64 (pos n) ≡ Some (pos n) → n < 2 ^ 64
 pos_fits n h = by (nat_lt n (2 ^ 63)) refl h
   where
     by : (b : Bool) → nat_lt n (2 ^ 63) ≡ b → cond b (Some (pos n)) None ≡ Some (pos n) → n < 2 ^ 64
     by true e h = omega (arith, ltb-true n (2 ^ 63) e)
     by false e h = cc
 
-negsuc_fits : (n : ℕ) → in_i64 (negsuc n) ≡ Some (negsuc n) → suc n < 2 ^ 64
+pub negsuc_fits : (n : ℕ) → in_i64 (negsuc n) ≡ Some (negsuc n) → suc n < 2 ^ 64
 negsuc_fits n h = by (nat_lt n (2 ^ 63)) refl h
   where
     by : (b : Bool) → nat_lt n (2 ^ 63) ≡ b → cond b (Some (negsuc n)) None ≡ Some (negsuc n) → suc n < 2 ^ 64

@@ -6,4 +6,5 @@ pub mod Names
 pub mod Numbers
 pub mod Meaning
 pub mod Reading
+pub mod Written
 pub mod Places

@@ -1,5 +1,6 @@
 //! Number words, read and written.
 ghost use Rattle.std.specs.Prelude.{◌≡◌, ◌^◌, ◌-◌, ◌∷◌, Some, None, IfOk, All, pos, negsuc, option_map, option_and_then, if◌then◌else◌};
+ghost use Rattle.std.specs.Fmt.{decimal, signed_decimal};
 ghost use Rattle.std.specs.Str.{all_ascii_digits};
 ghost use Rattle.tau_sexpr.specs.Bytes.{IsWordByte};
 ghost use Rattle.tau_value.specs.Numbers.{number_after, count_in, negated, number_in, in_i64, integer_in, capped};
@@ -73,7 +74,8 @@ fn negated_of(count: u64) -> Option<i64>
 
 /// The count word of a number. The error is want of memory.
 pub fn word_of_count(alloc: Global, count: u64) -> Result<Word, AllocError>
-    ensures { IfOk result (λ w. count_in w ≡ Some count) }
+    ensures word { IfOk result (λ w. w ≡ decimal count) }
+    ensures read_back { IfOk result (λ w. count_in w ≡ Some count) }
 {
     let mut buffer = Buffer::new();
     Word::of(alloc, buffer.format(count).as_bytes())
@@ -81,7 +83,8 @@ pub fn word_of_count(alloc: Global, count: u64) -> Result<Word, AllocError>
 
 /// The number word of an integer. The error is want of memory.
 pub fn word_of_integer(alloc: Global, integer: i64) -> Result<Word, AllocError>
-    ensures { IfOk result (λ w. integer_in w ≡ Some integer) }
+    ensures word { IfOk result (λ w. w ≡ signed_decimal integer) }
+    ensures read_back { IfOk result (λ w. integer_in w ≡ Some integer) }
 {
     let mut buffer = Buffer::new();
     Word::of(alloc, buffer.format(integer).as_bytes())
