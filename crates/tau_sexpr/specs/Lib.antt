@@ -2,3 +2,9 @@ pub mod Bytes
 pub mod Tree
 pub mod Form
 pub mod Falls
+pub mod Kinds
+pub mod Spelling
+pub mod Faults
+pub mod Printing
+pub mod Reader
+pub mod Laws

@@ -1,0 +1,20 @@
+use Rattle.std.proofs.Common.{◌<◌, length, arith}
+use Rattle.tau_sexpr.proofs.FormLemmas.{size_of_list}
+use Rattle.tau_sexpr.proofs.PrintLemmas.{size_in, items_more, bytes_more}
+use Rattle.tau_sexpr.proofs.printer.+put.Goals as goal
+
+pub put_form-put_items-requires : goal.put_form-put_items-requires
+put_form-put_items-requires t c = (omega (arith, size_of_list c.args.form.now c.in-List.items c.in-List.is), tt)
+
+pub put_items-put_form-requires : goal.put_items-put_form-requires
+put_items-put_form-requires t c = (omega (arith, size_in c.items-items.result.now c.args.forms.now c.loop-k.k c.index-items-k.result c.items-items.ensures (omega arith) c.index-items-k.is), tt)
+
+pub put_items-loop-k-preserved : goal.put_items-loop-k-preserved
+put_items-loop-k-preserved t c =
+    let fs = c.items-items.result.now in
+    let lt : c.loop-k.k < length fs = omega arith in
+    record {
+      text = items_more fs c.loop-k.k c.index-items-k.result c.args.out.now.items c.loop-k.out.items c.put_gap.new.out.items c.put_form.new.out.items lt c.index-items-k.is c.loop-k.invariant.text c.in_ok-put_gap.ensures
+          c.in_ok-put_form.ensures.text;
+      bytes = bytes_more fs c.loop-k.k c.index-items-k.result lt c.index-items-k.is c.loop-k.invariant.bytes c.in_ok-put_form.ensures.bytes;
+    }

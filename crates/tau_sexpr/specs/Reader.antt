@@ -1,0 +1,123 @@
+-- The reader byte by byte, of which its private functions speak. No public clause cites this file.
+use Rattle.std.specs.Prelude.{◌≡◌, ◌≢◌, ℕ, ◌+◌, ◌==◌, nat_lt, List, [], ◌∷◌, ◌++◌, length, reverse, Result, Ok, Err, Option, Some, None, if◌then◌else◌}
+use Rattle.tau_sexpr.specs.Tree.{Tree, word, text, list, inside}
+use Rattle.tau_sexpr.specs.Kinds.{kind_of, is_plain, meaning}
+use Rattle.tau_sexpr.specs.declared.bytes.ByteKind.{ByteKind}
+use Rattle.tau_sexpr.specs.declared.bytes.ByteKind.TheVariants.{Blank, Semicolon, Opening, Closing, Quote, OfWord, Other}
+use Rattle.tau_sexpr.specs.declared.reader.OpenLists.{OpenLists}
+use Rattle.tau_sexpr.specs.declared.faults.FormError.{FormError}
+use Rattle.tau_sexpr.specs.declared.faults.FormError.TheVariants.{BadByte, Unopened, Unclosed, BadText, TooDeep, NoMemory}
+
+-- the lists that are open, innermost first, each by its forms so far, and the forms at hand
+pub record Stack : Type 0 where
+  pub lists : List (List Tree)
+  pub forms : List Tree
+
+abbrev pub stack : List (List Tree) → List Tree → Stack
+stack lists forms = record { lists = lists; forms = forms }
+
+-- what the reader is in, with the bytes of the word or the text so far
+pub data Mode : Type 0 where
+  outside comment : Mode
+  in_word in_text in_pair : List ℕ → Mode
+
+-- the reader at a place
+pub record Reader : Type 0 where
+  pub at : ℕ
+  pub mode : Mode
+  pub held : Stack
+
+abbrev pub reader : ℕ → Mode → Stack → Reader
+reader at mode held = record { at = at; mode = mode; held = held }
+
+-- one form more at hand
+abbrev pub with_form : Stack → Tree → Stack
+with_form s t = stack s.lists (s.forms ++ t ∷ [])
+
+-- a closing bracket
+abbrev pub closed : ℕ → List (List Tree) → List Tree → Result Reader FormError
+closed at [] forms = Err (Unopened at)
+closed at (o ∷ os) forms = Ok (reader (at + 1) outside (stack os (o ++ list (inside forms) ∷ [])))
+
+-- a byte outside, by its kind
+abbrev pub step_outside : ByteKind → ℕ → ℕ → Stack → Result Reader FormError
+step_outside Blank b at s = Ok (reader (at + 1) outside s)
+step_outside Semicolon b at s = Ok (reader (at + 1) comment s)
+step_outside Opening b at s = if nat_lt (length s.lists) 200 then Ok (reader (at + 1) outside (stack (s.forms ∷ s.lists) [])) else Err (TooDeep at)
+step_outside Closing b at s = closed at s.lists s.forms
+step_outside Quote b at s = Ok (reader (at + 1) (in_text []) s)
+step_outside OfWord b at s = Ok (reader (at + 1) (in_word (b ∷ [])) s)
+step_outside Other b at s = Err (BadByte at)
+
+-- a byte after a word that has begun, by its kind: one byte more, or the end of the word
+abbrev pub step_word : ByteKind → List ℕ → ℕ → ℕ → Stack → Result Reader FormError
+step_word OfWord w b at s = Ok (reader (at + 1) (in_word (w ++ b ∷ [])) s)
+step_word kind w b at s = step_outside kind b at (with_form s (word w))
+
+-- a byte in a text
+abbrev pub step_text : List ℕ → ℕ → ℕ → Stack → Result Reader FormError
+step_text t b at s =
+    if b == 34 then Ok (reader (at + 1) outside (with_form s (text t)))
+    else if b == 92 then Ok (reader (at + 1) (in_pair t) s)
+    else if is_plain b then Ok (reader (at + 1) (in_text (t ++ b ∷ [])) s)
+    else Err (BadText at)
+
+-- a byte after a backslash, by its meaning
+abbrev pub step_pair : Option ℕ → List ℕ → ℕ → Stack → Result Reader FormError
+step_pair None t at s = Err (BadText at)
+step_pair (Some c) t at s = Ok (reader (at + 1) (in_text (t ++ c ∷ [])) s)
+
+unfoldable pub step : ℕ → ℕ → Mode → Stack → Result Reader FormError
+step b at outside s = step_outside (kind_of b) b at s
+step b at comment s = Ok (reader (at + 1) (if b == 10 then outside else comment) s)
+step b at (in_word w) s = step_word (kind_of b) w b at s
+step b at (in_text t) s = step_text t b at s
+step b at (in_pair t) s = step_pair (meaning b) t at s
+
+-- the end outside: no list may be open
+abbrev pub ended : ℕ → List (List Tree) → List Tree → Result (List Tree) FormError
+ended at [] forms = Ok forms
+ended at (o ∷ os) forms = Err (Unclosed at)
+
+unfoldable pub finish : ℕ → Mode → Stack → Result (List Tree) FormError
+finish at outside s = ended at s.lists s.forms
+finish at comment s = ended at s.lists s.forms
+finish at (in_word w) s = ended at s.lists (s.forms ++ word w ∷ [])
+finish at (in_text t) s = Err (Unclosed at)
+finish at (in_pair t) s = Err (Unclosed at)
+
+abbrev pub and_then : {A B E : Type 0} → Result A E → (A → Result B E) → Result B E
+and_then (Ok x) f = f x
+and_then (Err e) f = Err e
+
+-- what the bytes that are left give
+unfoldable pub run : List ℕ → ℕ → Mode → Stack → Result (List Tree) FormError
+run [] at mode s = finish at mode s
+run (b ∷ bs) at mode s = and_then (step b at mode s) (λ r. run bs r.at r.mode r.held)
+
+-- what all bytes give
+abbrev pub read_all : List ℕ → Result (List Tree) FormError
+read_all bs = run bs 0 outside (stack [] [])
+
+-- what a call that takes one byte answers, but for want of memory
+abbrev pub TellsStep : FormError → Result Reader FormError → Type 0
+TellsStep NoMemory r = Unit {0}
+TellsStep e r = r ≡ Err e
+
+abbrev pub Steps : {U : Type 0} → Result U FormError → ℕ → Stack → Result Reader FormError → Type 0
+Steps (Ok u) at s r = r ≡ Ok (reader (at + 1) outside s)
+Steps (Err e) at s r = TellsStep e r
+
+-- what is held by the program
+abbrev pub stack_of : OpenLists → Stack
+stack_of o = stack (reverse o.outer.items) o.forms
+
+-- an error says what the reader gives, but for want of memory
+abbrev pub Tells : FormError → Result (List Tree) FormError → Type 0
+Tells NoMemory r = Unit {0}
+Tells e r = r ≡ Err e
+
+-- an answer is what the reader gives, but for want of memory
+abbrev pub Gives : Result (List Tree) FormError → Result (List Tree) FormError → Type 0
+Gives (Ok ts) r = r ≡ Ok ts
+Gives (Err e) r = Tells e r
