@@ -1,11 +1,11 @@
 -- What `value_of` answers, from what the reader does with a form that is in bounds.
-use Rattle.std.proofs.Common.{◌≡◌, ℕ, ◌+◌, ◌<◌, ◌≤◌, List, length, Result, Ok, Err, Some, None, IfOk, IfErr, sym, subst, refl, arith}
+use Rattle.std.proofs.Common.{◌≡◌, ℕ, ◌+◌, ◌≤◌, List, length, Result, Ok, Err, Some, None, IfOk, IfErr, sym, subst, refl, arith}
 use Rattle.tau_sexpr.specs.Tree.{Tree}
 use Rattle.tau_value.specs.Val.{Val}
 use Rattle.tau_value.specs.Value.{val_of}
 use Rattle.tau_value.specs.Sizes.{IsInBounds, NamesBelow}
 use Rattle.tau_value.specs.Numbers.{capped}
-use Rattle.tau_value.specs.Meaning.{counted, Means, IsFault, IsFirstFault, Fault, shape, unknown, FaultAt, too_large}
+use Rattle.tau_value.specs.Meaning.{counted, Means, IsFault, IsFirstFault, Fault, shape, unknown, too_large}
 use Rattle.tau_value.specs.Reading.{scan, Reads}
 use Rattle.tau_value.specs.declared.shared.Value.{Value}
 use Rattle.tau_value.specs.declared.faults.ValueError.{ValueError}

@@ -1,5 +1,5 @@
 -- The first fault that the reader finds is the first by the definition, and a form without one means what it counts as.
-use Rattle.std.proofs.Common.{◌≡◌, ℕ, ◌+◌, ◌*◌, ◌<◌, ◌≤◌, Bool, true, false, cond, ◌&&◌, nat_le, nat_lt, ℤ, List, [], ◌∷◌, length, Option, Some, None, option_map, option_and_then, is_some, unwrap_or, zero, suc, refl, sym, ap, subst, ◌∙◌, arith, codes}
+use Rattle.std.proofs.Common.{◌≡◌, ℕ, ◌+◌, ◌*◌, ◌<◌, ◌≤◌, Bool, true, false, cond, ◌&&◌, nat_le, nat_lt, ℤ, List, [], length, Option, Some, None, option_map, option_and_then, is_some, unwrap_or, refl, sym, ap, subst, ◌∙◌, arith, codes}
 use Rattle.std.specs.Option.{option_or, option_map_or}
 use Rattle.std.specs.Str.{bytes_eq}
 use Rattle.std.proofs.lemmas.Bool.{false≢true, ltb-true}
@@ -10,9 +10,9 @@ use Rattle.tau_value.specs.Val as val
 use Rattle.tau_value.specs.Val.{Val}
 use Rattle.tau_value.specs.Names.{place_of}
 use Rattle.tau_value.specs.Numbers.{count_in, integer_in}
-use Rattle.tau_value.specs.Sizes.{parts_of, levels_of, parts_of_all, levels_of_all, IsInBounds, NamesBelow, AllNamesBelow}
-use Rattle.tau_value.specs.Meaning.{name_word, list_word, word_value, between, number_named, named, counted, counted_all, has_row, is_one, name_fault, Fault, shape, unknown, FaultAt, FaultIn, too_large, no_row, in_name, in_list, here, later, IsFirstFault}
-use Rattle.tau_value.specs.Reading.{scan, scan_all, scan_name, later_by}
+use Rattle.tau_value.specs.Sizes.{parts_of, parts_of_all, levels_of_all, IsInBounds, NamesBelow, AllNamesBelow}
+use Rattle.tau_value.specs.Meaning.{name_word, list_word, word_value, between, number_named, named, counted, counted_all, has_row, name_fault, Fault, shape, FaultAt, FaultIn, too_large, no_row, in_name, in_list, here, later, IsFirstFault}
+use Rattle.tau_value.specs.Reading.{scan, scan_all, later_by}
 use Rattle.tau_value.proofs.ReadingLemmas.{small_word, parts_of-named, scan-no_row}
 
 and_right : (a b : Bool) → (a && b) ≡ true → b ≡ true

@@ -1,5 +1,5 @@
 -- What the reader needs of what forms count as, and of their first faults.
-use Rattle.std.proofs.Common.{◌≡◌, ℕ, ◌+◌, ◌<◌, ◌≤◌, Bool, true, false, cond, ◌||◌, ◌&&◌, List, [], ◌∷◌, ◌++◌, length, get_or, take, map, Option, Some, None, option_map, is_some, unwrap_or, zero, suc, max, refl, sym, ap, ap₂, ◌∙◌, arith, codes}
+use Rattle.std.proofs.Common.{◌≡◌, ℕ, ◌+◌, ◌<◌, ◌≤◌, Bool, true, false, cond, ◌||◌, ◌&&◌, List, [], ◌∷◌, ◌++◌, length, get_or, take, map, Option, Some, None, option_map, unwrap_or, zero, suc, max, refl, sym, ap, ap₂, ◌∙◌, arith, codes}
 use Rattle.std.specs.Option.{option_or, option_map_or}
 use Rattle.std.specs.Str.{bytes_eq}
 use Rattle.tau_sexpr.specs.Tree.{Tree, Trees, word, text, list, none, more, inside, size_of, size_of_all}
@@ -12,8 +12,8 @@ use Rattle.tau_value.specs.Val as val
 use Rattle.tau_value.specs.Val.{Val, Vals}
 use Rattle.tau_value.specs.Sizes.{parts_of, levels_of, parts_of_all, levels_of_all}
 use Rattle.tau_value.specs.Numbers.{integer_in, capped}
-use Rattle.tau_value.specs.Meaning.{name_word, list_word, word_value, number_named, named, counted, counted_list, counted_all, has_row, is_one, Fault, shape, unknown}
-use Rattle.tau_value.specs.Reading.{scan, scan_list, scan_all, scan_name, later_by, Tells}
+use Rattle.tau_value.specs.Meaning.{name_word, list_word, number_named, named, counted, counted_all, has_row, is_one, Fault, shape, unknown}
+use Rattle.tau_value.specs.Reading.{scan, scan_all, scan_name, later_by, Tells}
 use Rattle.tau_value.specs.declared.faults.ValueError.{ValueError}
 use Rattle.tau_value.specs.declared.faults.ValueError.TheVariants as faults
 

@@ -1,5 +1,5 @@
 -- The form that a value is written as.
-use Rattle.std.specs.Prelude.{◌≡◌, ℕ, ◌^◌, ◌<◌, Bool, List, Some, codes, unwrap_or, slice_get, if◌then◌else◌}
+use Rattle.std.specs.Prelude.{◌≡◌, ℕ, ◌^◌, ◌<◌, List, Some, codes, unwrap_or, slice_get, if◌then◌else◌}
 use Rattle.std.specs.Fmt.{decimal, signed_decimal}
 use Rattle.tau_sexpr.specs.Tree.{Tree, Trees, word, text, list, none, more}
 use Rattle.tau_value.specs.Val as val
@@ -26,20 +26,20 @@ abbrev mutual
   written_all names val.none = none
   written_all names (val.more v vs) = more (written names v) (written_all names vs)
 
--- each integer in the value is in the range of i64
+-- each number in the value fits its type: an integer i64, the number of a name u32
 abbrev mutual
-  pub IntegersFit : Val → Type 0
-  IntegersFit val.unit = Unit {0}
-  IntegersFit (val.truth b) = Unit {0}
-  IntegersFit (val.int z) = in_i64 z ≡ Some z
-  IntegersFit (val.text t) = Unit {0}
-  IntegersFit (val.name n) = Unit {0}
-  IntegersFit (val.list vs) = AllIntegersFit vs
+  pub NumbersFit : Val → Type 0
+  NumbersFit val.unit = Unit {0}
+  NumbersFit (val.truth b) = Unit {0}
+  NumbersFit (val.int z) = in_i64 z ≡ Some z
+  NumbersFit (val.text t) = Unit {0}
+  NumbersFit (val.name n) = n < 2 ^ 32
+  NumbersFit (val.list vs) = AllNumbersFit vs
 
-  pub AllIntegersFit : Vals → Type 0
-  AllIntegersFit val.none = Unit {0}
-  AllIntegersFit (val.more v vs) = IntegersFit v × AllIntegersFit vs
+  pub AllNumbersFit : Vals → Type 0
+  AllNumbersFit val.none = Unit {0}
+  AllNumbersFit (val.more v vs) = NumbersFit v × AllNumbersFit vs
 
 -- a form is read back as a value that is in bounds, under any bound that its names are below
 abbrev pub ReadsBack : List (List ℕ) → Val → Tree → Type 0
-ReadsBack names v t = (bound : ℕ) → bound < 2 ^ 32 → IsInBounds v → NamesBelow bound v → Means names bound t v
+ReadsBack names v t = (bound : ℕ) → IsInBounds v → NamesBelow bound v → Means names bound t v

@@ -33,13 +33,7 @@ fn count_of_bytes(bytes: &[u8]) -> Option<u64>
 {
     match bytes {
         [] => None,
-        [b'0', rest @ ..] => {
-            if rest.is_empty() {
-                Some(0)
-            } else {
-                None
-            }
-        }
+        [b'0', rest @ ..] => { if rest.is_empty() { Some(0) } else { None } }
         _ => number_of_digits(bytes),
     }
 }
@@ -53,7 +47,9 @@ fn number_of_digits(bytes: &[u8]) -> Option<u64>
         if !byte.is_ascii_digit() {
             return None;
         }
-        number = number.saturating_mul(10).saturating_add(u64::from(*byte - b'0'));
+        number = number
+            .saturating_mul(10)
+            .saturating_add(u64::from(*byte - b'0'));
     }
     Some(number)
 }

@@ -3,12 +3,13 @@ ghost use Rattle.std.specs.Prelude.{◌≡◌, ◌∷◌, ◌++◌, [], All, IfO
 ghost use Rattle.tau_sexpr.specs.Bytes.{IsWordByte};
 ghost use Rattle.tau_sexpr.specs.Form.{tree_of};
 ghost use Rattle.tau_sexpr.specs.Tree as tree;
-ghost use Rattle.tau_sexpr.specs.Tree.{more, none};
+ghost use Rattle.tau_sexpr.specs.Tree.{more, none, depth_of, HasWords};
 ghost use Rattle.tau_value.specs.Meaning.{name_word, list_word};
 ghost use Rattle.tau_value.specs.Names.{AreNames};
+ghost use Rattle.tau_value.specs.Sizes.{levels_of};
 ghost use Rattle.tau_value.specs.Val.{inside};
 ghost use Rattle.tau_value.specs.Value.{val_of};
-ghost use Rattle.tau_value.specs.Written.{name_written, written, written_all, IntegersFit, AllIntegersFit, ReadsBack};
+ghost use Rattle.tau_value.specs.Written.{name_written, written, written_all, NumbersFit, AllNumbersFit, ReadsBack};
 
 use crate::{Names, Value, Values, word_of_count, word_of_integer};
 use std::alloc::{AllocError, Global};
@@ -16,11 +17,13 @@ use tau_sexpr::{Form, Forms, Word};
 
 /// The form of a value: start names for starts, and numbers for other transactors (docs/formats.md, "Values").
 /// `value_of` reads it back as the same value, where that is in bounds and its names are below the bound.
-/// The error is want of memory.
+/// Its lists stand as deep as the value has levels, and none of its words is empty. The error is want of memory.
 pub fn form_of(alloc: Global, value: &Value, names: &Names) -> Result<Form, AllocError>
     requires { AreNames names.now }
     ensures form { IfOk result (λ f. tree_of f ≡ written names.now (val_of value.now)) }
     ensures read_back { IfOk result (λ f. ReadsBack names.now (val_of value.now) (tree_of f)) }
+    ensures depth { IfOk result (λ f. depth_of (tree_of f) ≡ levels_of (val_of value.now)) }
+    ensures words { IfOk result (λ f. HasWords (tree_of f)) }
 {
     write(alloc, value, names)
 }
@@ -28,7 +31,7 @@ pub fn form_of(alloc: Global, value: &Value, names: &Names) -> Result<Form, Allo
 #[cycle(write)]
 fn write(alloc: Global, value: &Value, names: &Names) -> Result<Form, AllocError>
     ensures form { IfOk result (λ f. tree_of f ≡ written names.now (val_of value.now)) }
-    ensures integers { OnOk result (IntegersFit (val_of value.now)) }
+    ensures numbers { OnOk result (NumbersFit (val_of value.now)) }
 {
     match value {
         Value::Unit => form_of_word(alloc, b"unit"),
@@ -44,7 +47,7 @@ fn write(alloc: Global, value: &Value, names: &Names) -> Result<Form, AllocError
 #[cycle(write)]
 fn write_all(alloc: Global, items: &Values, names: &Names) -> Result<Form, AllocError>
     ensures form { IfOk result (λ f. tree_of f ≡ tree.list (more (tree.word list_word) (written_all names.now (inside items.now)))) }
-    ensures integers { OnOk result (AllIntegersFit (inside items.now)) }
+    ensures numbers { OnOk result (AllNumbersFit (inside items.now)) }
 {
     let mut forms = Forms::new(alloc);
     add(&mut forms, form_of_word(alloc, b"list")?)?;

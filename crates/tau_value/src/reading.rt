@@ -18,12 +18,7 @@ use tau_sexpr::{Form, Forms, Word};
 /// (docs/formats.md, "Values"). It is in bounds, and the names in it are below the bound.
 /// `Shape` and `Unknown` come exactly at the first fault of the form: the least faulty node, in preorder within the form
 /// from 0. The names are found by their first place.
-pub fn value_of(
-    alloc: Global,
-    form: &Form,
-    names: &Names,
-    bound: u32,
-) -> Result<Value, ValueError>
+pub fn value_of(alloc: Global, form: &Form, names: &Names, bound: u32) -> Result<Value, ValueError>
     requires { length names.now ≤ bound }
     ensures value { IfOk result (λ v. Means names.now bound (tree_of form.now) (val_of v)) }
     ensures within { IfOk result (λ v. IsInBounds (val_of v)) }
@@ -113,7 +108,10 @@ fn extent_of(form: &Form, names: &Names, bound: u32) -> Extent
     ensures levels { result.levels ≡ capped (levels_of (counted names.now bound (tree_of form.now))) }
 {
     match form {
-        Form::Word(_) => Extent { parts: 1, levels: 0 },
+        Form::Word(_) => Extent {
+            parts: 1,
+            levels: 0,
+        },
         Form::Text(text) => Extent {
             parts: (text.len() as u64).saturating_add(1),
             levels: 0,
@@ -130,7 +128,10 @@ fn extent_of(form: &Form, names: &Names, bound: u32) -> Extent
                 parts: 1,
                 levels: levels_of_name(name, names, bound),
             },
-            Head::Other => Extent { parts: 1, levels: 0 },
+            Head::Other => Extent {
+                parts: 1,
+                levels: 0,
+            },
         },
     }
 }
@@ -232,12 +233,7 @@ fn read_word(word: &Word, node: &mut u64) -> Result<Value, ValueError>
 }
 
 // Reads `(name X)`.
-fn read_name(
-    name: &Form,
-    names: &Names,
-    bound: u32,
-    node: &mut u64,
-) -> Result<Value, ValueError>
+fn read_name(name: &Form, names: &Names, bound: u32, node: &mut u64) -> Result<Value, ValueError>
     requires { length names.now ≤ bound }
     ensures { Reads names.now bound (tree.list (more (tree.word name_word) (more (tree_of name.now) none))) node.old node.new result }
 {

@@ -1,9 +1,8 @@
-use Rattle.std.proofs.Common.{◌≡◌, ◌<◌, ◌&&◌, Some, None, true, false, get_or, length, refl, ap, cond, arith, take}
+use Rattle.std.proofs.Common.{◌≡◌, ◌<◌, false, get_or, length, refl, arith, take}
 use Rattle.std.specs.Char.{is_ascii_digit}
 use Rattle.std.specs.Str.{all_ascii_digits}
 use Rattle.std.proofs.lemmas.List.{take_more}
 use Rattle.std.proofs.lemmas.List.Recursion.{and_push, and_fails_at}
-use Rattle.tau_value.specs.Numbers.{number_after, capped}
 use Rattle.tau_value.proofs.NumberLemmas.{number_after-push}
 use Rattle.tau_value.proofs.number_words.number_of_digits.Goals as goal
 

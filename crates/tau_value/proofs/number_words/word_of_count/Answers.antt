@@ -1,7 +1,6 @@
-use Rattle.std.proofs.Common.{◌≡◌, ◌∙◌, ap, sym, subst, All, List, ℕ, Some, rules, arith}
+use Rattle.std.proofs.Common.{◌≡◌, ◌∙◌, ap, Some}
 use Rattle.std.specs.Fmt.{decimal}
 use Rattle.std.proofs.lemmas.Result.{IfOk-weaker}
-use Rattle.tau_sexpr.specs.Bytes.{IsWordByte}
 use Rattle.tau_value.specs.Numbers.{count_in}
 use Rattle.tau_value.proofs.NumberLemmas.{digits_are_word_bytes, decimal_digits, count_in-decimal}
 use Rattle.tau_value.proofs.number_words.word_of_count.Goals as goal

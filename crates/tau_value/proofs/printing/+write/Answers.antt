@@ -1,13 +1,10 @@
-use Rattle.std.proofs.Common.{◌≡◌, ◌<◌, ◌∷◌, [], ◌++◌, length, map, take, get_or, arith, ap, sym, ◌∙◌, refl}
+use Rattle.std.proofs.Common.{◌≡◌, ◌<◌, length, map, take, arith, ap, ◌∙◌, refl}
 use Rattle.std.proofs.lemmas.List.{map_more, map-append, take_all}
-use Rattle.tau_sexpr.specs.Tree.{word}
-use Rattle.tau_value.specs.Meaning.{list_word}
 use Rattle.tau_value.specs.Sizes.{parts_of_all}
 use Rattle.tau_value.specs.Val.{inside}
 use Rattle.tau_value.specs.Value.{val_of}
-use Rattle.tau_value.specs.Written.{written, AllIntegersFit}
 use Rattle.tau_value.proofs.ValueLemmas.{parts-at}
-use Rattle.tau_value.proofs.WrittenLemmas.{unit_bytes, true_bytes, false_bytes, list_bytes, written_all-inside, integers-push}
+use Rattle.tau_value.proofs.WrittenLemmas.{unit_bytes, true_bytes, false_bytes, list_bytes, written_all-inside, numbers-push}
 use Rattle.tau_value.proofs.printing.+write.Goals as goal
 
 pub write-form_of_word-requires : goal.write-form_of_word-requires
@@ -39,7 +36,7 @@ write_all-loop-item-preserved t c =
     let more = map_more val_of fs k c.item-item.result lt in
     record {
       forms = rw (c.in_ok-add-2.ensures, c.loop-item.invariant.forms, more, ← c.item-item.is, map-append, c.in_ok-write.ensures.form) refl;
-      integers = rw (more, ← c.item-item.is) (integers-push (map val_of (take k fs)) (val_of c.item-item.result) c.loop-item.invariant.integers c.in_ok-write.ensures.integers);
+      numbers = rw (more, ← c.item-item.is) (numbers-push (map val_of (take k fs)) (val_of c.item-item.result) c.loop-item.invariant.numbers c.in_ok-write.ensures.numbers);
     }
 
 pub write_all-returns-clause-form : goal.write_all-returns-clause-form

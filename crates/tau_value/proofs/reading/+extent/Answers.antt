@@ -1,4 +1,4 @@
-use Rattle.std.proofs.Common.{◌<◌, length, map, take, get_or, arith}
+use Rattle.std.proofs.Common.{◌<◌, length, arith}
 use Rattle.std.proofs.lemmas.List.{map_more}
 use Rattle.tau_sexpr.specs.Form.{tree_of}
 use Rattle.tau_value.proofs.ReadingLemmas.{size-at, counted_parts-push, counted_levels-push}

@@ -1,10 +1,8 @@
-use Rattle.std.proofs.Common.{◌≡◌, ◌+◌, ◌*◌, map, take, None}
+use Rattle.std.proofs.Common.{◌≡◌, ◌+◌, ◌*◌, map, take}
 use Rattle.tau_sexpr.specs.Form.{tree_of}
 use Rattle.tau_sexpr.specs.Tree.{inside, size_of, size_of_all}
-use Rattle.tau_value.specs.Val as val
 use Rattle.tau_value.specs.Meaning.{counted_all}
 use Rattle.tau_value.specs.Numbers.{capped}
-use Rattle.tau_value.specs.Reading.{scan_all}
 use Rattle.tau_value.specs.Sizes.{parts_of_all, levels_of_all}
 use Rattle.tau_value.proofs.reading.+extent.Given as goal
 

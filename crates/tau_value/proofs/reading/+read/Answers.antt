@@ -1,9 +1,8 @@
-use Rattle.std.proofs.Common.{◌≡◌, ◌∷◌, [], ◌<◌, ◌∙◌, ap, sym, length, map, take, get_or, arith, None, Some, refl}
+use Rattle.std.proofs.Common.{◌<◌, ◌∙◌, ap, length, map, take, arith, refl}
 use Rattle.std.proofs.lemmas.List.{map_more}
 use Rattle.std.proofs.lemmas.Result.{err_from_is_err_and}
 use Rattle.tau_sexpr.specs.Form.{tree_of}
-use Rattle.tau_sexpr.specs.Tree.{list, inside}
-use Rattle.tau_value.specs.Meaning.{counted, shape}
+use Rattle.tau_sexpr.specs.Tree.{inside}
 use Rattle.tau_value.specs.Reading.{scan, scan_all}
 use Rattle.tau_value.proofs.ReadingLemmas.{size-at, size-push, counted_all-push, scan_all-push, scan-no_row, tells-later, tells-item}
 use Rattle.tau_value.proofs.reading.+read.Goals as goal

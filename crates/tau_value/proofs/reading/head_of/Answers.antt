@@ -1,8 +1,7 @@
-use Rattle.std.proofs.Common.{◌≡◌, ◌<◌, false, length, map, get_or, sym, ap, ap₂, ◌∙◌, arith, length-drop}
+use Rattle.std.proofs.Common.{◌≡◌, ◌<◌, false, length, get_or, sym, ap, ap₂, ◌∙◌, arith, length-drop}
 use Rattle.std.proofs.lemmas.List.{length-take}
 use Rattle.std.specs.Str.{bytes_eq}
 use Rattle.tau_sexpr.specs.Tree.{list, inside}
-use Rattle.tau_sexpr.specs.Form.{tree_of}
 use Rattle.tau_value.specs.Meaning.{list_word, has_row}
 use Rattle.tau_value.proofs.ReadingLemmas.{no_row_long}
 use Rattle.tau_value.proofs.reading.head_of.Goals as goal

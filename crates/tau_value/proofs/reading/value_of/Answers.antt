@@ -9,18 +9,18 @@ use Rattle.tau_value.proofs.reading.value_of.Goals.{then-extent-gt65536-via-then
 pub returns-then-extent-gt65536-clause-fault : goal.returns-then-extent-gt65536-clause-fault
 returns-then-extent-gt65536-clause-fault c =
     too_large_told c.args.names.now c.args.bound (tree_of c.args.form.now) (λ within.
-      elim c.then-extent-gt65536.branch [
-        then-extent-gt65536-via-then-extent-gt65536 w ↦ omega arith
-        | then-extent-gt65536-via-else-extent-gt65536+then-extent-gt64 w ↦ omega arith
-      ])
+    elim c.then-extent-gt65536.branch [
+      | then-extent-gt65536-via-then-extent-gt65536 w ↦ omega arith
+      | then-extent-gt65536-via-else-extent-gt65536+then-extent-gt64 w ↦ omega arith
+    ])
 
 pub returns-then-extent-gt65536-clause-read : goal.returns-then-extent-gt65536-clause-read
 returns-then-extent-gt65536-clause-read c =
     λ v means. absurd (too_large_means c.args.names.now c.args.bound (tree_of c.args.form.now) v (λ within.
-      elim c.then-extent-gt65536.branch [
-        then-extent-gt65536-via-then-extent-gt65536 w ↦ omega arith
-        | then-extent-gt65536-via-else-extent-gt65536+then-extent-gt64 w ↦ omega arith
-      ]) means)
+    elim c.then-extent-gt65536.branch [
+      | then-extent-gt65536-via-then-extent-gt65536 w ↦ omega arith
+      | then-extent-gt65536-via-else-extent-gt65536+then-extent-gt64 w ↦ omega arith
+    ]) means)
 
 pub returns-clause-value : goal.returns-clause-value
 returns-clause-value c =
@@ -38,5 +38,5 @@ returns-clause-fault c =
 pub returns-clause-read : goal.returns-clause-read
 returns-clause-read c =
     λ v means.
-      let within : IsInBounds (counted c.args.names.now c.args.bound (tree_of c.args.form.now)) = (omega arith, omega arith) in
-      read_told c.args.names.now c.args.bound (tree_of c.args.form.now) c.read.new.node c.read.result v within c.read.ensures means
+    let within : IsInBounds (counted c.args.names.now c.args.bound (tree_of c.args.form.now)) = (omega arith, omega arith) in
+    read_told c.args.names.now c.args.bound (tree_of c.args.form.now) c.read.new.node c.read.result v within c.read.ensures means
