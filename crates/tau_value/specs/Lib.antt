@@ -1,6 +1,7 @@
 pub mod Val
 pub mod Sizes
 pub mod Value
+pub mod Shared
 pub mod Falls
 pub mod Names
 pub mod Numbers

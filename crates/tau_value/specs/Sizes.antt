@@ -1,6 +1,7 @@
 -- How large a value is, and which names it holds.
 use Rattle.std.specs.Prelude.{◌≡◌, ℕ, ◌+◌, ◌<◌, ◌≤◌, max, List, [], ◌∷◌, ◌++◌, length}
 use Rattle.std.proofs.Common.{arith}
+use Rattle.tau_value.specs.Numbers.{capped}
 use Rattle.tau_value.specs.Val.{Val, unit, truth, int, text, name, list, Vals, none, more, inside}
 
 -- the parts: one for each value, and one for each byte of a text
@@ -62,6 +63,12 @@ abbrev mutual
   pub names_end_of_all : Vals → ℕ
   names_end_of_all none = 0
   names_end_of_all (more v vs) = max (names_end_of v) (names_end_of_all vs)
+
+-- the sizes that a list keeps of its values, as they are answered in 64 bits
+pub record AreSizes (vs : Vals) (parts levels names_end : ℕ) : Type 0 where
+  pub of_parts : parts ≡ capped (parts_of_all vs)
+  pub of_levels : levels ≡ capped (levels_of_all vs)
+  pub of_names : names_end ≡ capped (names_end_of_all vs)
 
 -- the parts of the values of a list
 abbrev pub all_parts : List Val → ℕ

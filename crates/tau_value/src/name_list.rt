@@ -1,5 +1,5 @@
 //! Names, and lists of words with an index.
-ghost use Rattle.std.specs.Prelude.{◌≡◌, ◌↔◌, ℕ, List, [], ◌∷◌, ◌++◌, length, slice_get, slice_index, IsTrue, IfSome, IfNone, IfOk, IfErr, OnOk, OnErr, Contains, option_map, option_copied};
+ghost use Rattle.std.specs.Prelude.{◌≡◌, ◌↔◌, ℕ, List, [], ◌∷◌, ◌++◌, length, slice_get, slice_index, IsTrue, IfOk, IfErr, OnOk, OnErr, option_copied};
 ghost use Rattle.std.specs.List.{list_all};
 ghost use Rattle.tau_value.specs.Names.{is_name as name_test, is_name_byte as name_byte, is_small_letter, is_reserved as reserved_test, place_of};
 ghost use Rattle.tau_value.specs.Places.{indexed, noted};
@@ -154,7 +154,8 @@ fn note(
     word: &[u8],
     place: usize,
 ) -> Result<(), AllocError>
-    ensures ok { OnOk result ((v : List ℕ) → indexed places.new.entries v ≡ noted (indexed places.old.entries v) word.now place v) }
+    ensures ok { OnOk result ((v : List ℕ) →
+        indexed places.new.entries v ≡ noted (indexed places.old.entries v) word.now place v) }
     ensures err { OnErr result (places.new.entries ≡ places.old.entries) }
 {
     if places.contains_key(word) {

@@ -1,9 +1,8 @@
 //! Number words, read and written.
-ghost use Rattle.std.specs.Prelude.{◌≡◌, ◌^◌, ◌-◌, ◌∷◌, Some, None, IfOk, All, pos, negsuc, option_map, option_and_then, if◌then◌else◌};
+ghost use Rattle.std.specs.Prelude.{◌≡◌, Some, None, IfOk, pos, option_map, option_and_then, if◌then◌else◌};
 ghost use Rattle.std.specs.Fmt.{decimal, signed_decimal};
 ghost use Rattle.std.specs.Str.{all_ascii_digits};
-ghost use Rattle.tau_sexpr.specs.Bytes.{IsWordByte};
-ghost use Rattle.tau_value.specs.Numbers.{number_after, count_in, negated, number_in, in_i64, integer_in, capped};
+ghost use Rattle.tau_value.specs.Numbers.{number_after, count_in, negated, in_i64, integer_in, capped};
 
 use itoa::Buffer;
 use std::alloc::{AllocError, Global};
@@ -40,7 +39,9 @@ fn count_of_bytes(bytes: &[u8]) -> Option<u64>
 
 // The number that digits mean; `None` where a byte is no digit.
 fn number_of_digits(bytes: &[u8]) -> Option<u64>
-    ensures { result ≡ (if all_ascii_digits bytes.now then Some (capped (number_after 0 bytes.now)) else None) }
+    ensures { result ≡ (if all_ascii_digits bytes.now
+        then Some (capped (number_after 0 bytes.now))
+        else None) }
 {
     let mut number = 0u64;
     for byte in bytes {

@@ -1,15 +1,15 @@
 //! Forms of values.
-ghost use Rattle.std.specs.Prelude.{◌≡◌, ◌∷◌, ◌++◌, [], All, IfOk, OnOk, codes, map, if◌then◌else◌};
+ghost use Rattle.std.specs.Prelude.{◌≡◌, ◌∷◌, ◌++◌, [], All, IfOk, OnOk};
 ghost use Rattle.tau_sexpr.specs.Bytes.{IsWordByte};
 ghost use Rattle.tau_sexpr.specs.Form.{tree_of};
 ghost use Rattle.tau_sexpr.specs.Tree as tree;
-ghost use Rattle.tau_sexpr.specs.Tree.{more, none, depth_of, HasWords};
-ghost use Rattle.tau_value.specs.Meaning.{name_word, list_word};
+ghost use Rattle.tau_sexpr.specs.Tree.{depth_of, HasWords};
 ghost use Rattle.tau_value.specs.Names.{AreNames};
 ghost use Rattle.tau_value.specs.Sizes.{levels_of};
+ghost use Rattle.tau_value.specs.Val as val;
 ghost use Rattle.tau_value.specs.Val.{inside};
 ghost use Rattle.tau_value.specs.Value.{val_of};
-ghost use Rattle.tau_value.specs.Written.{name_written, written, written_all, NumbersFit, AllNumbersFit, ReadsBack};
+ghost use Rattle.tau_value.specs.Written.{written, NumbersFit, AllNumbersFit, ReadsBack};
 
 use crate::{Names, Value, Values, word_of_count, word_of_integer};
 use std::alloc::{AllocError, Global};
@@ -46,7 +46,7 @@ fn write(alloc: Global, value: &Value, names: &Names) -> Result<Form, AllocError
 
 #[cycle(write)]
 fn write_all(alloc: Global, items: &Values, names: &Names) -> Result<Form, AllocError>
-    ensures form { IfOk result (λ f. tree_of f ≡ tree.list (more (tree.word list_word) (written_all names.now (inside items.now)))) }
+    ensures form { IfOk result (λ f. tree_of f ≡ written names.now (val.list (inside items.now))) }
     ensures numbers { OnOk result (AllNumbersFit (inside items.now)) }
 {
     let mut forms = Forms::new(alloc);
@@ -59,7 +59,7 @@ fn write_all(alloc: Global, items: &Values, names: &Names) -> Result<Form, Alloc
 
 // `(name X)` of a transactor.
 fn form_of_name(alloc: Global, number: u32, names: &Names) -> Result<Form, AllocError>
-    ensures { IfOk result (λ f. tree_of f ≡ tree.list (more (tree.word name_word) (more (tree.word (name_written names.now number)) none))) }
+    ensures { IfOk result (λ f. tree_of f ≡ written names.now (val.name number)) }
 {
     let word = match names.item(number as usize) {
         Some(name) => name.copy()?,

@@ -1,5 +1,5 @@
 //! Values read from forms.
-ghost use Rattle.std.specs.Prelude.{◌≡◌, ◌^◌, ◌<◌, ◌≤◌, ◌∷◌, ℕ, List, length, map, option_map, IfOk, IfErr};
+ghost use Rattle.std.specs.Prelude.{◌≡◌, ◌^◌, ◌<◌, ◌≤◌, ℕ, List, length, map, option_map, IfOk, IfErr};
 ghost use Rattle.tau_sexpr.specs.Form.{tree_of};
 ghost use Rattle.tau_sexpr.specs.Tree as tree;
 ghost use Rattle.tau_sexpr.specs.Tree.{inside, more, none};
@@ -24,7 +24,8 @@ pub fn value_of(alloc: Global, form: &Form, names: &Names, bound: u32) -> Result
     ensures within { IfOk result (λ v. IsInBounds (val_of v)) }
     ensures names { IfOk result (λ v. NamesBelow bound (val_of v)) }
     ensures fault { IfErr result (IsFault names.now bound (tree_of form.now)) }
-    ensures read { (v : Val) → Means names.now bound (tree_of form.now) v → IfErr result (λ e. e ≡ ValueError.NoMemory) }
+    ensures read { (v : Val) → Means names.now bound (tree_of form.now) v
+        → IfErr result (λ e. e ≡ ValueError.NoMemory) }
 {
     let extent = extent_of(form, names, bound);
     if extent.parts > 65_536 || extent.levels > 64 {
@@ -139,8 +140,10 @@ fn extent_of(form: &Form, names: &Names, bound: u32) -> Extent
 #[cycle(extent)]
 fn extent_of_all(items: &[Form], names: &Names, bound: u32) -> Extent
     requires { length names.now ≤ bound }
-    ensures parts { result.parts ≡ capped (parts_of_all (counted_all names.now bound (inside (map tree_of items.now)))) }
-    ensures levels { result.levels ≡ capped (levels_of_all (counted_all names.now bound (inside (map tree_of items.now)))) }
+    ensures parts { let counts = counted_all names.now bound (inside (map tree_of items.now)) in
+        result.parts ≡ capped (parts_of_all counts) }
+    ensures levels { let counts = counted_all names.now bound (inside (map tree_of items.now)) in
+        result.levels ≡ capped (levels_of_all counts) }
 {
     let mut parts = 0u64;
     let mut levels = 0u64;
@@ -221,7 +224,8 @@ fn read_all(
 }
 
 fn read_word(word: &Word, node: &mut u64) -> Result<Value, ValueError>
-    ensures { (names : List (List ℕ)) → (bound : ℕ) → Reads names bound (tree.word word.now) node.old node.new result }
+    ensures { (names : List (List ℕ)) (bound : ℕ) →
+        Reads names bound (tree.word word.now) node.old node.new result }
 {
     match value_of_word(word) {
         Some(value) => {
@@ -235,7 +239,8 @@ fn read_word(word: &Word, node: &mut u64) -> Result<Value, ValueError>
 // Reads `(name X)`.
 fn read_name(name: &Form, names: &Names, bound: u32, node: &mut u64) -> Result<Value, ValueError>
     requires { length names.now ≤ bound }
-    ensures { Reads names.now bound (tree.list (more (tree.word name_word) (more (tree_of name.now) none))) node.old node.new result }
+    ensures { let form = tree.list (more (tree.word name_word) (more (tree_of name.now) none)) in
+        Reads names.now bound form node.old node.new result }
 {
     let place = node.saturating_add(2);
     let Form::Word(word) = name else {

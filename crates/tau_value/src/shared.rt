@@ -1,7 +1,8 @@
 //! Values and lists of values, which share what they hold.
-ghost use Rattle.std.specs.Prelude.{◌≡◌, ◌↔◌, ◌^◌, ◌-◌, ◌<◌, [], ◌∷◌, ◌++◌, length, map, min, slice_get, IsTrue, IfOk, IfErr, OnOk, option_map};
-ghost use Rattle.std.specs.Option.{option_map_or};
+ghost use Rattle.std.specs.Prelude.{◌≡◌, ◌↔◌, [], ◌∷◌, ◌++◌, length, map, slice_get, IsTrue, IfOk, IfErr, OnOk, option_map};
+ghost use Rattle.tau_value.specs.Numbers.{capped};
 ghost use Rattle.tau_value.specs.Sizes.{parts_of, levels_of, names_end_of, IsInBounds, NamesBelow};
+ghost use Rattle.tau_value.specs.Shared.{held};
 ghost use Rattle.tau_value.specs.Value.{val_of};
 
 use std::alloc::{AllocError, Global};
@@ -37,11 +38,11 @@ pub struct Values {
 }
 
 impl Model for Values {
-    ghost use Rattle.std.specs.Prelude.{◌≡◌, ◌^◌, ◌-◌, List, [], map, min};
-    ghost use Rattle.std.specs.Option.{option_map_or};
+    ghost use Rattle.std.specs.Prelude.{List, map};
+    ghost use Rattle.tau_value.specs.Shared.{held};
     ghost use Rattle.std.specs.Coded.{coded_list};
     ghost use Rattle.tau_value.specs.Val.{Val, val_code, inside};
-    ghost use Rattle.tau_value.specs.Sizes.{parts_of_all, levels_of_all, names_end_of_all, all_parts};
+    ghost use Rattle.tau_value.specs.Sizes.{AreSizes, all_parts};
 
     ghost Value = { List Val };
 
@@ -49,11 +50,9 @@ impl Model for Values {
 
     ghost use Rattle.tau_value.specs.Value.{val_of};
 
-    ghost view = { λ f. map val_of (option_map_or (λ a. a.value.items) f.items []) };
+    ghost view = { λ f. map val_of (held f.items) };
 
-    // the sizes of what the list holds, where greater than the last value of u64 that value
-    ghost invariant = { λ f. let vs = inside (map val_of (option_map_or (λ a. a.value.items) f.items [])) in
-        (f.parts ≡ min (parts_of_all vs) (2 ^ 64 - 1)) × (f.levels ≡ min (levels_of_all vs) (2 ^ 64 - 1)) × (f.names_end ≡ min (names_end_of_all vs) (2 ^ 64 - 1)) };
+    ghost invariant = { λ f. AreSizes (inside (map val_of (held f.items))) f.parts f.levels f.names_end };
 
     ghost size = { all_parts };
 
@@ -66,7 +65,7 @@ impl Model for Values {
 /// The parts of a value: one for each value in it, itself included, and one for each byte of a text
 /// (docs/limits.md). A greater count is answered as `u64::MAX`. It takes the same time for every value.
 pub fn parts(value: &Value) -> u64
-    ensures { result ≡ min (parts_of (val_of value.now)) (2 ^ 64 - 1) }
+    ensures { result ≡ capped (parts_of (val_of value.now)) }
 {
     match value {
         Value::Unit | Value::Truth(_) | Value::Int(_) | Value::Name(_) => 1,
@@ -78,7 +77,7 @@ pub fn parts(value: &Value) -> u64
 /// The levels of a value: how deep lists stand inside one another, where a name counts as a list
 /// (docs/limits.md). A greater count is answered as `u64::MAX`. It takes the same time for every value.
 pub fn levels(value: &Value) -> u64
-    ensures { result ≡ min (levels_of (val_of value.now)) (2 ^ 64 - 1) }
+    ensures { result ≡ capped (levels_of (val_of value.now)) }
 {
     match value {
         Value::Unit | Value::Truth(_) | Value::Int(_) | Value::Text(_) => 0,
@@ -89,7 +88,7 @@ pub fn levels(value: &Value) -> u64
 
 // The least number that each name in the value is below.
 fn names_end(value: &Value) -> u64
-    ensures { result ≡ min (names_end_of (val_of value.now)) (2 ^ 64 - 1) }
+    ensures { result ≡ capped (names_end_of (val_of value.now)) }
 {
     match value {
         Value::Unit | Value::Truth(_) | Value::Int(_) | Value::Text(_) => 0,
@@ -251,9 +250,8 @@ fn put(
     alloc: Global,
     item: Value,
 ) -> Result<(), (Value, AllocError)>
-    ensures ok { OnOk result (option_map_or (λ a. a.value.items) items.new [] ≡ option_map_or (λ a. a.value.items) items.old [] ++ item ∷ []) }
-    ensures err { IfErr result (λ e. (e.0 ≡ item)
-        × (option_map_or (λ a. a.value.items) items.new [] ≡ option_map_or (λ a. a.value.items) items.old [])) }
+    ensures ok { OnOk result (held items.new ≡ held items.old ++ item ∷ []) }
+    ensures err { IfErr result (λ e. (e.0 ≡ item) × (held items.new ≡ held items.old)) }
 {
     match items {
         Some(shared) => put_shared(shared, alloc, item),
