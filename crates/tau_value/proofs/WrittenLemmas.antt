@@ -23,6 +23,7 @@ use Rattle.tau_value.specs.Sizes.{levels_of, levels_of_all, IsInBounds, NamesBel
 use Rattle.tau_value.specs.Meaning.{word_value, number_named, counted, counted_all}
 use Rattle.tau_value.specs.Reading.{scan, scan_all, later_by}
 use Rattle.tau_value.specs.Written.{name_written, written, written_all, NumbersFit, AllNumbersFit, ReadsBack}
+use Rattle.tau_value.proofs.NameLemmas.{apart_bytes, place_of-at}
 use Rattle.tau_value.proofs.NumberLemmas.{decimal_digits, count_in-decimal, integer_in-decimal, pos_fits}
 use Rattle.tau_value.proofs.MeaningLemmas.{agrees, Agrees, IsClean}
 
@@ -64,13 +65,6 @@ and_right : (a b : Bool) → (a && b) ≡ true → b ≡ true
 and_right true b h = h
 and_right false b h = cc
 
-apart_bytes : (v w : List ℕ) → v ≢ w → bytes_eq v w ≡ false
-apart_bytes v w ne = by (bytes_eq v w) refl
-  where
-    by : (b : Bool) → bytes_eq v w ≡ b → b ≡ false
-    by true e = absurd (ne ((bytes_eq-Decides v w).0 e))
-    by false e = refl
-
 -- a number word begins with no letter
 digits_first : (ds : List ℕ) → all_ascii_digits ds ≡ true → get_or ds 0 0 ≤ 57
 digits_first [] h = omega arith
@@ -90,14 +84,6 @@ name_first : (w : List ℕ) → IsName w → 97 ≤ get_or w 0 0
 name_first w h =
     let letter : is_small_letter (get_or w 0 0) ≡ true = and_right (nat_le (length w) 64) (is_small_letter (get_or w 0 0)) (and_left (nat_le (length w) 64 && is_small_letter (get_or w 0 0)) (list_all is_name_byte w) (and_left (nat_le (length w) 64 && is_small_letter (get_or w 0 0) && list_all is_name_byte w) (not (is_reserved w)) h)) in
     leb-true 97 (get_or w 0 0) (and_left (nat_le 97 (get_or w 0 0)) (nat_le (get_or w 0 0) 122) letter)
-
--- a start's name is found at its number
-place_of-at : (names : List (List ℕ)) (n : ℕ) (w : List ℕ) → AllPairs (λ v u. v ≢ u) names → n < length names → get_or names n w ≡ w → place_of names w ≡ Some n
-place_of-at names n w distinct lt is =
-    let before : (k : ℕ) → k < n → bytes_eq w (get_or names k w) ≡ false = λ k below. apart_bytes w (get_or names k w) (λ e. distinct k n w below lt (sym e ∙ sym is)) in
-    let found : n < length names → bytes_eq w (get_or names n w) ≡ true = λ h. (bytes_eq-Decides w (get_or names n w)).1 (sym is) in
-    let place : position_or_len (bytes_eq w) names ≡ n = position_or_len_is (bytes_eq w) names n w (omega arith) before found in
-    rw (place, lt-ltb n (length names) lt) refl
 
 not_below : (l : ℕ) → nat_lt l l ≡ false
 not_below l = by (nat_lt l l) refl

@@ -1,7 +1,7 @@
 //! Names, and lists of words with an index.
 ghost use Rattle.std.specs.Prelude.{◌≡◌, ◌↔◌, ℕ, List, [], ◌∷◌, ◌++◌, length, slice_get, slice_index, IsTrue, IfOk, IfErr, OnOk, OnErr, option_copied};
 ghost use Rattle.std.specs.List.{list_all};
-ghost use Rattle.tau_value.specs.Names.{is_name as name_test, is_name_byte as name_byte, is_small_letter, is_reserved as reserved_test, place_of};
+ghost use Rattle.tau_value.specs.Names.{is_name as name_test, is_name_byte as name_byte, is_small_letter, is_reserved as reserved_test, place_of, AreNames};
 ghost use Rattle.tau_value.specs.Places.{indexed, noted};
 
 use indexmap::IndexMap;
@@ -131,6 +131,21 @@ impl Names {
         ensures { result ≡ place_of self.now word.now }
     {
         self.places.get(word.bytes()).copied()
+    }
+
+    /// Whether the words are distinct names, as those of the starts of a program. It hashes each word.
+    pub fn are_names(&self) -> bool
+        ensures { IsTrue result ↔ AreNames self.now }
+    {
+        for (k, item) in self.items.iter().enumerate() {
+            if !is_name(item) {
+                return false;
+            }
+            if self.find(item) != Some(k) {
+                return false;
+            }
+        }
+        true
     }
 
     /// An equal list. The error is want of memory.
