@@ -61,7 +61,6 @@ place_of-at names n w distinct lt is =
     let place : position_or_len (bytes_eq w) names ≡ n = position_or_len_is (bytes_eq w) names n w (omega arith) before found in
     rw (place, lt-ltb n (length names) lt) refl
 
-
 cases : (j n : ℕ) → j < n + 1 → (j < n) ⊎ (j ≡ n)
 cases j n h = by (ltb j n) refl
   where

@@ -1,225 +1,240 @@
 use crate::*;
 use std::alloc::Global;
+use std::process::Abort;
 use std::test::Fail;
-use tau_sexpr::{Form, Forms, Text, Word, print_forms, read_forms};
+use tau_sexpr::{Form, Forms, Text, Word, is_text_byte, read_forms};
+
+// Forms that are read as values and written as they were, with the names `a` and `to-2`.
+const WRITTEN: &str = "unit true false 0 -1 9223372036854775807 -9223372036854775808 \"a\\n\\\"\"
+    (name a) (name to-2) (name 2) (name 8) (list) (list 1 (list (name a) \"x\") unit)";
+
+// Each form with its fault and node, with the names `a` and `to-2` and the bound 9.
+const FAULTS: &str = "(X shape 0) (+5 shape 0) (007 shape 0) (-0 shape 0) (a shape 0) (() shape 0)
+    (9223372036854775808 shape 0) (-9223372036854775809 shape 0)
+    ((set 1) shape 0) ((\"list\" X) shape 0) ((name) shape 0) ((name a a) shape 0)
+    ((name X) shape 2) ((name msg) shape 2) ((name -3) shape 2) ((name \"a\") shape 2) ((name (a)) shape 2)
+    ((name b) unknown 2) ((name 0) unknown 2) ((name 1) unknown 2) ((name 9) unknown 2)
+    ((name 18446744073709551617) unknown 2)
+    ((list (name 9) X) unknown 4) ((list (name 8) X) shape 5) ((list 1 (list 2 X) (name b)) shape 6)";
 
 // Values cross threads.
 fn is_shared<T: Send + Sync>(_value: &T) {}
 
-fn form(alloc: Global, text: &str) -> Result<Form, Fail> {
-    let forms = read_forms(alloc, text.as_bytes())?;
-    Ok(forms.item(0).ok_or("no form")?.copy()?)
-}
-
 fn word(alloc: Global, text: &str) -> Result<Word, Fail> {
-    match form(alloc, text)? {
-        Form::Word(word) => Ok(word),
+    let forms = read_forms(alloc, text.as_bytes())?;
+    match forms.item(0) {
+        Some(Form::Word(word)) => Ok(word.copy()?),
         _ => Err("no word".into()),
     }
 }
 
-fn names(alloc: Global) -> Result<Names, Fail> {
+fn add_name(names: &mut Names, word: Word) -> Result<(), Fail> {
+    match names.push(word) {
+        Ok(()) => Ok(()),
+        Err((_word, failed)) => Err(failed.into()),
+    }
+}
+
+fn add(list: &mut Values, item: Value) -> Result<(), Fail> {
+    match list.push(item) {
+        Ok(()) => Ok(()),
+        Err((_item, failed)) => Err(failed.into()),
+    }
+}
+
+fn add_form(forms: &mut Forms, item: Form) -> Result<(), Fail> {
+    match forms.push(item) {
+        Ok(()) => Ok(()),
+        Err((_item, failed)) => Err(failed.into()),
+    }
+}
+
+fn two_names(alloc: Global) -> Result<Names, Fail> {
     let mut names = Names::new(alloc);
-    let _ = names.push(word(alloc, "a")?);
-    let _ = names.push(word(alloc, "to-2")?);
+    add_name(&mut names, word(alloc, "a")?)?;
+    add_name(&mut names, word(alloc, "to-2")?)?;
     Ok(names)
 }
 
-// A list of `count` units, written with the word `list`.
-fn wide(alloc: Global, count: u32) -> Result<Form, Fail> {
-    let mut items = Forms::new(alloc);
-    let _ = items.push(form(alloc, "list")?);
-    let unit = form(alloc, "unit")?;
-    for _ in 0..count {
-        let _ = items.push(unit.copy()?);
+// Whether a form is read as a value and written as it was.
+fn is_kept(alloc: Global, form: &Form, names: &Names) -> Result<bool, Fail> {
+    if !names.are_names() || names.len() > 9 {
+        return Ok(false);
     }
-    Ok(Form::List(items))
-}
-
-// An integer in `levels` lists.
-fn deep(alloc: Global, levels: u32) -> Result<Form, Fail> {
-    let mut inner = form(alloc, "5")?;
-    for _ in 0..levels {
-        let mut items = Forms::new(alloc);
-        let _ = items.push(form(alloc, "list")?);
-        let _ = items.push(inner);
-        inner = Form::List(items);
-    }
-    Ok(inner)
-}
-
-fn long(alloc: Global, bytes: usize) -> Result<Form, Fail> {
-    let mut text = Text::new(alloc);
-    for _ in 0..bytes {
-        let _ = text.push(b'x');
-    }
-    Ok(Form::Text(text))
+    let value = value_of(alloc, form, names, 9)?;
+    Ok(form_of(alloc, &value, names)?.same(form))
 }
 
 #[test]
 fn reads_and_writes(rt: HostRuntime) -> Result<(), Fail> {
     let alloc = rt.alloc();
-    let names = names(alloc)?;
-    assert!(rt; names.are_names() && names.len() == 2);
-    for text in [
-        "unit\n",
-        "true\n",
-        "false\n",
-        "0\n",
-        "-1\n",
-        "9223372036854775807\n",
-        "-9223372036854775808\n",
-        "\"a\\n\\\"\"\n",
-        "(name a)\n",
-        "(name to-2)\n",
-        "(name 2)\n",
-        "(name 4294967294)\n",
-        "(list)\n",
-        "(list 1 (list (name a) \"x\") unit)\n",
-    ] {
-        let value = value_of(alloc, &form(alloc, text)?, &names, u32::MAX)?;
-        let mut forms = Forms::new(alloc);
-        let _ = forms.push(form_of(alloc, &value, &names)?);
-        assert!(rt;
-            print_forms(alloc, &forms)?.as_slice() == text.as_bytes(),
-            "{text}"
-        );
+    let names = two_names(alloc)?;
+    let forms = read_forms(alloc, WRITTEN.as_bytes())?;
+    assert_eq!(rt; forms.len(), 14);
+    for form in forms.items() {
+        assert!(rt; is_kept(alloc, form, &names)?);
     }
     Ok(())
 }
 
+fn fault_of(alloc: Global, form: &Form, names: &Names) -> Option<ValueError> {
+    if names.len() > 9 {
+        return None;
+    }
+    value_of(alloc, form, names, 9).err()
+}
+
+fn fault_named(kind: &Form, node: &Form) -> Option<ValueError> {
+    let (Form::Word(kind), Form::Word(node)) = (kind, node) else {
+        return None;
+    };
+    let node = count_of(node)?;
+    if kind.bytes() == b"unknown".as_slice() {
+        Some(ValueError::Unknown { node })
+    } else {
+        Some(ValueError::Shape { node })
+    }
+}
+
+fn has_fault(alloc: Global, row: &Form, names: &Names) -> bool {
+    let Form::List(row) = row else {
+        return false;
+    };
+    let [form, kind, node] = row.items() else {
+        return false;
+    };
+    let fault = fault_of(alloc, form, names);
+    fault.is_some() && fault == fault_named(kind, node)
+}
+
 #[test]
-fn names_faults(rt: HostRuntime) -> Result<(), Fail> {
+fn tells_faults(rt: HostRuntime) -> Result<(), Fail> {
     let alloc = rt.alloc();
-    let names = names(alloc)?;
-    assert_eq!(rt; names.len(), 2);
-    for (text, fault) in [
-        ("X", ValueError::Shape { node: 0 }),
-        ("+5", ValueError::Shape { node: 0 }),
-        ("007", ValueError::Shape { node: 0 }),
-        ("-0", ValueError::Shape { node: 0 }),
-        ("9223372036854775808", ValueError::Shape { node: 0 }),
-        ("-9223372036854775809", ValueError::Shape { node: 0 }),
-        ("a", ValueError::Shape { node: 0 }),
-        ("()", ValueError::Shape { node: 0 }),
-        ("(set 1)", ValueError::Shape { node: 0 }),
-        ("(\"list\" X)", ValueError::Shape { node: 0 }),
-        ("(name)", ValueError::Shape { node: 0 }),
-        ("(name a a)", ValueError::Shape { node: 0 }),
-        ("(name X)", ValueError::Shape { node: 2 }),
-        ("(name msg)", ValueError::Shape { node: 2 }),
-        ("(name -3)", ValueError::Shape { node: 2 }),
-        ("(name \"a\")", ValueError::Shape { node: 2 }),
-        ("(name (a))", ValueError::Shape { node: 2 }),
-        ("(name b)", ValueError::Unknown { node: 2 }),
-        ("(name 0)", ValueError::Unknown { node: 2 }),
-        ("(name 1)", ValueError::Unknown { node: 2 }),
-        ("(name 9)", ValueError::Unknown { node: 2 }),
-        (
-            "(name 18446744073709551617)",
-            ValueError::Unknown { node: 2 },
-        ),
-        ("(list (name 9) X)", ValueError::Unknown { node: 4 }),
-        ("(list (name 8) X)", ValueError::Shape { node: 5 }),
-        (
-            "(list 1 (list 2 X) (name b))",
-            ValueError::Shape { node: 6 },
-        ),
-    ] {
-        let found = value_of(alloc, &form(alloc, text)?, &names, 9).err();
-        assert_eq!(rt; found, Some(fault), "{text}");
+    let names = two_names(alloc)?;
+    let rows = read_forms(alloc, FAULTS.as_bytes())?;
+    assert_eq!(rt; rows.len(), 25);
+    for row in rows.items() {
+        assert!(rt; has_fault(alloc, row, &names));
     }
     Ok(())
+}
+
+// A list of `count` units.
+fn wide(alloc: Global, count: u32) -> Result<Form, Fail> {
+    let mut items = Forms::new(alloc);
+    add_form(&mut items, Form::Word(word(alloc, "list")?))?;
+    for _ in 0..count {
+        add_form(&mut items, Form::Word(word(alloc, "unit")?))?;
+    }
+    Ok(Form::List(items))
+}
+
+// The form in a list of its own.
+fn listed(alloc: Global, inner: Form) -> Result<Form, Fail> {
+    let mut items = Forms::new(alloc);
+    add_form(&mut items, Form::Word(word(alloc, "list")?))?;
+    add_form(&mut items, inner)?;
+    Ok(Form::List(items))
+}
+
+fn deep(alloc: Global, levels: u32) -> Result<Form, Fail> {
+    let mut form = Form::Text(Text::new(alloc));
+    for _ in 0..levels {
+        form = listed(alloc, form)?;
+    }
+    Ok(form)
+}
+
+fn long(alloc: Global, bytes: u32) -> Result<Form, Fail> {
+    let mut text = Text::new(alloc);
+    for _ in 0..bytes {
+        if !is_text_byte(b'x') || text.push(b'x').is_err() {
+            return Err("no memory".into());
+        }
+    }
+    Ok(Form::Text(text))
+}
+
+fn is_out(alloc: Global, form: &Form) -> bool {
+    let names = Names::new(alloc);
+    value_of(alloc, form, &names, 0).err() == Some(ValueError::Shape { node: 0 })
 }
 
 #[test]
 fn keeps_bounds(rt: HostRuntime) -> Result<(), Fail> {
     let alloc = rt.alloc();
-    let names = Names::new(alloc);
-    let out = Some(ValueError::Shape { node: 0 });
-    assert_eq!(rt;
-        value_of(alloc, &long(alloc, 65_535)?, &names, 0).err(),
-        None
-    );
-    assert_eq!(rt;
-        value_of(alloc, &long(alloc, 65_536)?, &names, 0).err(),
-        out
-    );
-    assert_eq!(rt;
-        value_of(alloc, &wide(alloc, 65_535)?, &names, 0).err(),
-        None
-    );
-    assert_eq!(rt;
-        value_of(alloc, &wide(alloc, 65_536)?, &names, 0).err(),
-        out
-    );
-    assert_eq!(rt; value_of(alloc, &deep(alloc, 64)?, &names, 0).err(), None);
-    assert_eq!(rt; value_of(alloc, &deep(alloc, 65)?, &names, 0).err(), out);
+    assert!(rt; !is_out(alloc, &long(alloc, 65_535)?));
+    assert!(rt; is_out(alloc, &long(alloc, 65_536)?));
+    assert!(rt; !is_out(alloc, &wide(alloc, 65_535)?));
+    assert!(rt; is_out(alloc, &wide(alloc, 65_536)?));
+    assert!(rt; !is_out(alloc, &deep(alloc, 64)?));
+    assert!(rt; is_out(alloc, &deep(alloc, 65)?));
+    Ok(())
+}
+
+fn measure(rt: &impl Abort, value: &Value) -> Result<(), Fail> {
+    assert_eq!(rt; (parts(value), levels(value)), (4, 2));
+    assert!(rt; in_bounds(value) && names_below(value, 5) && !names_below(value, 4));
+    assert!(rt; value.copy()?.same(value));
     Ok(())
 }
 
 #[test]
-fn holds_values(rt: HostRuntime) -> Result<(), Fail> {
+fn shares_values(rt: HostRuntime) -> Result<(), Fail> {
     let alloc = rt.alloc();
     let mut list = Values::new(alloc);
     is_shared(&list);
-    assert!(rt; list.is_empty());
-    let _ = list.push(Value::Name(4));
-    let _ = list.push(Value::Truth(true));
+    add(&mut list, Value::Name(4))?;
+    add(&mut list, Value::Truth(true))?;
     let before = list.copy()?;
-    let _ = list.push(Value::Text(Text::of(alloc, b"")?));
+    add(&mut list, Value::Text(Text::new(alloc)))?;
     assert_eq!(rt; (before.len(), list.len()), (2, 3));
-    assert!(rt; !before.same(&list));
-    assert!(rt; list.item(3).is_none());
-    assert!(rt; list.item(1).ok_or("no item")?.same(&Value::Truth(true)));
-    let value = Value::List(list);
-    assert!(rt; value.copy()?.same(&value));
-    assert_eq!(rt; (parts(&value), levels(&value)), (4, 2));
-    assert!(rt; in_bounds(&value) && names_below(&value, 5) && !names_below(&value, 4));
-    Ok(())
+    assert!(rt; !before.same(&list) && !before.is_empty());
+    assert!(rt;
+        list.item(1)
+            .is_some_and(|item| item.same(&Value::Truth(true)))
+    );
+    measure(&rt, &Value::List(list))
+}
+
+fn place(alloc: Global, names: &Names, text: &str) -> Result<Option<usize>, Fail> {
+    let word = word(alloc, text)?;
+    Ok(names.find(&word))
 }
 
 #[test]
 fn finds_names(rt: HostRuntime) -> Result<(), Fail> {
     let alloc = rt.alloc();
-    let mut names = names(alloc)?;
+    let mut names = two_names(alloc)?;
     is_shared(&names);
-    assert!(rt; names.are_names());
-    let _ = names.push(word(alloc, "a")?);
-    assert!(rt; !names.are_names());
-    let copy = names.copy()?;
-    assert_eq!(rt; copy.find(&word(alloc, "a")?), Some(0));
-    assert_eq!(rt; copy.find(&word(alloc, "to-2")?), Some(1));
-    assert_eq!(rt; copy.find(&word(alloc, "b")?), None);
-    assert!(rt; copy.item(2).ok_or("no word")?.same(&word(alloc, "a")?));
-    assert!(rt; !copy.is_empty() && copy.items().len() == 3);
-    for (text, named) in [
-        ("a", true),
-        ("z9-", true),
-        ("msg", false),
-        ("9a", false),
-        ("aB", false),
-    ] {
-        assert_eq!(rt; is_name(&word(alloc, text)?), named, "{text}");
-    }
+    assert!(rt; names.are_names() && !names.is_empty());
+    add_name(&mut names, word(alloc, "a")?)?;
+    let names = names.copy()?;
+    assert!(rt; !names.are_names() && names.items().len() == 3);
+    assert!(rt; names.item(2).is_some_and(|word| is_name(word)));
+    assert_eq!(rt; place(alloc, &names, "a")?, Some(0));
+    assert_eq!(rt; place(alloc, &names, "to-2")?, Some(1));
+    assert_eq!(rt; place(alloc, &names, "b")?, None);
     Ok(())
+}
+
+fn number(rt: &impl Abort, word: &Word, count: Option<u64>, integer: Option<i64>) {
+    assert_eq!(rt; count_of(word), count);
+    assert_eq!(rt; integer_of(word), integer);
 }
 
 #[test]
 fn reads_numbers(rt: HostRuntime) -> Result<(), Fail> {
     let alloc = rt.alloc();
-    for (text, count, integer) in [
-        ("0", Some(0), Some(0)),
-        ("120", Some(120), Some(120)),
-        ("-120", None, Some(-120)),
-        ("18446744073709551616", Some(u64::MAX), None),
-        ("00", None, None),
-        ("-", None, None),
-        ("1a", None, None),
-    ] {
-        assert_eq!(rt; count_of(&word(alloc, text)?), count, "{text}");
-        assert_eq!(rt; integer_of(&word(alloc, text)?), integer, "{text}");
-    }
+    number(&rt, &word(alloc, "120")?, Some(120), Some(120));
+    number(&rt, &word(alloc, "-120")?, None, Some(-120));
+    number(
+        &rt,
+        &word(alloc, "18446744073709551616")?,
+        Some(u64::MAX),
+        None,
+    );
+    number(&rt, &word(alloc, "00")?, None, None);
     assert_eq!(rt; word_of_count(alloc, 120)?.bytes(), b"120".as_slice());
     assert_eq!(rt; word_of_integer(alloc, -120)?.bytes(), b"-120".as_slice());
     Ok(())
