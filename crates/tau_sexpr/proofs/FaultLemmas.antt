@@ -1,17 +1,16 @@
 -- The reader's fault is the first fault of the bytes.
-use Rattle.std.proofs.Common.{◌≡◌, ◌≢◌, ℕ, zero, suc, ◌+◌, ◌-◌, ◌<◌, ◌≤◌, ◌==◌, nat_lt, Bool, true, false, if◌then◌else◌, IsTrue, List, [], ◌∷◌, ◌++◌, length, drop, slice_get, Option, Some, None, Result, Ok, Err, refl, sym, ap, subst, ap₂, ◌∙◌, arith, length-drop, ◌⊎◌, ⊎_elim, inl, inr}
-use borrow.Author.Tests.{ltb-true, ltb-false}
-use Rattle.tau_sexpr.specs.Tree.{Tree, word, text, list, inside}
+use Rattle.std.proofs.Common.{◌≡◌, ◌≢◌, ℕ, zero, suc, ◌+◌, ◌<◌, ◌≤◌, ◌==◌, nat_lt, Bool, true, false, if◌then◌else◌, List, [], ◌∷◌, ◌++◌, length, drop, slice_get, Option, Some, None, Result, Ok, Err, refl, sym, ap, subst, ap₂, ◌∙◌, arith, length-drop, ◌⊎◌, ⊎_elim, inl, inr}
+use borrow.Author.Tests.{ltb-true, ltb-false, eqb-true, eqb-false}
+use Rattle.tau_sexpr.specs.Tree.{Tree, word, text}
 use Rattle.tau_sexpr.specs.Kinds.{kind_of, is_plain, meaning}
 use Rattle.tau_sexpr.specs.Faults.{Part, in_comment, in_quotes, after_backslash, Lexical, lexical, moved_outside, moved, moved_by, state_at, place_of, IsBadInQuotes, IsBad, IsOpen, IsFault, a_byte, the_end, IsFirstFault}
 use Rattle.tau_sexpr.specs.Faults as faults
-use Rattle.tau_sexpr.specs.Reader.{Stack, stack, Reader, reader, Mode, outside, comment, in_word, in_text, in_pair, with_form, step, step_outside, step_word, step_text, step_pair, ended, closed, finish, and_then, run, read_all}
+use Rattle.tau_sexpr.specs.Reader.{Stack, stack, Reader, reader, Mode, outside, comment, in_word, in_text, in_pair, with_form, step, step_outside, step_word, step_pair, ended, closed, finish, and_then, run, read_all}
 use Rattle.tau_sexpr.specs.declared.bytes.ByteKind.{ByteKind}
 use Rattle.tau_sexpr.specs.declared.bytes.ByteKind.TheVariants.{Blank, Semicolon, Opening, Closing, Quote, OfWord, Other}
 use Rattle.tau_sexpr.specs.declared.faults.FormError.{FormError}
 use Rattle.tau_sexpr.specs.declared.faults.FormError.TheVariants.{BadByte, Unopened, Unclosed, BadText, TooDeep, NoMemory}
 use Rattle.tau_sexpr.proofs.RunLemmas.{go_on}
-use Rattle.tau_sexpr.proofs.KindLemmas.{plain_tests}
 
 -- what a mode lies in
 abbrev part_of : Mode → Part
@@ -56,22 +55,24 @@ fine_inside part n b within good NoMemory bad = bad
 judge_opening : (b at : ℕ) (s : Stack) → length s.lists ≤ 200 → kind_of b ≡ Opening → (t : Bool) → nat_lt (length s.lists) 200 ≡ t
     → Judges faults.outside (length s.lists) b at (if t then Ok (reader (at + 1) outside (stack (s.forms ∷ s.lists) [])) else Err (TooDeep at))
 judge_opening b at s le is true test =
-    let room : length s.lists < 200 = ltb-true (length s.lists) 200 test in
-    (ap (λ n. lexical faults.outside n) (omega arith) ∙ ap (λ k. moved_outside k (length s.lists)) (sym is),
-    omega arith,
-    omega arith,
-    fine b (length s.lists) Opening is (λ h. cc) (λ h. absurd (cc)) (λ h. room))
+    let room : length s.lists < 200 = ltb-true (length s.lists) 200 test in (
+      ap (λ n. lexical faults.outside n) (omega arith) ∙ ap (λ k. moved_outside k (length s.lists)) (sym is),
+      omega arith,
+      omega arith,
+      fine b (length s.lists) Opening is (λ h. cc) (λ h. absurd (cc)) (λ h. room),
+    )
 judge_opening b at s le is false test =
     let full : 200 ≤ length s.lists = ltb-false (length s.lists) 200 test in
     ((refl, is, omega arith), refl)
 
 judge_closing : (b at : ℕ) (lists : List (List Tree)) (forms : List Tree) → length lists ≤ 200 → kind_of b ≡ Closing → Judges faults.outside (length lists) b at (closed at lists forms)
 judge_closing b at [] forms le is = ((refl, is, refl), refl)
-judge_closing b at (o ∷ os) forms le is =
-    (ap (λ n. lexical faults.outside n) (omega arith) ∙ ap (λ k. moved_outside k (length (o ∷ os))) (sym is),
-    omega arith,
-    omega arith,
-    fine b (length (o ∷ os)) Closing is (λ h. cc) (λ h. omega arith) (λ h. absurd (cc)))
+judge_closing b at (o ∷ os) forms le is = (
+  ap (λ n. lexical faults.outside n) (omega arith) ∙ ap (λ k. moved_outside k (length (o ∷ os))) (sym is),
+  omega arith,
+  omega arith,
+  fine b (length (o ∷ os)) Closing is (λ h. cc) (λ h. omega arith) (λ h. absurd (cc)),
+)
 
 judge_outside : (b at : ℕ) (s : Stack) → length s.lists ≤ 200 → (k : ByteKind) → kind_of b ≡ k → Judges faults.outside (length s.lists) b at (step_outside k b at s)
 judge_outside b at s le Blank is = (ap (λ k. moved_outside k (length s.lists)) (sym is), omega arith, le, fine b (length s.lists) Blank is (λ h. cc) (λ h. absurd (cc)) (λ h. absurd (cc)))
@@ -100,16 +101,25 @@ quoted_by x y = if x then faults.outside else if y then after_backslash else in_
 
 judge_text : (b at : ℕ) (t : List ℕ) (s : Stack) → length s.lists ≤ 200 → (x y z : Bool) → (b == 34) ≡ x → (b == 92) ≡ y → is_plain b ≡ z
     → Judges in_quotes (length s.lists) b at (if x then Ok (reader (at + 1) outside (with_form s (text t))) else if y then Ok (reader (at + 1) (in_pair t) s) else if z then Ok (reader (at + 1) (in_text (t ++ b ∷ [])) s) else Err (BadText at))
-judge_text b at t s le true y z ex ey ez =
-    (ap (λ x. lexical (if x then faults.outside else if b == 92 then after_backslash else in_quotes) (length s.lists)) (sym ex), omega arith, le,
-    fine_inside in_quotes (length s.lists) b (λ h. cc) (λ bad. let no : (b == 34) ≡ false = bad.0 in absurd (cc)))
-judge_text b at t s le false true z ex ey ez =
-    (ap (λ x. lexical (if x then faults.outside else if true then after_backslash else in_quotes) (length s.lists)) (sym ex) ∙ ap (λ y. lexical (if b == 34 then faults.outside else if y then after_backslash else in_quotes) (length s.lists)) (sym ey), omega arith, le,
-    fine_inside in_quotes (length s.lists) b (λ h. cc) (λ bad. let no : (b == 92) ≡ false = bad.1 in absurd (cc)))
-judge_text b at t s le false false true ex ey ez =
-    (ap (λ x. lexical (if x then faults.outside else if false then after_backslash else in_quotes) (length s.lists)) (sym ex) ∙ ap (λ y. lexical (if b == 34 then faults.outside else if y then after_backslash else in_quotes) (length s.lists)) (sym ey), omega arith, le,
-    fine_inside in_quotes (length s.lists) b (λ h. cc) (λ bad. let no : is_plain b ≡ false = bad.2 in absurd (cc)))
-judge_text b at t s le false false false ex ey ez = ((ex, ey, ez), refl)
+judge_text b at t s le true y z ex ey ez = (
+  ap (λ x. lexical (if x then faults.outside else if b == 92 then after_backslash else in_quotes) (length s.lists)) (sym ex),
+  omega arith,
+  le,
+  fine_inside in_quotes (length s.lists) b (λ h. cc) (λ bad. bad.0 (eqb-true b 34 ex)),
+)
+judge_text b at t s le false true z ex ey ez = (
+  ap (λ x. lexical (if x then faults.outside else if true then after_backslash else in_quotes) (length s.lists)) (sym ex) ∙ ap (λ y. lexical (if b == 34 then faults.outside else if y then after_backslash else in_quotes) (length s.lists)) (sym ey),
+  omega arith,
+  le,
+  fine_inside in_quotes (length s.lists) b (λ h. cc) (λ bad. bad.1 (eqb-true b 92 ey)),
+)
+judge_text b at t s le false false true ex ey ez = (
+  ap (λ x. lexical (if x then faults.outside else if false then after_backslash else in_quotes) (length s.lists)) (sym ex) ∙ ap (λ y. lexical (if b == 34 then faults.outside else if y then after_backslash else in_quotes) (length s.lists)) (sym ey),
+  omega arith,
+  le,
+  fine_inside in_quotes (length s.lists) b (λ h. cc) (λ bad. bad.2 ez),
+)
+judge_text b at t s le false false false ex ey ez = ((eqb-false b 34 ex, eqb-false b 92 ey, λ h. cc), refl)
 
 judge_pair : (b at : ℕ) (t : List ℕ) (s : Stack) → length s.lists ≤ 200 → (o : Option ℕ) → meaning b ≡ o → Judges after_backslash (length s.lists) b at (step_pair o t at s)
 judge_pair b at t s le None is = (is, refl)
@@ -168,11 +178,11 @@ split_by m n false e h = inr (omega (arith, ltb-false m n e))
 later : (bs : List ℕ) (p b : ℕ) → slice_get bs p ≡ Some b → p < length bs → ((e : FormError) → ¬ IsBad (state_at bs p) b e) → (e : FormError) → IsFault bs e → p ≤ place_of e → suc p ≤ place_of e
 later bs p b is lt good e (a_byte {b = c} there bad) le = ⊎_elim (λ h. h) (λ h. absurd (here h)) (split_by p (place_of e) (nat_lt p (place_of e)) refl le)
   where
-  here : place_of e ≡ p → ⊥
-  here h =
-      let found : Some c ≡ Some b = sym there ∙ ap (slice_get bs) h ∙ is in
-      let same : c ≡ b = cc in
-      good e (subst (λ x. IsBad (state_at bs p) x e) same (subst (λ q. IsBad (state_at bs q) c e) h bad))
+    here : place_of e ≡ p → ⊥
+    here h =
+        let found : Some c ≡ Some b = sym there ∙ ap (slice_get bs) h ∙ is in
+        let same : c ≡ b = cc in
+        good e (subst (λ x. IsBad (state_at bs p) x e) same (subst (λ q. IsBad (state_at bs q) c e) h bad))
 later bs p b is lt good e (the_end same opened) le = let at_end : place_of e ≡ length bs = ap place_of same in omega arith
 
 abbrev pub Judged : List ℕ → Result (List Tree) FormError → Type 0

@@ -1,10 +1,10 @@
 -- What the kind of a byte tells of it, and the kinds of the bytes that spellings name.
-use Rattle.std.proofs.Common.{◌≡◌, ◌≢◌, ℕ, ◌==◌, Bool, true, false, if◌then◌else◌, IsTrue, Option, Some, refl, sym, ap, subst, ◌∙◌, arith, ◌⊎◌, inl, inr}
-use Rattle.std.proofs.lemmas.Bool.{eqb-true, eq-eqb}
+use Rattle.std.proofs.Common.{◌≡◌, ℕ, ◌==◌, Bool, true, false, if◌then◌else◌, IsTrue, refl, sym, subst, arith}
+use Rattle.std.proofs.lemmas.Bool.{eqb-true}
 use Rattle.std.proofs.lemmas.Bool.Decides.{nat_tests}
 use borrow.Author.Tests.{ne_eqb}
 use Rattle.tau_sexpr.specs.Bytes.{is_blank, is_letter_or_digit, is_word_sign, is_word_byte, is_text_byte, IsWordByte}
-use Rattle.tau_sexpr.specs.Kinds.{kind_of, is_plain, meaning}
+use Rattle.tau_sexpr.specs.Kinds.{kind_of, is_plain}
 use Rattle.tau_sexpr.specs.declared.bytes.ByteKind.{ByteKind}
 use Rattle.tau_sexpr.specs.declared.bytes.ByteKind.TheVariants.{Blank, Semicolon, Opening, Closing, Quote, OfWord, Other}
 

@@ -1,12 +1,12 @@
 -- Spelling and first faults, by the reader.
-use Rattle.std.proofs.Common.{◌≡◌, ◌≢◌, ℕ, ◌≤◌, List, [], ◌∷◌, ◌++◌, Result, Ok, Err, refl, sym, ap, subst, ◌∙◌, ◌⊎◌, ⊎_elim, inl, inr, arith}
+use Rattle.std.proofs.Common.{◌≡◌, ◌≢◌, ℕ, ◌≤◌, List, [], Result, Ok, Err, refl, sym, ap, subst, ◌⊎◌, ⊎_elim, inl, inr, arith}
 use Rattle.std.specs.Result.{IfOk, IfErr}
 use Rattle.std.specs.List.{All}
-use Rattle.tau_sexpr.specs.Tree.{Tree, Trees, inside, items_of, items_of-inside, depth_of_all, depths, depth_of_all-inside, HasWords, AllHaveWords, All-items_of}
+use Rattle.tau_sexpr.specs.Tree.{Tree, Trees, inside, items_of-inside, depth_of_all, depths, depth_of_all-inside, HasWords, AllHaveWords, All-items_of}
 use Rattle.tau_sexpr.specs.Spelling.{Spells, at_end, at_closing, a_blank, a_comment, a_word, a_text, a_list, IsSpelling, IsUnlessNoMemory}
-use Rattle.tau_sexpr.specs.Faults.{place_of, IsFault, IsFirstFault}
+use Rattle.tau_sexpr.specs.Faults.{place_of, IsFirstFault}
 use Rattle.tau_sexpr.specs.Laws.{SpellsOnce, SpellsWithoutFault, HasFormsOrFault, FailsOnce}
-use Rattle.tau_sexpr.specs.Reader.{stack, outside, run, finish, read_all, Tells, Gives}
+use Rattle.tau_sexpr.specs.Reader.{run, finish, read_all, Tells, Gives}
 use Rattle.tau_sexpr.specs.declared.faults.FormError.{FormError}
 use Rattle.tau_sexpr.specs.declared.faults.FormError.TheVariants.{BadByte, Unopened, Unclosed, BadText, TooDeep, NoMemory}
 use Rattle.tau_sexpr.proofs.RunLemmas.{run_forms}
@@ -28,12 +28,12 @@ one_error r e f one two = cc
 pub fault_read : (bs : List ℕ) (e : FormError) → IsFirstFault bs e → read_all bs ≡ Err e
 fault_read bs e h = by (read_all bs) (judge_all bs)
   where
-  by : (r : Result (List Tree) FormError) → Judged bs r → r ≡ Err e
-  by (Ok ts) none = absurd (none e h.fault)
-  by (Err f) first =
-      let one : place_of e ≤ place_of f = h.first f first.fault in
-      let two : place_of f ≤ place_of e = first.first e h.fault in
-      ap (λ g. Err g) (one_fault bs f e first.fault h.fault (omega arith))
+    by : (r : Result (List Tree) FormError) → Judged bs r → r ≡ Err e
+    by (Ok ts) none = absurd (none e h.fault)
+    by (Err f) first =
+        let one : place_of e ≤ place_of f = h.first f first.fault in
+        let two : place_of f ≤ place_of e = first.first e h.fault in
+        ap (λ g. Err g) (one_fault bs f e first.fault h.fault (omega arith))
 
 pub read_fault : (bs : List ℕ) (e : FormError) → read_all bs ≡ Err e → IsFirstFault bs e
 read_fault bs e h = subst (Judged bs) h (judge_all bs)
@@ -47,9 +47,9 @@ without_fault bs ts e h = subst (Judged bs) (spelled_read bs ts h) (judge_all bs
 pub forms_or_fault : (bs : List ℕ) → HasFormsOrFault bs
 forms_or_fault bs = by (read_all bs) refl
   where
-  by : (r : Result (List Tree) FormError) → read_all bs ≡ r → HasFormsOrFault bs
-  by (Ok ts) e = inl (ts, read_spells bs ts e)
-  by (Err f) e = inr (f, read_fault bs f e)
+    by : (r : Result (List Tree) FormError) → read_all bs ≡ r → HasFormsOrFault bs
+    by (Ok ts) e = inl (ts, read_spells bs ts e)
+    by (Err f) e = inr (f, read_fault bs f e)
 
 pub fails_once : (bs : List ℕ) → FailsOnce bs
 fails_once bs e f one two = one_error (read_all bs) e f (fault_read bs e one) (fault_read bs f two)

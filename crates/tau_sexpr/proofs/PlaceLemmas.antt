@@ -1,5 +1,5 @@
 -- What the reader does at a place of the bytes.
-use Rattle.std.proofs.Common.{◌≡◌, ◌≢◌, ℕ, suc, ◌+◌, ◌-◌, ◌<◌, ◌≤◌, ◌==◌, Bool, true, false, if◌then◌else◌, IsTrue, List, [], ◌∷◌, ◌++◌, length, take, drop, get_or, Option, Some, None, Result, Ok, Err, refl, sym, ap, ap₂, subst, ◌∙◌, arith}
+use Rattle.std.proofs.Common.{◌≡◌, ◌≢◌, ℕ, suc, ◌+◌, ◌-◌, ◌<◌, ◌≤◌, ◌==◌, Bool, true, false, if◌then◌else◌, IsTrue, List, [], ◌∷◌, ◌++◌, length, take, drop, get_or, Some, None, Result, Ok, Err, refl, sym, ap, ap₂, subst, ◌∙◌, arith}
 use Rattle.std.specs.List.{All, slice_range}
 use Rattle.std.proofs.lemmas.List.{drop_more, drop_all}
 use Rattle.std.proofs.lemmas.List.Elements.{All-cons}
@@ -8,7 +8,7 @@ use Rattle.tau_sexpr.specs.Tree.{Tree, word, text}
 use Rattle.tau_sexpr.specs.Bytes.{IsWordByte, IsTextByte, is_text_byte}
 use Rattle.tau_sexpr.specs.Kinds.{kind_of, is_plain, meaning}
 use Rattle.tau_sexpr.specs.Spelling.{EndsWord, EndsLine, EndsPlain}
-use Rattle.tau_sexpr.specs.Reader.{Stack, stack, Reader, reader, Mode, outside, comment, in_word, in_text, in_pair, with_form, step, step_outside, step_text, step_pair, finish, ended, and_then, run, Tells, TellsStep, Gives}
+use Rattle.tau_sexpr.specs.Reader.{Stack, Reader, reader, Mode, outside, comment, in_word, in_text, in_pair, with_form, step, step_outside, step_text, step_pair, finish, ended, and_then, run, Tells, TellsStep, Gives}
 use Rattle.tau_sexpr.specs.declared.bytes.ByteKind.{ByteKind}
 use Rattle.tau_sexpr.specs.declared.faults.FormError.{FormError}
 use Rattle.tau_sexpr.specs.declared.faults.FormError.TheVariants.{BadByte, Unopened, Unclosed, BadText, TooDeep, NoMemory}
@@ -46,11 +46,11 @@ pub meaning_text : (b c : ℕ) → meaning b ≡ Some c → IsTextByte c
 unfolding meaning is_text_byte
 meaning_text b c e = by (b == 34) (b == 92) (b == 110) e
   where
-  by : (x y z : Bool) → (if x then Some 34 else if y then Some 92 else if z then Some 10 else None) ≡ Some c → IsTextByte c
-  by true y z e = let is : 34 ≡ c = cc in subst IsTextByte is refl
-  by false true z e = let is : 92 ≡ c = cc in subst IsTextByte is refl
-  by false false true e = let is : 10 ≡ c = cc in subst IsTextByte is refl
-  by false false false e = absurd (cc)
+    by : (x y z : Bool) → (if x then Some 34 else if y then Some 92 else if z then Some 10 else None) ≡ Some c → IsTextByte c
+    by true y z e = let is : 34 ≡ c = cc in subst IsTextByte is refl
+    by false true z e = let is : 92 ≡ c = cc in subst IsTextByte is refl
+    by false false true e = let is : 10 ≡ c = cc in subst IsTextByte is refl
+    by false false false e = absurd (cc)
 
 pub quote_read : (bs : List ℕ) (at : ℕ) → at < length bs → get_or bs at 0 ≡ 34 → (u : List ℕ) (s : Stack) → run (drop at bs) at (in_text u) s ≡ run (drop (at + 1) bs) (at + 1) outside (with_form s (text u))
 unfolding step

@@ -1,5 +1,5 @@
 -- What is printed spells its forms.
-use Rattle.std.proofs.Common.{◌≡◌, ◌≢◌, ℕ, zero, suc, ◌+◌, ◌*◌, ◌<◌, ◌≤◌, ◌==◌, Bool, true, false, if◌then◌else◌, IsTrue, List, [], ◌∷◌, ◌++◌, length, map, take, get_or, Some, Result, Ok, Err, Vec, refl, sym, ap, subst, ◌∙◌, arith, append_assoc, append-nil}
+use Rattle.std.proofs.Common.{◌≡◌, ◌≢◌, ℕ, zero, suc, ◌+◌, ◌<◌, ◌≤◌, ◌==◌, Bool, true, false, if◌then◌else◌, IsTrue, List, [], ◌∷◌, ◌++◌, length, map, take, get_or, Result, Ok, Err, Vec, refl, sym, ap, subst, ◌∙◌, arith, append_assoc, append-nil}
 use Rattle.std.specs.List.{All, flat_map}
 use Rattle.std.specs.Result.{IfOk, OnOk}
 use Rattle.std.specs.declared.alloc.AllocError.{AllocError}
@@ -10,7 +10,7 @@ use Rattle.std.proofs.lemmas.List.Elements.{All-head, All-tail, All-push}
 use borrow.Author.Tests.{ne_eqb}
 use Rattle.std.proofs.lemmas.Bool.{eqb-true}
 use Rattle.std.proofs.lemmas.Bool.Decides.{nat_tests}
-use Rattle.tau_sexpr.specs.Tree.{Tree, Trees, word, text, list, none, more, inside, size_of, sizes, depth_of, depth_of_all, depths, depth_of_all-inside, HasWords, AllHaveWords}
+use Rattle.tau_sexpr.specs.Tree.{Tree, Trees, word, text, list, none, more, inside, size_of, sizes, depth_of, depth_of_all, depths, HasWords, AllHaveWords}
 use Rattle.tau_sexpr.specs.Bytes.{is_blank, is_letter_or_digit, is_word_sign, is_word_byte, is_text_byte, IsWordByte, IsTextByte}
 use Rattle.tau_sexpr.specs.Kinds.{is_plain, meaning}
 use Rattle.tau_sexpr.specs.Spelling.{EndsWord, Quotes, closing, plain, pair, Spells, at_end, at_closing, a_blank, a_word, a_text, a_list, IsSpelling}
@@ -50,11 +50,11 @@ quotes_byte : (b : ℕ) (bs t rest : List ℕ) → IsTextByte b → Quotes bs t 
 unfolding quoted_byte meaning
 quotes_byte b bs t rest is quotes = by (b == 34) (b == 92) (b == 10) refl refl refl
   where
-  by : (x y z : Bool) → (b == 34) ≡ x → (b == 92) ≡ y → (b == 10) ≡ z → Quotes ((if x then 92 ∷ 34 ∷ [] else if y then 92 ∷ 92 ∷ [] else if z then 92 ∷ 110 ∷ [] else b ∷ []) ++ bs) (b ∷ t) rest
-  by true y z ex ey ez = subst (λ c. Quotes (92 ∷ 34 ∷ bs) (c ∷ t) rest) (sym (eqb-true b 34 ex)) (pair refl quotes)
-  by false true z ex ey ez = subst (λ c. Quotes (92 ∷ 92 ∷ bs) (c ∷ t) rest) (sym (eqb-true b 92 ey)) (pair refl quotes)
-  by false false true ex ey ez = subst (λ c. Quotes (92 ∷ 110 ∷ bs) (c ∷ t) rest) (sym (eqb-true b 10 ez)) (pair refl quotes)
-  by false false false ex ey ez = plain (text_plain b is ex ey ez) quotes
+    by : (x y z : Bool) → (b == 34) ≡ x → (b == 92) ≡ y → (b == 10) ≡ z → Quotes ((if x then 92 ∷ 34 ∷ [] else if y then 92 ∷ 92 ∷ [] else if z then 92 ∷ 110 ∷ [] else b ∷ []) ++ bs) (b ∷ t) rest
+    by true y z ex ey ez = subst (λ c. Quotes (92 ∷ 34 ∷ bs) (c ∷ t) rest) (sym (eqb-true b 34 ex)) (pair refl quotes)
+    by false true z ex ey ez = subst (λ c. Quotes (92 ∷ 92 ∷ bs) (c ∷ t) rest) (sym (eqb-true b 92 ey)) (pair refl quotes)
+    by false false true ex ey ez = subst (λ c. Quotes (92 ∷ 110 ∷ bs) (c ∷ t) rest) (sym (eqb-true b 10 ez)) (pair refl quotes)
+    by false false false ex ey ez = plain (text_plain b is ex ey ez) quotes
 
 quotes_text : (t bs : List ℕ) → All IsTextByte t → Quotes (flat_map quoted_byte t ++ 34 ∷ bs) t bs
 quotes_text [] bs all = closing

@@ -1,14 +1,14 @@
 -- What the reader does over whole tokens.
-use Rattle.std.proofs.Common.{◌≡◌, ◌≢◌, ℕ, suc, ◌+◌, ◌<◌, ◌==◌, nat_lt, Bool, true, false, if◌then◌else◌, IsTrue, List, [], ◌∷◌, ◌++◌, length, Option, Some, None, Result, Ok, Err, refl, sym, ap, ap₂, subst, ◌∙◌, arith, append_assoc, append-nil}
+use Rattle.std.proofs.Common.{◌≡◌, ◌≢◌, ℕ, ◌+◌, ◌<◌, ◌==◌, Bool, true, false, if◌then◌else◌, IsTrue, List, [], ◌∷◌, ◌++◌, length, Result, Ok, Err, refl, sym, ap, ap₂, ◌∙◌, arith, append_assoc, append-nil}
 use Rattle.std.specs.List.{All}
 use Rattle.std.proofs.lemmas.List.Elements.{All-head, All-tail}
-use Rattle.std.proofs.lemmas.Bool.{eqb-true, eq-eqb}
+use Rattle.std.proofs.lemmas.Bool.{eq-eqb}
 use borrow.Author.Tests.{ne_eqb, lt-ltb}
-use Rattle.tau_sexpr.specs.Tree.{Tree, Trees, word, text, list, none, more, inside, items_of, inside-items_of}
-use Rattle.tau_sexpr.specs.Bytes.{is_blank, IsWordByte}
-use Rattle.tau_sexpr.specs.Kinds.{kind_of, is_plain, meaning}
+use Rattle.tau_sexpr.specs.Tree.{Tree, Trees, word, text, list, items_of, inside-items_of}
+use Rattle.tau_sexpr.specs.Bytes.{IsWordByte}
+use Rattle.tau_sexpr.specs.Kinds.{kind_of, is_plain}
 use Rattle.tau_sexpr.specs.Spelling.{EndsWord, EndsLine, Quotes, closing, plain, pair, Spells, at_end, at_closing, a_blank, a_comment, a_word, a_text, a_list}
-use Rattle.tau_sexpr.specs.Reader.{Stack, stack, Reader, reader, Mode, outside, comment, in_word, in_text, in_pair, with_form, step, step_outside, step_word, step_text, step_pair, finish, and_then, run}
+use Rattle.tau_sexpr.specs.Reader.{Stack, stack, Reader, reader, outside, comment, in_word, in_text, with_form, step, step_outside, step_word, step_pair, finish, and_then, run}
 use Rattle.tau_sexpr.specs.declared.bytes.ByteKind.{ByteKind}
 use Rattle.tau_sexpr.specs.declared.bytes.ByteKind.TheVariants.{Blank, Semicolon, Opening, Closing, Quote, OfWord, Other}
 use Rattle.tau_sexpr.specs.declared.faults.FormError.{FormError}
@@ -107,21 +107,21 @@ run_forms (a_word {b = b} w bs {rest = rest} {ts = ts} all ends spelled) at list
     run_outside b (w ++ bs) at (stack lists forms) OfWord (kind_word b (All-head IsWordByte b w all))
     ∙ run_word w bs (b ∷ []) (All-tail IsWordByte b w all) ends (at + 1) (stack lists forms) z
     (λ p e. run_forms spelled p lists (forms ++ word (b ∷ w) ∷ []) depth z
-        (λ at. ap (λ us. run rest at outside (stack lists us)) (append_assoc forms (word (b ∷ w) ∷ []) (items_of ts)) ∙ k at))
+    (λ at. ap (λ us. run rest at outside (stack lists us)) (append_assoc forms (word (b ∷ w) ∷ []) (items_of ts)) ∙ k at))
 run_forms (a_text {bs = bs} {t = t} {after = after} {rest = rest} {ts = ts} quotes spelled) at lists forms depth z k =
     run_outside 34 bs at (stack lists forms) Quote kind_quote
     ∙ run_text quotes [] (at + 1) (stack lists forms) z
     (λ at. run_forms spelled at lists (forms ++ text t ∷ []) depth z
-        (λ at. ap (λ us. run rest at outside (stack lists us)) (append_assoc forms (text t ∷ []) (items_of ts)) ∙ k at))
+    (λ at. ap (λ us. run rest at outside (stack lists us)) (append_assoc forms (text t ∷ []) (items_of ts)) ∙ k at))
 run_forms (a_list {d = d} {bs = bs} {after = after} {rest = rest} {us = us} {ts = ts} inner spelled) at lists forms depth z k =
     let room : length lists < 200 = omega arith in
     let opened : run (40 ∷ bs) at outside (stack lists forms) ≡ run bs (at + 1) outside (stack (forms ∷ lists) []) =
-        run_outside 40 bs at (stack lists forms) Opening kind_opening
-        ∙ ap (λ t. and_then (if t then Ok (reader (at + 1) outside (stack (forms ∷ lists) [])) else Err (TooDeep at)) (go_on bs)) (lt-ltb (length lists) 200 room) in
+    run_outside 40 bs at (stack lists forms) Opening kind_opening
+    ∙ ap (λ t. and_then (if t then Ok (reader (at + 1) outside (stack (forms ∷ lists) [])) else Err (TooDeep at)) (go_on bs)) (lt-ltb (length lists) 200 room) in
     let deeper : length (forms ∷ lists) + d ≡ 200 = omega arith in
     opened
     ∙ run_forms inner (at + 1) (forms ∷ lists) [] deeper z
     (λ at. run_outside 41 after at (stack (forms ∷ lists) (items_of us)) Closing kind_closing
-        ∙ ap (λ vs. run after (at + 1) outside (stack lists (forms ++ list vs ∷ []))) (inside-items_of us)
-        ∙ run_forms spelled (at + 1) lists (forms ++ list us ∷ []) depth z
-        (λ at. ap (λ us. run rest at outside (stack lists us)) (append_assoc forms (list us ∷ []) (items_of ts)) ∙ k at))
+    ∙ ap (λ vs. run after (at + 1) outside (stack lists (forms ++ list vs ∷ []))) (inside-items_of us)
+    ∙ run_forms spelled (at + 1) lists (forms ++ list us ∷ []) depth z
+    (λ at. ap (λ us. run rest at outside (stack lists us)) (append_assoc forms (list us ∷ []) (items_of ts)) ∙ k at))

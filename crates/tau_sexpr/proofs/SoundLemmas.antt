@@ -1,17 +1,16 @@
 -- What the reader reads is spelled so.
-use Rattle.std.proofs.Common.{◌≡◌, ◌≢◌, ℕ, zero, suc, ◌+◌, ◌<◌, ◌==◌, nat_lt, Bool, true, false, if◌then◌else◌, IsTrue, List, [], ◌∷◌, ◌++◌, length, Option, Some, None, Result, Ok, Err, refl, sym, ap, subst, ◌∙◌, arith, append_assoc, append-nil}
+use Rattle.std.proofs.Common.{◌≡◌, ◌≢◌, ℕ, zero, suc, ◌+◌, ◌==◌, nat_lt, Bool, true, false, if◌then◌else◌, List, [], ◌∷◌, ◌++◌, length, Option, Some, None, Ok, Err, refl, sym, ap, subst, ◌∙◌, arith, append_assoc, append-nil}
 use Rattle.std.specs.List.{All}
 use Rattle.std.proofs.lemmas.List.Elements.{All-nil, All-cons}
-use Rattle.std.proofs.lemmas.Bool.{eqb-true, eq-eqb}
-use borrow.Author.Tests.{eqb-false, ltb-true, ltb-false}
-use Rattle.tau_sexpr.specs.Tree.{Tree, Trees, word, text, list, none, more, inside, items_of, inside-items_of, items_of-inside}
-use Rattle.tau_sexpr.specs.Bytes.{is_blank, is_word_byte, IsWordByte}
+use Rattle.std.proofs.lemmas.Bool.{eqb-true}
+use borrow.Author.Tests.{eqb-false, ltb-true}
+use Rattle.tau_sexpr.specs.Tree.{Tree, Trees, word, text, list, none, more, inside, items_of, inside-items_of}
+use Rattle.tau_sexpr.specs.Bytes.{is_word_byte, IsWordByte}
 use Rattle.tau_sexpr.specs.Kinds.{kind_of, is_plain, meaning}
 use Rattle.tau_sexpr.specs.Spelling.{EndsWord, EndsLine, Quotes, closing, plain, pair, Spells, at_end, at_closing, a_blank, a_comment, a_word, a_text, a_list, IsSpelling}
-use Rattle.tau_sexpr.specs.Reader.{Stack, stack, Reader, reader, Mode, outside, comment, in_word, in_text, in_pair, with_form, step, step_outside, step_word, step_text, step_pair, ended, closed, finish, and_then, run, read_all}
+use Rattle.tau_sexpr.specs.Reader.{stack, reader, outside, comment, in_word, in_text, in_pair, step, step_outside, step_pair, ended, closed, finish, and_then, run, read_all}
 use Rattle.tau_sexpr.specs.declared.bytes.ByteKind.{ByteKind}
 use Rattle.tau_sexpr.specs.declared.bytes.ByteKind.TheVariants.{Blank, Semicolon, Opening, Closing, Quote, OfWord, Other}
-use Rattle.tau_sexpr.specs.declared.faults.FormError.{FormError}
 use Rattle.tau_sexpr.specs.declared.faults.FormError.TheVariants.{BadText, TooDeep}
 use Rattle.tau_sexpr.proofs.KindLemmas.{kind_is, line_feed_blank}
 use Rattle.tau_sexpr.proofs.RunLemmas.{go_on, run_outside, run_word_end, word_goes_on}

@@ -1,5 +1,6 @@
 -- What is wrong with bytes, and where: each fault by the state that its byte stands in.
-use Rattle.std.specs.Prelude.{◌≡◌, ℕ, zero, suc, ◌+◌, ◌-◌, ◌<◌, ◌≤◌, ◌==◌, List, length, slice_get, Option, Some, None, if◌then◌else◌, false}
+-- 10 is the line feed, 34 the quote, 92 the backslash.
+use Rattle.std.specs.Prelude.{◌≡◌, ℕ, zero, suc, ◌+◌, ◌-◌, ◌<◌, ◌≤◌, ◌==◌, List, length, slice_get, Option, Some, None, if◌then◌else◌, ◌≢◌, IsTrue}
 use Rattle.tau_sexpr.specs.Kinds.{kind_of, is_plain, meaning}
 use Rattle.tau_sexpr.specs.declared.bytes.ByteKind.{ByteKind}
 use Rattle.tau_sexpr.specs.declared.bytes.ByteKind.TheVariants.{Blank, Semicolon, Opening, Closing, Quote, OfWord, Other}
@@ -57,7 +58,7 @@ place_of NoMemory = 0
 abbrev pub IsBadInQuotes : Part → ℕ → Type 0
 IsBadInQuotes outside b = ⊥
 IsBadInQuotes in_comment b = ⊥
-IsBadInQuotes in_quotes b = ((b == 34) ≡ false) × ((b == 92) ≡ false) × (is_plain b ≡ false)
+IsBadInQuotes in_quotes b = (b ≢ 34) × (b ≢ 92) × ¬ IsTrue (is_plain b)
 IsBadInQuotes after_backslash b = meaning b ≡ None
 
 -- a byte in a state is this fault

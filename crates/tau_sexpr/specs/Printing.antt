@@ -1,4 +1,5 @@
 -- The text of forms: one form a line, with one space between the items of a list.
+-- 10 is the line feed, 32 the space, 34 the quote, 92 the backslash, 110 the letter n, 40 and 41 the brackets.
 use Rattle.std.specs.Prelude.{ℕ, ◌==◌, List, [], ◌∷◌, ◌++◌, if◌then◌else◌}
 use Rattle.std.specs.List.{All, flat_map}
 use Rattle.tau_sexpr.specs.Bytes.{IsWordByte, IsTextByte}

@@ -1,6 +1,7 @@
 -- The reader byte by byte, of which its private functions speak. No public clause cites this file.
-use Rattle.std.specs.Prelude.{◌≡◌, ◌≢◌, ℕ, ◌+◌, ◌==◌, nat_lt, List, [], ◌∷◌, ◌++◌, length, reverse, Result, Ok, Err, Option, Some, None, if◌then◌else◌}
+use Rattle.std.specs.Prelude.{◌≡◌, ℕ, ◌+◌, ◌==◌, nat_lt, List, [], ◌∷◌, ◌++◌, length, drop, ◌<◌, ◌≤◌, reverse, Result, Ok, Err, Option, Some, None, if◌then◌else◌}
 use Rattle.tau_sexpr.specs.Tree.{Tree, word, text, list, inside}
+use Rattle.tau_sexpr.specs.Bytes.{IsTextByte}
 use Rattle.tau_sexpr.specs.Kinds.{kind_of, is_plain, meaning}
 use Rattle.tau_sexpr.specs.declared.bytes.ByteKind.{ByteKind}
 use Rattle.tau_sexpr.specs.declared.bytes.ByteKind.TheVariants.{Blank, Semicolon, Opening, Closing, Quote, OfWord, Other}
@@ -95,9 +96,33 @@ unfoldable pub run : List ℕ → ℕ → Mode → Stack → Result (List Tree) 
 run [] at mode s = finish at mode s
 run (b ∷ bs) at mode s = and_then (step b at mode s) (λ r. run bs r.at r.mode r.held)
 
+-- what the bytes from a place on give
+abbrev pub reading : List ℕ → ℕ → Mode → Stack → Result (List Tree) FormError
+reading bs at mode s = run (drop at bs) at mode s
+
+-- what stands at a place: a pair after its backslash, a pair, a closing quote
+abbrev pub IsPairRest : List ℕ → ℕ → ℕ → Type 0
+IsPairRest bs at c = (at < length bs) × IsTextByte c × ((u : List ℕ) (s : Stack) → reading bs at (in_pair u) s ≡ reading bs (at + 1) (in_text (u ++ c ∷ [])) s)
+
+abbrev pub IsPair : List ℕ → ℕ → ℕ → Type 0
+IsPair bs at c = (at + 1 < length bs) × IsTextByte c × ((u : List ℕ) (s : Stack) → reading bs at (in_text u) s ≡ reading bs (at + 2) (in_text (u ++ c ∷ [])) s)
+
+abbrev pub IsClosing : List ℕ → ℕ → Type 0
+IsClosing bs at = (at < length bs) × ((u : List ℕ) (s : Stack) → reading bs at (in_text u) s ≡ reading bs (at + 1) outside (with_form s (text u)))
+
+-- from one place to the next stand bytes that stand for themselves, the rest of a text, a word
+abbrev pub ArePlain : List ℕ → ℕ → ℕ → List ℕ → List ℕ → Type 0
+ArePlain bs at next old new = (s : Stack) → reading bs at (in_text old) s ≡ reading bs next (in_text new) s
+
+abbrev pub IsText : List ℕ → ℕ → ℕ → List ℕ → Type 0
+IsText bs at next t = (at < next) × (next ≤ length bs) × ((s : Stack) → reading bs at (in_text []) s ≡ reading bs next outside (with_form s (text t)))
+
+abbrev pub IsWord : List ℕ → ℕ → ℕ → List ℕ → Type 0
+IsWord bs at next w = (at < next) × (next ≤ length bs) × ((s : Stack) → reading bs at outside s ≡ reading bs next outside (with_form s (word w)))
+
 -- what all bytes give
 abbrev pub read_all : List ℕ → Result (List Tree) FormError
-read_all bs = run bs 0 outside (stack [] [])
+read_all bs = reading bs 0 outside (stack [] [])
 
 -- what a call that takes one byte answers, but for want of memory
 abbrev pub TellsStep : FormError → Result Reader FormError → Type 0

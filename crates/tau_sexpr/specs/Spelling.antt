@@ -1,4 +1,5 @@
 -- How bytes spell forms: their tokens in order, with blanks and comments between them.
+-- 10 is the line feed, 34 the quote, 92 the backslash, 40 and 41 the brackets, 59 the semicolon.
 use Rattle.std.specs.Prelude.{◌≡◌, ◌≢◌, ℕ, suc, List, [], ◌∷◌, ◌++◌, Some, IsTrue, false, Result, Err, ◌⊎◌}
 use Rattle.tau_sexpr.specs.declared.faults.FormError.{FormError}
 use Rattle.tau_sexpr.specs.declared.faults.FormError.TheVariants.{NoMemory}

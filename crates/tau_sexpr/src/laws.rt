@@ -5,12 +5,10 @@ ghost use Rattle.tau_sexpr.specs.Laws.{SpellsOnce, SpellsWithoutFault, HasFormsO
 pub fn spelling_is_unique(_bytes: &[u8])
     ensures once { SpellsOnce _bytes.now }
     ensures without_fault { SpellsWithoutFault _bytes.now }
-{
-}
+{}
 
 /// Bytes have forms, or a first fault, and only one (docs/formats.md, "Texts and forms").
 pub fn forms_or_first_fault(_bytes: &[u8])
     ensures either { HasFormsOrFault _bytes.now }
     ensures one_fault { FailsOnce _bytes.now }
-{
-}
+{}

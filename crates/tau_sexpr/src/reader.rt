@@ -7,7 +7,7 @@ ghost use Rattle.tau_sexpr.specs.Faults.{IsFirstFault};
 ghost use Rattle.tau_sexpr.specs.declared.faults.FormError.{FormError};
 ghost use Rattle.tau_sexpr.specs.Tree.{Tree, word, text, depths, HasWords};
 ghost use Rattle.tau_sexpr.specs.Form.{tree_of};
-ghost use Rattle.tau_sexpr.specs.Reader.{Stack, stack, stack_of, with_form, step_outside, ended, run, read_all, outside, in_text, in_pair, Steps, Tells, Gives};
+ghost use Rattle.tau_sexpr.specs.Reader.{Stack, stack, stack_of, with_form, step_outside, ended, reading, read_all, outside, in_text, in_pair, IsPairRest, IsPair, IsClosing, ArePlain, IsText, IsWord, Steps, Tells, Gives};
 
 use crate::bytes::{ByteKind, is_plain as is_plain_byte, is_word_byte, kind, meaning};
 use crate::{Form, FormError, Forms, Text, Word};
@@ -153,8 +153,8 @@ fn plain_end(bytes: &[u8], start: usize) -> usize
 // What a backslash and the byte at this place mean.
 fn read_pair(bytes: &[u8], at: usize) -> Result<u8, FormError>
     requires { at ≤ length bytes.now }
-    ensures ok { IfOk result (λ c. (at < length bytes.now) × IsTextByte c × ((u : List ℕ) (s : Stack) → run (drop at bytes.now) at (in_pair u) s ≡ run (drop (at + 1) bytes.now) (at + 1) (in_text (u ++ c ∷ [])) s)) }
-    ensures err { IfErr result (λ e. (u : List ℕ) (s : Stack) → run (drop at bytes.now) at (in_pair u) s ≡ Err e) }
+    ensures ok { IfOk result (IsPairRest bytes.now at) }
+    ensures err { IfErr result (λ e. (u : List ℕ) (s : Stack) → reading bytes.now at (in_pair u) s ≡ Err e) }
 {
     if at == bytes.len() {
         return Err(FormError::Unclosed { at: at as u64 });
@@ -169,9 +169,9 @@ fn read_pair(bytes: &[u8], at: usize) -> Result<u8, FormError>
 fn read_mark(bytes: &[u8], at: usize) -> Result<Option<u8>, FormError>
     requires within { at ≤ length bytes.now }
     requires mark { EndsPlain (drop at bytes.now) }
-    ensures pair { IfOk result (λ o. IfSome o (λ c. (at + 1 < length bytes.now) × IsTextByte c × ((u : List ℕ) (s : Stack) → run (drop at bytes.now) at (in_text u) s ≡ run (drop (at + 2) bytes.now) (at + 2) (in_text (u ++ c ∷ [])) s))) }
-    ensures closing { IfOk result (λ o. IfNone o ((at < length bytes.now) × ((u : List ℕ) (s : Stack) → run (drop at bytes.now) at (in_text u) s ≡ run (drop (at + 1) bytes.now) (at + 1) outside (with_form s (text u))))) }
-    ensures err { IfErr result (λ e. (u : List ℕ) (s : Stack) → run (drop at bytes.now) at (in_text u) s ≡ Err e) }
+    ensures pair { IfOk result (λ o. IfSome o (IsPair bytes.now at)) }
+    ensures closing { IfOk result (λ o. IfNone o (IsClosing bytes.now at)) }
+    ensures err { IfErr result (λ e. (u : List ℕ) (s : Stack) → reading bytes.now at (in_text u) s ≡ Err e) }
 {
     if at == bytes.len() {
         return Err(FormError::Unclosed { at: at as u64 });
@@ -195,7 +195,7 @@ fn put_plain(text: &mut Vec<u8>, bytes: &[u8], at: usize) -> Result<usize, Alloc
     ensures bounds { IfOk result (λ end. (at ≤ end) × (end ≤ length bytes.now)) }
     ensures ends { IfOk result (λ end. EndsPlain (drop end bytes.now)) }
     ensures text_bytes { OnOk result (All IsTextByte text.old.items → All IsTextByte text.new.items) }
-    ensures read { IfOk result (λ end. (s : Stack) → run (drop at bytes.now) at (in_text text.old.items) s ≡ run (drop end bytes.now) end (in_text text.new.items) s) }
+    ensures read { IfOk result (λ end. ArePlain bytes.now at end text.old.items text.new.items) }
 {
     let end = plain_end(bytes, at);
     text.extend_from_slice(&bytes[at..end])?;
@@ -205,8 +205,8 @@ fn put_plain(text: &mut Vec<u8>, bytes: &[u8], at: usize) -> Result<usize, Alloc
 // The text whose first byte in quotes is at this place, and the place after its closing quote.
 fn read_text(alloc: Global, bytes: &[u8], start: usize) -> Result<(Text, usize), FormError>
     requires { start ≤ length bytes.now }
-    ensures ok { IfOk result (λ r. (start < r.1) × (r.1 ≤ length bytes.now) × ((s : Stack) → run (drop start bytes.now) start (in_text []) s ≡ run (drop r.1 bytes.now) r.1 outside (with_form s (text r.0)))) }
-    ensures err { IfErr result (λ e. (s : Stack) → Tells e (run (drop start bytes.now) start (in_text []) s)) }
+    ensures ok { IfOk result (λ r. IsText bytes.now start r.1 r.0) }
+    ensures err { IfErr result (λ e. (s : Stack) → Tells e (reading bytes.now start (in_text []) s)) }
 {
     let mut text = Vec::new(alloc);
     let mut at = start;
@@ -227,8 +227,7 @@ fn read_text(alloc: Global, bytes: &[u8], start: usize) -> Result<(Text, usize),
 fn read_word(alloc: Global, bytes: &[u8], at: usize) -> Result<(Word, usize), AllocError>
     requires within { at < length bytes.now }
     requires begins { kind_of (slice_index bytes.now at) ≡ ByteKind.OfWord }
-    ensures bounds { IfOk result (λ r. (at < r.1) × (r.1 ≤ length bytes.now)) }
-    ensures read { IfOk result (λ r. (s : Stack) → run (drop at bytes.now) at outside s ≡ run (drop r.1 bytes.now) r.1 outside (with_form s (word r.0))) }
+    ensures { IfOk result (λ r. IsWord bytes.now at r.1 r.0) }
 {
     let end = word_end(bytes, at + 1);
     let word = Word::of(alloc, &bytes[at..end])?;
@@ -236,11 +235,17 @@ fn read_word(alloc: Global, bytes: &[u8], at: usize) -> Result<(Word, usize), Al
 }
 
 // Takes the token, the comment or the blank at this place, and gives the place after it.
-fn read_token(alloc: Global, held: &mut OpenLists, bytes: &[u8], at: usize) -> Result<usize, FormError>
+fn read_token(
+    alloc: Global,
+    held: &mut OpenLists,
+    bytes: &[u8],
+    at: usize,
+) -> Result<usize, FormError>
     requires { at < length bytes.now }
     ensures bounds { IfOk result (λ next. (at < next) × (next ≤ length bytes.now)) }
-    ensures ok { IfOk result (λ next. run (drop at bytes.now) at outside (stack_of held.old) ≡ run (drop next bytes.now) next outside (stack_of held.new)) }
-    ensures err { IfErr result (λ e. Tells e (run (drop at bytes.now) at outside (stack_of held.old))) }
+    ensures ok { IfOk result (λ next. reading bytes.now at outside (stack_of held.old)
+        ≡ reading bytes.now next outside (stack_of held.new)) }
+    ensures err { IfErr result (λ e. Tells e (reading bytes.now at outside (stack_of held.old))) }
 {
     match kind(bytes[at]) {
         ByteKind::Blank => Ok(at + 1),

@@ -1,4 +1,3 @@
-use Rattle.std.proofs.Common.{List}
 use Rattle.tau_sexpr.proofs.PrintLemmas.{answer_spells, answer_back}
 use Rattle.tau_sexpr.proofs.printer.print_forms.Goals as goal
 

@@ -1,4 +1,4 @@
-use Rattle.std.proofs.Common.{◌≡◌, ◌-◌, ◌≤◌, List, [], length, drop}
+use Rattle.std.proofs.Common.{◌≡◌, ◌-◌, ◌≤◌, [], length, drop}
 use Rattle.std.specs.List.{All}
 use Rattle.tau_sexpr.specs.Bytes.{IsTextByte}
 use Rattle.tau_sexpr.specs.Reader.{Stack, in_text, run}
