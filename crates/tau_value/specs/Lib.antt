@@ -1,0 +1,11 @@
+pub mod Val
+pub mod Sizes
+pub mod Value
+pub mod Shared
+pub mod Falls
+pub mod Names
+pub mod Numbers
+pub mod Meaning
+pub mod Reading
+pub mod Written
+pub mod Places
