@@ -36,6 +36,13 @@ impl Behaviour {
             body: self.body.copy()?,
         })
     }
+
+    /// Whether two behaviours are equal.
+    pub fn same(&self, other: &Behaviour) -> bool
+        ensures { IsTrue result ↔ (self.now ≡ other.now) }
+    {
+        self.name.same(&other.name) && self.body.same(&other.body)
+    }
 }
 
 /// A list of behaviours. Contracts see it as its list.
@@ -114,5 +121,20 @@ impl Behaviours {
             items.push(item.copy()?)?;
         }
         Ok(Behaviours { items })
+    }
+
+    /// Whether two lists are equal.
+    pub fn same(&self, other: &Behaviours) -> bool
+        ensures { IsTrue result ↔ (self.now ≡ other.now) }
+    {
+        if self.items.len() != other.items.len() {
+            return false;
+        }
+        for (k, item) in self.items.iter().enumerate() {
+            if !item.same(&other.items[k]) {
+                return false;
+            }
+        }
+        true
     }
 }

@@ -89,4 +89,19 @@ impl Script {
         let items = Vec::from_slice(*self.items.allocator(), &self.items)?;
         Ok(Script { items })
     }
+
+    /// Whether two scripts are equal.
+    pub fn same(&self, other: &Script) -> bool
+        ensures { IsTrue result ↔ (self.now ≡ other.now) }
+    {
+        if self.items.len() != other.items.len() {
+            return false;
+        }
+        for (k, item) in self.items.iter().enumerate() {
+            if *item != other.items[k] {
+                return false;
+            }
+        }
+        true
+    }
 }

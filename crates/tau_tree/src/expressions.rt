@@ -149,6 +149,98 @@ impl Expr {
             Expr::Dependent => Expr::Dependent,
         })
     }
+
+    /// Whether two expressions are equal.
+    #[cycle(same)]
+    pub fn same(&self, other: &Expr) -> bool
+        ensures { IsTrue result ↔ (code_of self.now ≡ code_of other.now) }
+    {
+        match (self, other) {
+            (Expr::Unit, Expr::Unit) => true,
+            (Expr::Truth(one), Expr::Truth(two)) => one == two,
+            (Expr::Int(one), Expr::Int(two)) => one == two,
+            (Expr::Text(one), Expr::Text(two)) => one.same(two),
+            (Expr::Msg, Expr::Msg) => true,
+            (Expr::Own, Expr::Own) => true,
+            (Expr::Var(one), Expr::Var(two)) => one.same(two),
+            (Expr::Start(one), Expr::Start(two)) => one == two,
+            (Expr::List(one), Expr::List(two)) => one.same(two),
+            (
+                Expr::Let { name, value, body },
+                Expr::Let {
+                    name: other_name,
+                    value: other_value,
+                    body: other_body,
+                },
+            ) => name.same(other_name) && value.same(other_value) && body.same(other_body),
+            (
+                Expr::If { test, yes, no },
+                Expr::If {
+                    test: other_test,
+                    yes: other_yes,
+                    no: other_no,
+                },
+            ) => test.same(other_test) && yes.same(other_yes) && no.same(other_no),
+            (Expr::Seq(one), Expr::Seq(two)) => one.same(two),
+            (
+                Expr::Fold {
+                    list,
+                    first,
+                    sum,
+                    item,
+                    body,
+                },
+                Expr::Fold {
+                    list: other_list,
+                    first: other_first,
+                    sum: other_sum,
+                    item: other_item,
+                    body: other_body,
+                },
+            ) => {
+                list.same(other_list)
+                    && first.same(other_first)
+                    && sum.same(other_sum)
+                    && item.same(other_item)
+                    && body.same(other_body)
+            }
+            (
+                Expr::Apply { prim, args },
+                Expr::Apply {
+                    prim: other_prim,
+                    args: other_args,
+                },
+            ) => prim == other_prim && args.same(other_args),
+            (Expr::Get, Expr::Get) => true,
+            (Expr::Set(one), Expr::Set(two)) => one.same(two),
+            (
+                Expr::Send { to, value },
+                Expr::Send {
+                    to: other_to,
+                    value: other_value,
+                },
+            ) => to.same(other_to) && value.same(other_value),
+            (
+                Expr::New {
+                    behaviour,
+                    node,
+                    state,
+                },
+                Expr::New {
+                    behaviour: other_behaviour,
+                    node: other_node,
+                    state: other_state,
+                },
+            ) => {
+                behaviour == other_behaviour && node.same(other_node) && state.same(other_state)
+            }
+            (Expr::Stabilize, Expr::Stabilize) => true,
+            (Expr::Checkpoint, Expr::Checkpoint) => true,
+            (Expr::Rollback, Expr::Rollback) => true,
+            (Expr::Dependent, Expr::Dependent) => true,
+            _ => false,
+        }
+    }
 }
 
 #[cycle(copy)]
@@ -217,5 +309,21 @@ impl Exprs {
             items.push(item.copy()?)?;
         }
         Ok(Exprs { items })
+    }
+
+    /// Whether two lists are equal.
+    #[cycle(same)]
+    pub fn same(&self, other: &Exprs) -> bool
+        ensures { IsTrue result ↔ (codes_of self.now ≡ codes_of other.now) }
+    {
+        if self.items.len() != other.items.len() {
+            return false;
+        }
+        for (k, item) in self.items.iter().enumerate() {
+            if !item.same(&other.items[k]) {
+                return false;
+            }
+        }
+        true
     }
 }

@@ -23,6 +23,13 @@ impl Post {
             value: self.value.copy()?,
         })
     }
+
+    /// Whether two posts are equal.
+    pub fn same(&self, other: &Post) -> bool
+        ensures { IsTrue result ↔ (self.now ≡ other.now) }
+    {
+        self.to == other.to && self.value.same(&other.value)
+    }
 }
 
 /// A list of posts. Contracts see it as its list.
@@ -102,5 +109,20 @@ impl Posts {
             items.push(item.copy()?)?;
         }
         Ok(Posts { items })
+    }
+
+    /// Whether two lists are equal.
+    pub fn same(&self, other: &Posts) -> bool
+        ensures { IsTrue result ↔ (self.now ≡ other.now) }
+    {
+        if self.items.len() != other.items.len() {
+            return false;
+        }
+        for (k, item) in self.items.iter().enumerate() {
+            if !item.same(&other.items[k]) {
+                return false;
+            }
+        }
+        true
     }
 }

@@ -28,4 +28,15 @@ impl Program {
             script: self.script.copy()?,
         })
     }
+
+    /// Whether two programs are equal.
+    pub fn same(&self, other: &Program) -> bool
+        ensures { IsTrue result ↔ (self.now ≡ other.now) }
+    {
+        self.nodes == other.nodes
+            && self.behaviours.same(&other.behaviours)
+            && self.starts.same(&other.starts)
+            && self.posts.same(&other.posts)
+            && self.script.same(&other.script)
+    }
 }

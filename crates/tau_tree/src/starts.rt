@@ -28,6 +28,16 @@ impl Start {
             state: self.state.copy()?,
         })
     }
+
+    /// Whether two starts are equal.
+    pub fn same(&self, other: &Start) -> bool
+        ensures { IsTrue result ↔ (self.now ≡ other.now) }
+    {
+        if self.behaviour != other.behaviour || self.node != other.node {
+            return false;
+        }
+        self.name.same(&other.name) && self.state.same(&other.state)
+    }
 }
 
 /// A list of start transactors. Contracts see it as its list.
@@ -107,5 +117,20 @@ impl Starts {
             items.push(item.copy()?)?;
         }
         Ok(Starts { items })
+    }
+
+    /// Whether two lists are equal.
+    pub fn same(&self, other: &Starts) -> bool
+        ensures { IsTrue result ↔ (self.now ≡ other.now) }
+    {
+        if self.items.len() != other.items.len() {
+            return false;
+        }
+        for (k, item) in self.items.iter().enumerate() {
+            if !item.same(&other.items[k]) {
+                return false;
+            }
+        }
+        true
     }
 }
