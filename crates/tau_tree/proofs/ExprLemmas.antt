@@ -87,3 +87,28 @@ code_of-Rollback = ap code_of (sym exprs.rolls-Rollback) ∙ rolled Expr-F.Rollb
 
 pub code_of-Dependent : code_of exprs.Dependent ≡ dependent
 code_of-Dependent = ap code_of (sym exprs.rolls-Dependent) ∙ rolled Expr-F.Dependent
+
+pub ruleset codes = (
+  code_of-Unit,
+  code_of-Truth,
+  code_of-Int,
+  code_of-Text,
+  code_of-Msg,
+  code_of-Own,
+  code_of-Var,
+  code_of-Start,
+  code_of-List,
+  code_of-Let,
+  code_of-If,
+  code_of-Seq,
+  code_of-Fold,
+  code_of-Apply,
+  code_of-Get,
+  code_of-Set,
+  code_of-Send,
+  code_of-New,
+  code_of-Stabilize,
+  code_of-Checkpoint,
+  code_of-Rollback,
+  code_of-Dependent,
+)

@@ -1,3 +1,5 @@
+pub mod EachLemmas
 pub mod ExprLemmas
-pub mod PartLemmas
+pub mod FieldLemmas
+pub mod RuleLemmas
 pub mod SameLemmas

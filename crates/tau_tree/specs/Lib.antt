@@ -4,3 +4,4 @@ pub mod Behaviour
 pub mod Stored
 pub mod Parts
 pub mod Sound
+pub mod Checks

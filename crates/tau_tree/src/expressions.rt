@@ -81,7 +81,7 @@ pub enum Expr {
 #[cycle(expr)]
 #[derive(Drop)]
 pub struct Exprs {
-    items: Vec<Expr>,
+    pub(crate) items: Vec<Expr>,
 }
 
 impl Expr {

@@ -2,10 +2,12 @@
 #![tactic(auto)]
 
 mod behaviours;
+mod bodies;
 mod entries;
 mod expressions;
 mod posts;
 mod programs;
+mod scopes;
 mod starts;
 
 pub use behaviours::{Behaviour, Behaviours};

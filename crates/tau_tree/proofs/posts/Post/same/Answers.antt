@@ -1,4 +1,4 @@
-use Rattle.tau_tree.proofs.PartLemmas.{same_posts}
+use Rattle.tau_tree.proofs.FieldLemmas.{same_posts}
 use Rattle.tau_tree.proofs.posts.Post.same.Goals as goal
 
 pub returns-then-self-other : goal.returns-then-self-other

@@ -1,4 +1,4 @@
-use Rattle.tau_tree.proofs.PartLemmas.{same_starts}
+use Rattle.tau_tree.proofs.FieldLemmas.{same_starts}
 use Rattle.tau_tree.proofs.starts.Start.same.Goals as goal
 
 pub returns-then-same : goal.returns-then-same
