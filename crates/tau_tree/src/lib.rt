@@ -8,6 +8,7 @@ mod expressions;
 mod posts;
 mod programs;
 mod scopes;
+mod soundness;
 mod starts;
 
 pub use behaviours::{Behaviour, Behaviours};
