@@ -17,25 +17,42 @@ pub fn is_shallow(expr: &Expr, room: u32) -> bool
     ensures { IsTrue result ↔ (depth_of (code_of expr.now) ≤ room) }
 {
     match expr {
-        Expr::Unit => true,
-        Expr::Truth(_) => true,
-        Expr::Int(_) => true,
-        Expr::Text(_) => true,
-        Expr::Msg => true,
-        Expr::Own => true,
-        Expr::Var(_) => true,
-        Expr::Start(_) => room >= 1,
-        Expr::List(items) => room >= 1 && are_shallow(items, room - 1),
-        Expr::Let { value, body, .. } => {
-            room >= 1 && is_shallow(value, room - 1) && is_shallow(body, room - 1)
+        Expr::Unit
+        | Expr::Truth(_)
+        | Expr::Int(_)
+        | Expr::Text(_)
+        | Expr::Msg
+        | Expr::Own
+        | Expr::Var(_) => true,
+        Expr::Start(_)
+        | Expr::Get
+        | Expr::Stabilize
+        | Expr::Checkpoint
+        | Expr::Rollback
+        | Expr::Dependent => room >= 1,
+        Expr::List(items) | Expr::Seq(items) | Expr::Apply { args: items, .. } => {
+            room >= 1 && are_shallow(items, room - 1)
         }
+        Expr::Let {
+            value: one,
+            body: two,
+            ..
+        }
+        | Expr::Send {
+            to: one,
+            value: two,
+        }
+        | Expr::New {
+            node: one,
+            state: two,
+            ..
+        } => room >= 1 && is_shallow(one, room - 1) && is_shallow(two, room - 1),
         Expr::If { test, yes, no } => {
             room >= 1
                 && is_shallow(test, room - 1)
                 && is_shallow(yes, room - 1)
                 && is_shallow(no, room - 1)
         }
-        Expr::Seq(items) => room >= 1 && are_shallow(items, room - 1),
         Expr::Fold {
             list,
             first,
@@ -47,19 +64,7 @@ pub fn is_shallow(expr: &Expr, room: u32) -> bool
                 && is_shallow(first, room - 1)
                 && is_shallow(body, room - 1)
         }
-        Expr::Apply { args, .. } => room >= 1 && are_shallow(args, room - 1),
-        Expr::Get => room >= 1,
         Expr::Set(value) => room >= 1 && is_shallow(value, room - 1),
-        Expr::Send { to, value } => {
-            room >= 1 && is_shallow(to, room - 1) && is_shallow(value, room - 1)
-        }
-        Expr::New { node, state, .. } => {
-            room >= 1 && is_shallow(node, room - 1) && is_shallow(state, room - 1)
-        }
-        Expr::Stabilize => room >= 1,
-        Expr::Checkpoint => room >= 1,
-        Expr::Rollback => room >= 1,
-        Expr::Dependent => room >= 1,
     }
 }
 
@@ -84,15 +89,22 @@ pub fn is_bound<'p>(expr: &'p Expr, scope: &mut Scope<'p>) -> Result<bool, Alloc
     ensures scope { OnOk result (scope.new ≡ scope.old) }
 {
     match expr {
-        Expr::Unit => Ok(true),
-        Expr::Truth(_) => Ok(true),
-        Expr::Int(_) => Ok(true),
-        Expr::Text(_) => Ok(true),
-        Expr::Msg => Ok(true),
-        Expr::Own => Ok(true),
+        Expr::Unit
+        | Expr::Truth(_)
+        | Expr::Int(_)
+        | Expr::Text(_)
+        | Expr::Msg
+        | Expr::Own
+        | Expr::Start(_)
+        | Expr::Get
+        | Expr::Stabilize
+        | Expr::Checkpoint
+        | Expr::Rollback
+        | Expr::Dependent => Ok(true),
         Expr::Var(name) => Ok(scope.has(name)),
-        Expr::Start(_) => Ok(true),
-        Expr::List(items) => are_bound(items, scope),
+        Expr::List(items) | Expr::Seq(items) | Expr::Apply { args: items, .. } => {
+            are_bound(items, scope)
+        }
         Expr::Let { name, value, body } => {
             if !is_bound(value, scope)? {
                 return Ok(false);
@@ -108,7 +120,6 @@ pub fn is_bound<'p>(expr: &'p Expr, scope: &mut Scope<'p>) -> Result<bool, Alloc
             }
             is_bound(no, scope)
         }
-        Expr::Seq(items) => are_bound(items, scope),
         Expr::Fold {
             list,
             first,
@@ -126,25 +137,21 @@ pub fn is_bound<'p>(expr: &'p Expr, scope: &mut Scope<'p>) -> Result<bool, Alloc
             scope.unbind();
             Ok(bound)
         }
-        Expr::Apply { args, .. } => are_bound(args, scope),
-        Expr::Get => Ok(true),
         Expr::Set(value) => is_bound(value, scope),
-        Expr::Send { to, value } => {
-            if !is_bound(to, scope)? {
+        Expr::Send {
+            to: one,
+            value: two,
+        }
+        | Expr::New {
+            node: one,
+            state: two,
+            ..
+        } => {
+            if !is_bound(one, scope)? {
                 return Ok(false);
             }
-            is_bound(value, scope)
+            is_bound(two, scope)
         }
-        Expr::New { node, state, .. } => {
-            if !is_bound(node, scope)? {
-                return Ok(false);
-            }
-            is_bound(state, scope)
-        }
-        Expr::Stabilize => Ok(true),
-        Expr::Checkpoint => Ok(true),
-        Expr::Rollback => Ok(true),
-        Expr::Dependent => Ok(true),
     }
 }
 
@@ -171,47 +178,52 @@ pub fn is_regular(expr: &Expr, starts: u32, behaviours: u32) -> bool
         return false;
     }
     match expr {
-        Expr::Unit => true,
-        Expr::Truth(_) => true,
-        Expr::Int(_) => true,
-        Expr::Text(_) => true,
-        Expr::Msg => true,
-        Expr::Own => true,
-        Expr::Var(_) => true,
-        Expr::Start(_) => true,
-        Expr::List(items) => are_regular(items, starts, behaviours),
-        Expr::Let { value, body, .. } => {
-            is_regular(value, starts, behaviours) && is_regular(body, starts, behaviours)
+        Expr::Unit
+        | Expr::Truth(_)
+        | Expr::Int(_)
+        | Expr::Text(_)
+        | Expr::Msg
+        | Expr::Own
+        | Expr::Var(_)
+        | Expr::Start(_)
+        | Expr::Get
+        | Expr::Stabilize
+        | Expr::Checkpoint
+        | Expr::Rollback
+        | Expr::Dependent => true,
+        Expr::List(items) | Expr::Seq(items) | Expr::Apply { args: items, .. } => {
+            are_regular(items, starts, behaviours)
         }
-        Expr::If { test, yes, no } => {
-            is_regular(test, starts, behaviours)
-                && is_regular(yes, starts, behaviours)
-                && is_regular(no, starts, behaviours)
+        Expr::Let {
+            value: one,
+            body: two,
+            ..
         }
-        Expr::Seq(items) => are_regular(items, starts, behaviours),
-        Expr::Fold {
-            list,
-            first,
-            body,
+        | Expr::Send {
+            to: one,
+            value: two,
+        }
+        | Expr::New {
+            node: one,
+            state: two,
+            ..
+        } => is_regular(one, starts, behaviours) && is_regular(two, starts, behaviours),
+        Expr::If {
+            test: one,
+            yes: two,
+            no: three,
+        }
+        | Expr::Fold {
+            list: one,
+            first: two,
+            body: three,
             ..
         } => {
-            is_regular(list, starts, behaviours)
-                && is_regular(first, starts, behaviours)
-                && is_regular(body, starts, behaviours)
+            is_regular(one, starts, behaviours)
+                && is_regular(two, starts, behaviours)
+                && is_regular(three, starts, behaviours)
         }
-        Expr::Apply { args, .. } => are_regular(args, starts, behaviours),
-        Expr::Get => true,
         Expr::Set(value) => is_regular(value, starts, behaviours),
-        Expr::Send { to, value } => {
-            is_regular(to, starts, behaviours) && is_regular(value, starts, behaviours)
-        }
-        Expr::New { node, state, .. } => {
-            is_regular(node, starts, behaviours) && is_regular(state, starts, behaviours)
-        }
-        Expr::Stabilize => true,
-        Expr::Checkpoint => true,
-        Expr::Rollback => true,
-        Expr::Dependent => true,
     }
 }
 
@@ -234,28 +246,27 @@ fn keeps_rules(expr: &Expr, starts: u32, behaviours: u32) -> bool
     ensures { IsTrue result ↔ KeepsRules starts behaviours (code_of expr.now) }
 {
     match expr {
-        Expr::Unit => true,
-        Expr::Truth(_) => true,
-        Expr::Int(_) => true,
         Expr::Text(text) => text.len() <= 65_535,
-        Expr::Msg => true,
-        Expr::Own => true,
-        Expr::Var(name) => is_name(name),
+        Expr::Var(name) | Expr::Let { name, .. } => is_name(name),
         Expr::Start(number) => *number < starts,
-        Expr::List(_) => true,
-        Expr::Let { name, .. } => is_name(name),
-        Expr::If { .. } => true,
         Expr::Seq(items) => !items.is_empty(),
         Expr::Fold { sum, item, .. } => is_name(sum) && is_name(item) && !sum.same(item),
         Expr::Apply { prim, args } => args.len() == arity(*prim),
-        Expr::Get => true,
-        Expr::Set(_) => true,
-        Expr::Send { .. } => true,
         Expr::New { behaviour, .. } => *behaviour < behaviours,
-        Expr::Stabilize => true,
-        Expr::Checkpoint => true,
-        Expr::Rollback => true,
-        Expr::Dependent => true,
+        Expr::Unit
+        | Expr::Truth(_)
+        | Expr::Int(_)
+        | Expr::Msg
+        | Expr::Own
+        | Expr::List(_)
+        | Expr::If { .. }
+        | Expr::Get
+        | Expr::Set(_)
+        | Expr::Send { .. }
+        | Expr::Stabilize
+        | Expr::Checkpoint
+        | Expr::Rollback
+        | Expr::Dependent => true,
     }
 }
 

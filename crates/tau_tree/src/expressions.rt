@@ -156,12 +156,17 @@ impl Expr {
         ensures { IsTrue result ↔ (code_of self.now ≡ code_of other.now) }
     {
         match (self, other) {
-            (Expr::Unit, Expr::Unit) => true,
+            (Expr::Unit, Expr::Unit)
+            | (Expr::Msg, Expr::Msg)
+            | (Expr::Own, Expr::Own)
+            | (Expr::Get, Expr::Get)
+            | (Expr::Stabilize, Expr::Stabilize)
+            | (Expr::Checkpoint, Expr::Checkpoint)
+            | (Expr::Rollback, Expr::Rollback)
+            | (Expr::Dependent, Expr::Dependent) => true,
             (Expr::Truth(one), Expr::Truth(two)) => one == two,
             (Expr::Int(one), Expr::Int(two)) => one == two,
             (Expr::Text(one), Expr::Text(two)) => one.same(two),
-            (Expr::Msg, Expr::Msg) => true,
-            (Expr::Own, Expr::Own) => true,
             (Expr::Var(one), Expr::Var(two)) => one.same(two),
             (Expr::Start(one), Expr::Start(two)) => one == two,
             (Expr::List(one), Expr::List(two)) => one.same(two),
@@ -211,7 +216,6 @@ impl Expr {
                     args: other_args,
                 },
             ) => prim == other_prim && args.same(other_args),
-            (Expr::Get, Expr::Get) => true,
             (Expr::Set(one), Expr::Set(two)) => one.same(two),
             (
                 Expr::Send { to, value },
@@ -234,10 +238,6 @@ impl Expr {
             ) => {
                 behaviour == other_behaviour && node.same(other_node) && state.same(other_state)
             }
-            (Expr::Stabilize, Expr::Stabilize) => true,
-            (Expr::Checkpoint, Expr::Checkpoint) => true,
-            (Expr::Rollback, Expr::Rollback) => true,
-            (Expr::Dependent, Expr::Dependent) => true,
             _ => false,
         }
     }
