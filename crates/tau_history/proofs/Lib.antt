@@ -1,0 +1,6 @@
+pub mod Order
+pub mod Paths
+pub mod Chain
+pub mod Table
+pub mod Moves
+pub mod Gets

@@ -1,0 +1,2 @@
+-- One move and the fates.
+use Rattle.std.proofs.Common.{◌≡◌, ℕ, ◌+◌}

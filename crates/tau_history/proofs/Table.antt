@@ -1,0 +1,2 @@
+-- The table of fates.
+use Rattle.std.proofs.Common.{◌≡◌, ℕ, ◌+◌}

@@ -1,0 +1,24 @@
+-- The order of histories (docs/rules.md, "Histories").
+use Rattle.std.specs.Prelude.{◌≡◌, ◌≢◌, ◌<◌, ◌⊎◌, IsTrue}
+use Rattle.tau_history.specs.Timeline.{Timeline, Move, keep, stabilize, close, fall, moved, interval}
+
+-- only a stable history makes the move `close`
+abbrev pub MayMove : Move → Timeline → Type 0
+MayMove close h = IsTrue h.stable
+MayMove keep h = Unit {0}
+MayMove stabilize h = Unit {0}
+MayMove fall h = Unit {0}
+
+-- the second history is reached from the first by any number of moves, none included
+pub data Precedes (a : Timeline) : Timeline → Type 0 where
+  here : Precedes a a
+  more : {b c : Timeline} → Precedes a b → (m : Move) → MayMove m b → c ≡ moved m b → Precedes a c
+
+-- one of the two precedes the other
+abbrev pub AreComparable : Timeline → Timeline → Type 0
+AreComparable a b = Precedes a b ⊎ Precedes b a
+
+-- the first precedes the second and is not the same
+pub record IsBefore (a b : Timeline) : Type 0 where
+  pub precedes : Precedes a b
+  pub differs : a ≢ b
