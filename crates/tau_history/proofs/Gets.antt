@@ -1,5 +1,5 @@
 -- Numbers of a list by their places, and fronts of lists.
-use Rattle.std.proofs.Common.{◌≡◌, ℕ, zero, suc, ◌+◌, ◌-◌, ◌<◌, ◌≤◌, List, [], ◌∷◌, ◌++◌, length, take, get_or, Option, None, Some, refl, sym, ap, ◌∙◌, length-append, arith}
+use Rattle.std.proofs.Common.{◌≡◌, ℕ, zero, suc, ◌+◌, ◌-◌, ◌<◌, ◌≤◌, List, [], ◌∷◌, ◌++◌, length, take, get_or, Option, None, Some, refl, sym, ap, ◌∙◌, subst, length-append, arith}
 use Rattle.std.specs.Prelude.{slice_get}
 use Rattle.std.proofs.lemmas.List.{take-take, take-append-le}
 use Rattle.tau_history.specs.Closed.{IsFront}
@@ -55,3 +55,6 @@ pub take-more_alike : (xs ys : List ℕ) (k n m : ℕ) → slice_get xs k ≡ So
 take-more_alike xs ys k n m d e f g =
     let one : k + 1 ≡ suc k = omega arith in
     ap (λ j. take j xs) one ∙ take-suc-get xs k n d ∙ (λ i. g i ++ f i ∷ []) ∙ sym (take-suc-get ys k m e) ∙ ap (λ j. take j ys) (sym one)
+
+pub front_along : {xs xs' ys ys' : List ℕ} → xs ≡ xs' → ys ≡ ys' → IsFront xs ys → IsFront xs' ys'
+front_along {xs} {xs'} {ys} {ys'} e f p = subst (λ zs. IsFront zs ys') e (subst (IsFront xs) f p)

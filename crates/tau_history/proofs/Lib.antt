@@ -4,3 +4,5 @@ pub mod Chain
 pub mod Table
 pub mod Moves
 pub mod Gets
+pub mod Before
+pub mod Tests

@@ -28,7 +28,7 @@ pub below_of : {a b : Timeline} → Precedes a b → IsBelow a b
 below_of here = same_point refl refl (λ s. s)
 below_of {a} (more {b = b} p m may e) = subst (IsBelow a) (sym e) (below_moved a b m (below_of p))
 
-same_parts : (a b : Timeline) → a.stable ≡ b.stable → a.closed ≡ b.closed → a.last ≡ b.last → a ≡ b
+pub same_parts : (a b : Timeline) → a.stable ≡ b.stable → a.closed ≡ b.closed → a.last ≡ b.last → a ≡ b
 same_parts a b s e l = λ i. record { stable = s i; closed = e i; last = l i }
 
 same_modes : (p q : Bool) → (IsTrue p → IsTrue q) → (IsTrue q → IsTrue p) → p ≡ q

@@ -4,6 +4,7 @@ ghost use Rattle.tau_history.specs.Timeline as timeline;
 ghost use Rattle.tau_history.specs.Order.{Precedes, AreComparable, IsBefore};
 ghost use Rattle.tau_history.specs.Fates.{fate};
 ghost use Rattle.tau_history.specs.Stored.{Stored};
+ghost use Rattle.tau_history.specs.Closed.{IsFront};
 
 use crate::closed::ClosedNumbers;
 use crate::fate::Fate;
@@ -197,12 +198,20 @@ impl History {
         self.closed.continues_in(&other.closed)
     }
 
-    // Whether what precedence asks apart from the closed numbers of this history holds.
-    fn may_precede(&self, later: &History) -> bool {
+    // All that precedence asks, but that the closed numbers of this history are a front of the later's.
+    fn may_precede(&self, later: &History) -> bool
+        ensures shorter { IsTrue result → timeline.interval self.now.history ≤ timeline.interval later.now.history }
+        ensures needed { Precedes self.now.history later.now.history → IsTrue result }
+        ensures suffices { IsTrue result → IsFront self.now.history.closed later.now.history.closed
+            → Precedes self.now.history later.now.history }
+    {
         let own = self.interval();
         let others = later.interval();
-        if own != others {
-            return own < others && self.last <= later.closed.at(own);
+        if others < own {
+            return false;
+        }
+        if own < others {
+            return self.last <= later.closed.at(own);
         }
         if self.last != later.last {
             return self.last < later.last;
