@@ -1,2 +1,4 @@
 pub mod Membership
+pub mod PointOrder
+pub mod Reach
 pub mod SortedLists

@@ -13,7 +13,7 @@ use Rattle.std.proofs.lemmas.Cmp.{tied_itself}
 use Rattle.std.proofs.lemmas.Map.Keys.{Less-from_sorted}
 use Rattle.std.proofs.lemmas.List.Sorted.{searchable_from_sorted}
 use Rattle.std.proofs.lemmas.List.Elements.{Contains-append_left, Contains-append_right, Contains-append_cases}
-use Rattle.tau_points.specs.Members.{Adds, Joins, IsPlace}
+use Rattle.tau_points.specs.Members.{Adds, Joins, HasAll, IsPlace}
 use Rattle.tau_points.proofs.Membership.{Contains-head, Contains-later, Contains-none, Contains-cons_cases, Contains-take, Contains-drop, Contains-split, all_at, all_from_each, all_append, all_front, all_back}
 
 module _ {K : Type 0} (R : K → K → Ordering) where
@@ -285,3 +285,7 @@ pub merge_done : {K : Type 0} {R : K → K → Ordering} → IsTotalOrder R → 
 merge_done o xs ys out mid new i j m ended is_mid is_new =
     merge_end o xs ys out (drop i xs) (drop j ys) new m (⊎_elim (λ a. inl (none_left i xs a)) (λ b. inr (none_left j ys b)) ended)
     (is_new ∙ ap₂ (λ (l r : List _). l ++ r) (is_mid ∙ ap (λ (l : List _). out ++ l) (tail_of i xs)) (tail_of j ys))
+
+-- a list that joins all of the other is unchanged
+pub Joins-unchanged : {K : Type 0} {R : K → K → Ordering} → IsTotalOrder R → (xs ys new : List K) → IsStrictlySortedBy R xs → IsStrictlySortedBy R new → Joins xs ys new → HasAll xs ys → new ≡ xs
+Joins-unchanged o xs ys new s t joins has = same_list o new xs t s (λ q. (λ c. ⊎_elim (λ a. a) (λ b. has q b) ((joins q).0 c), λ c. (joins q).1 (inl c)))

@@ -12,6 +12,18 @@ Adds {A} old new x = (q : A) → Contains new q ↔ (Contains old q ⊎ (q ≡ x
 abbrev pub Joins : {A : Type 0} → List A → List A → List A → Type 0
 Joins {A} xs ys new = (q : A) → Contains new q ↔ (Contains xs q ⊎ Contains ys q)
 
+-- new has the members of old, and each x of P
+abbrev pub AddsAll : {A : Type 0} → (A → Type 0) → List A → List A → Type 0
+AddsAll {A} P old new = (q : A) → Contains new q ↔ (Contains old q ⊎ P q)
+
+-- xs has every member of ys
+abbrev pub HasAll : {A : Type 0} → List A → List A → Type 0
+HasAll {A} xs ys = (q : A) → Contains ys q → Contains xs q
+
+-- both lists have the same members
+abbrev pub SameMembers : {A : Type 0} → List A → List A → Type 0
+SameMembers {A} xs ys = (q : A) → Contains xs q ↔ Contains ys q
+
 -- every item of xs below position i is before x, and x is before every other
 pub record IsPlace {A : Type 0} (cmp : A → A → Ordering) (x : A) (xs : List A) (i : ℕ) : Type 0 where
   pub before : AllWithin (λ y. cmp y x ≡ Less) xs 0 i

@@ -3,7 +3,12 @@
 
 pub use point::Point;
 pub use point_set::PointSet;
+pub use relation::Relation;
+pub use reaching::{reachable, search, Links};
 
 mod point;
 mod point_set;
+mod relation;
+mod reaching;
+pub mod laws;
 mod sorted;

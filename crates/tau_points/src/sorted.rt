@@ -1,9 +1,10 @@
 // Ascending lists without repeats, at any type whose order tells its values apart.
-ghost use Rattle.std.specs.Prelude.{◌≡◌, ◌↔◌, ◌≤◌, length, take, drop, ◌∷◌, ◌++◌, Contains, IsTrue, OnOk, OnErr, IfOk, IfErr};
+ghost use Rattle.std.specs.Prelude.{◌≡◌, ◌↔◌, ◌≤◌, length, filter, Bool, Contains, IsTrue, OnOk, OnErr, IfOk, IfErr};
 ghost use Rattle.std.specs.Bool.{OnTrue, OnFalse};
+ghost use Rattle.std.specs.Fn.{ComputesKey};
 ghost use Rattle.std.specs.declared.cmp.Ordering.TheVariants.{Equal};
 ghost use Rattle.std.specs.List.Sorted.{IsStrictlySortedBy};
-ghost use Rattle.tau_points.specs.Members.{Adds, Joins, IsPlace};
+ghost use Rattle.tau_points.specs.Members.{Adds, Joins, HasAll, SameMembers, IsPlace};
 ghost use Rattle.tau_points.specs.Exact.{point_cmp-exact, pair_cmp-exact};
 
 use std::alloc::{AllocError, Global};
@@ -119,6 +120,7 @@ pub(crate) fn merge<T: Exact + Copy>(items: &mut Vec<T>, others: &[T]) -> Result
     requires theirs { IsStrictlySortedBy T.cmp others.now }
     ensures sorted { IsStrictlySortedBy T.cmp items.new.items }
     ensures members { OnOk result (Joins items.old.items others.now items.new.items) }
+    ensures unchanged { HasAll items.old.items others.now → items.new.items ≡ items.old.items }
     ensures err { OnErr result (items.new.items ≡ items.old.items) }
 {
     let missing = count_missing(items, others);
@@ -129,4 +131,25 @@ pub(crate) fn merge<T: Exact + Copy>(items: &mut Vec<T>, others: &[T]) -> Result
     let all = merged(*items.allocator(), items, others, len)?;
     *items = all;
     Ok(())
+}
+
+/// The items of a list in any order, ascending, each once.
+pub(crate) fn sorted_from<T: Exact + Copy>(alloc: Global, items: &[T]) -> Result<Vec<T>, AllocError>
+    ensures sorted { IfOk result (λ all. IsStrictlySortedBy T.cmp all.items) }
+    ensures members { IfOk result (λ all. SameMembers items.now all.items) }
+{
+    let mut all = Vec::from_slice(alloc, items)?;
+    all.sort_unstable();
+    all.dedup();
+    Ok(all)
+}
+
+/// Keeps the items at which `keep` answers true.
+pub(crate) fn retain<T: Exact + Copy, F: FnMut(&T) -> bool>(items: &mut Vec<T>, keep: F)
+    requires callable { F.IsAlwaysCallable keep }
+    requires sorted { IsStrictlySortedBy T.cmp items.old.items }
+    ensures sorted { IsStrictlySortedBy T.cmp items.new.items }
+    ensures kept { (test : T → Bool) → ComputesKey F.FnMut test keep → items.new.items ≡ filter test items.old.items }
+{
+    items.retain(keep);
 }
