@@ -9,7 +9,8 @@ use Rattle.std.specs.declared.cmp.Ordering.{Ordering}
 use Rattle.std.specs.declared.cmp.Ordering.TheVariants.{Less, Equal, Greater}
 use Rattle.std.proofs.lemmas.Bool.{eqb-true, eq-eqb, and_parts}
 use Rattle.std.proofs.lemmas.Bool.Decides.{Decides-eqb}
-use Rattle.std.proofs.lemmas.Cmp.{then_total, on_total, nat_cmp_total}
+use Rattle.std.proofs.lemmas.Cmp.{then_total, on_total, nat_cmp_total, upto}
+use Rattle.tau_points.proofs.SortedLists.{flips}
 use Rattle.std.proofs.lemmas.Map.Keys.{Less-from_sorted}
 use Rattle.std.specs.Prelude.{nat_eq}
 use Rattle.tau_points.specs.Order.{point_cmp, pair_cmp, IsAscendingInPairs}
@@ -48,3 +49,103 @@ pair_eq-Decides x y = (
 -- what a test of two lists says of two values that are seen as these lists
 pub Decides-seen : {A : Type 0} (r : Bool) (us ts xs ys : List A) → us ≡ xs → ts ≡ ys → Decides r (us ≡ ts) → Decides r (xs ≡ ys)
 Decides-seen r us ts xs ys e f h = (λ t. sym e ∙ h.0 t ∙ f, λ s. h.1 (e ∙ s ∙ sym f))
+
+-- the sources of ascending pairs do not fall
+first_not_after : (a b : Ordering) → ordering_then a b ≡ Less → is_gt a ≡ false
+first_not_after Less b e = refl
+first_not_after Equal b e = refl
+first_not_after Greater b e = cc
+
+source_not_after : (x y : Point × Point) → pair_cmp x y ≡ Less → is_gt (point_cmp x.0 y.0) ≡ false
+source_not_after x y e = first_not_after (point_cmp x.0 y.0) (point_cmp x.1 y.1) e
+
+-- a test of the source that holds below each source at which it holds
+partitioned : (p : Point → Bool) → ((a b : Point) → is_gt (point_cmp a b) ≡ false → p b ≡ true → p a ≡ true) → (xs : List (Point × Point)) → IsAscendingInPairs xs → IsPartitionedBy (λ (x : Point × Point). p x.0) xs
+partitioned p down xs s i j d le below holds =
+    ⊎_elim (λ (less : i < j). down (get_or xs i d).0 (get_or xs j d).0 (source_not_after (get_or xs i d) (get_or xs j d) (Less-from_sorted pair_cmp xs i j d s less below)) holds)
+    (λ (same : j ≤ i). let e : i ≡ j = omega arith in subst (λ k. p (get_or xs k d).0 ≡ true) (sym e) holds)
+    (Rattle.std.proofs.lemmas.Bool.cases_lt i j)
+
+lt_only : (o : Ordering) → is_lt o ≡ true → o ≡ Less
+lt_only Less e = refl
+lt_only Equal e = cc
+lt_only Greater e = cc
+
+gt_only : (o : Ordering) → is_le o ≡ false → o ≡ Greater
+gt_only Less e = cc
+gt_only Equal e = cc
+gt_only Greater e = refl
+
+eq_only : (o : Ordering) → is_lt o ≡ false → is_le o ≡ true → o ≡ Equal
+eq_only Less e f = cc
+eq_only Equal e f = refl
+eq_only Greater e f = cc
+
+not_gt_from_le : (o : Ordering) → is_le o ≡ true → is_gt o ≡ false
+not_gt_from_le Less e = refl
+not_gt_from_le Equal e = refl
+not_gt_from_le Greater e = cc
+
+le_from_not_gt : (o : Ordering) → is_gt o ≡ false → is_le o ≡ true
+le_from_not_gt Less e = refl
+le_from_not_gt Equal e = refl
+le_from_not_gt Greater e = cc
+
+lt_down_cases : (q a b : Point) (o : Ordering) → point_cmp a b ≡ o → is_gt o ≡ false → point_cmp b q ≡ Less → point_cmp a q ≡ Less
+lt_down_cases q a b Less e up below = point_cmp-total.trans a b q e below
+lt_down_cases q a b Equal e up below = point_cmp-total.congr a b q e ∙ below
+lt_down_cases q a b Greater e up below = cc
+
+lt_down : (q a b : Point) → is_gt (point_cmp a b) ≡ false → is_lt (point_cmp b q) ≡ true → is_lt (point_cmp a q) ≡ true
+lt_down q a b up below = ap is_lt (lt_down_cases q a b (point_cmp a b) refl up (lt_only (point_cmp b q) below))
+
+le_down : (q a b : Point) → is_gt (point_cmp a b) ≡ false → is_le (point_cmp b q) ≡ true → is_le (point_cmp a q) ≡ true
+le_down q a b up below = le_from_not_gt (point_cmp a q) (upto point_cmp-total a b q up (not_gt_from_le (point_cmp b q) below))
+
+pub partitioned_lt : (q : Point) (xs : List (Point × Point)) → IsAscendingInPairs xs → IsPartitionedBy (λ (x : Point × Point). is_lt (point_cmp x.0 q)) xs
+partitioned_lt q = partitioned (λ p. is_lt (point_cmp p q)) (lt_down q)
+
+pub partitioned_le : (q : Point) (xs : List (Point × Point)) → IsAscendingInPairs xs → IsPartitionedBy (λ (x : Point × Point). is_le (point_cmp x.0 q)) xs
+partitioned_le q = partitioned (λ p. is_le (point_cmp p q)) (le_down q)
+
+-- the two ends of the pairs from q
+pub record IsSpan (q : Point) (xs : List (Point × Point)) (first past : ℕ) : Type 0 where
+  pub ordered : first ≤ past
+  pub before : AllWithin (λ (x : Point × Point). point_cmp x.0 q ≡ Less) xs 0 first
+  pub inside : AllWithin (λ (x : Point × Point). x.0 ≡ q) xs first past
+  pub after : AllWithin (λ (x : Point × Point). point_cmp q x.0 ≡ Less) xs past (length xs)
+
+abbrev any_point : Point
+any_point = record { who = 0; interval = 0; incarnation = 0 }
+
+abbrev pub IsFirst : Point → List (Point × Point) → ℕ → Type 0
+IsFirst q xs i = IsPartitionPoint (λ (x : Point × Point). is_lt (point_cmp x.0 q) ≡ true) (λ (x : Point × Point). is_lt (point_cmp x.0 q) ≡ false) xs i
+
+abbrev pub IsPast : Point → List (Point × Point) → ℕ → Type 0
+IsPast q xs j = IsPartitionPoint (λ (x : Point × Point). is_le (point_cmp x.0 q) ≡ true) (λ (x : Point × Point). is_le (point_cmp x.0 q) ≡ false) xs j
+
+in_order : (q : Point) (xs : List (Point × Point)) (i j : ℕ) → i ≤ length xs → IsFirst q xs i → IsPast q xs j → i ≤ j
+in_order q xs i j within first past =
+    ⊎_elim (λ (less : j < i).
+        let d : Point × Point = (any_point, any_point) in
+        let low : point_cmp (get_or xs j d).0 q ≡ Less = lt_only (point_cmp (get_or xs j d).0 q) (first.0 j d (omega arith) less) in
+        let high : point_cmp (get_or xs j d).0 q ≡ Greater = gt_only (point_cmp (get_or xs j d).0 q) (past.1 j d (omega arith) (omega arith)) in
+        cc)
+    (λ (le : i ≤ j). le) (Rattle.std.proofs.lemmas.Bool.cases_lt j i)
+
+span_of : (q : Point) (xs : List (Point × Point)) (i j : ℕ) → i ≤ length xs → IsFirst q xs i → IsPast q xs j → j ≤ length xs → IsSpan q xs i j
+span_of q xs i j within first past fits = record {
+  ordered = in_order q xs i j within first past;
+  before = λ k d low high. lt_only (point_cmp (get_or xs k d).0 q) (first.0 k d low high);
+  inside = λ k d low high. point_cmp-exact (get_or xs k d).0 q (eq_only (point_cmp (get_or xs k d).0 q) (first.1 k d low (omega arith)) (past.0 k d (omega arith) high));
+  after = λ k d low high. flips point_cmp-total (get_or xs k d).0 q (gt_only (point_cmp (get_or xs k d).0 q) (past.1 k d low high))
+}
+
+-- the same from two readings of the pairs
+pub span_read : (q : Point) (us ts inside xs : List (Point × Point)) (i j : ℕ) → us ≡ inside → ts ≡ inside → inside ≡ xs → i ≤ length us → j ≤ length ts → IsFirst q us i → IsPast q ts j → IsSpan q xs i j
+span_read q us ts inside xs i j e f g within fits first past =
+    let P : List (Point × Point) → Type 0 = λ l. (i ≤ length l) × IsFirst q l i in
+    let Q : List (Point × Point) → Type 0 = λ l. (j ≤ length l) × IsPast q l j in
+    let at = subst P (e ∙ g) (within, first) in
+    let to = subst Q (f ∙ g) (fits, past) in
+    span_of q xs i j at.0 at.1 to.1 to.0

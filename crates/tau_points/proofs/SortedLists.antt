@@ -1,19 +1,21 @@
 -- Facts on lists in which each item is before all later ones.
-use Rattle.std.proofs.Common.{◌≡◌, ◌-◌, ◌<◌, ◌≤◌, ◌+◌, ℕ, suc, zero, List, [], ◌∷◌, ◌++◌, length, get_or, take, drop, refl, sym, ap, ◌∙◌, arith, inl, inr, ⊎_elim, ◌⊎◌, ◌↔◌, subst, append_assoc, Ok, Err, Result, false, add-one, drop-cons, length-drop, ap₂}
+use Rattle.std.proofs.Common.{◌≡◌, ◌-◌, ◌<◌, ◌≤◌, ◌+◌, ℕ, suc, zero, List, [], ◌∷◌, ◌++◌, length, get_or, take, drop, refl, sym, ap, ◌∙◌, arith, inl, inr, ⊎_elim, ◌⊎◌, ◌↔◌, subst, append_assoc, Ok, Err, Result, Bool, false, add-one, drop-cons, length-drop, ap₂}
 use Rattle.std.proofs.lemmas.List.{take_more, take_all, drop_all, append-nil}
-use Rattle.std.specs.List.{Contains, AllByRecursion, AllWithin, HoldsAt, slice_get}
-use Rattle.std.specs.List.Sorted.{IsStrictlySortedBy, IsBinarySearchResult, IsSearchInRange, IsSortedBy}
+use Rattle.std.specs.List.{Contains, AllByRecursion, AllWithin, HoldsAt, dedup}
+use Rattle.std.specs.List.Sorted.{IsStrictlySortedBy, IsBinarySearchResult, IsSearchInRange, IsSortedBy, IsPermutation}
 use Rattle.std.specs.Result.{OnOk, IfErr}
 use Rattle.std.proofs.lemmas.Map.Lookups.{CmpEqualImpliesEq}
-use Rattle.std.specs.Cmp.{IsTotalOrder}
-use Rattle.std.specs.Ordering.{ordering_index, ordering_reverse, is_lt}
+use Rattle.std.proofs.lemmas.Map.Views.{tells_apart}
+use Rattle.std.proofs.lemmas.List.Kept.{Contains-dedup, Contains-from_dedup}
+use Rattle.std.specs.Cmp.{IsTotalOrder, IsEquivalence}
+use Rattle.std.specs.Ordering.{ordering_index, ordering_reverse, is_lt, eq_by_cmp}
 use Rattle.std.specs.declared.cmp.Ordering.{Ordering}
 use Rattle.std.specs.declared.cmp.Ordering.TheVariants.{Less, Equal, Greater}
 use Rattle.std.proofs.lemmas.Cmp.{tied_itself}
 use Rattle.std.proofs.lemmas.Map.Keys.{Less-from_sorted}
-use Rattle.std.proofs.lemmas.List.Sorted.{searchable_from_sorted}
+use Rattle.std.proofs.lemmas.List.Sorted.{searchable_from_sorted, Contains-permutation, IsPermutation-sym}
 use Rattle.std.proofs.lemmas.List.Elements.{Contains-append_left, Contains-append_right, Contains-append_cases}
-use Rattle.tau_points.specs.Members.{Adds, Joins, HasAll, IsPlace}
+use Rattle.tau_points.specs.Members.{Adds, Joins, HasAll, SameMembers, IsPlace}
 use Rattle.tau_points.proofs.Membership.{Contains-head, Contains-later, Contains-none, Contains-cons_cases, Contains-take, Contains-drop, Contains-split, all_at, all_from_each, all_append, all_front, all_back}
 
 module _ {K : Type 0} (R : K → K → Ordering) where
@@ -289,3 +291,10 @@ merge_done o xs ys out mid new i j m ended is_mid is_new =
 -- a list that joins all of the other is unchanged
 pub Joins-unchanged : {K : Type 0} {R : K → K → Ordering} → IsTotalOrder R → (xs ys new : List K) → IsStrictlySortedBy R xs → IsStrictlySortedBy R new → Joins xs ys new → HasAll xs ys → new ≡ xs
 Joins-unchanged o xs ys new s t joins has = same_list o new xs t s (λ q. (λ c. ⊎_elim (λ a. a) (λ b. has q b) ((joins q).0 c), λ c. (joins q).1 (inl c)))
+
+-- a copy that is sorted and has repeats taken out
+pub SameMembers-sorted : {K : Type 0} {R : K → K → Ordering} {E : K → K → Bool} → IsEquivalence E → CmpEqualImpliesEq R → ((x y : K) → E x y ≡ eq_by_cmp R x y) → (xs ys zs new : List K) → ys ≡ xs → IsPermutation ys zs → new ≡ dedup E zs → SameMembers xs new
+SameMembers-sorted {E = E} laws exact ties xs ys zs new e moves is q = (
+  λ c. rw is (Contains-dedup laws (λ x y t. tells_apart exact x y (sym (ties x y) ∙ t)) zs q (Contains-permutation ys zs q moves (rw e c))),
+  λ c. rw e at (Contains-permutation zs ys q (IsPermutation-sym ys zs moves) (Contains-from_dedup E zs q (rw is at c)))
+)

@@ -1,5 +1,5 @@
 // The laws of ascending lists and of what is reached, each the contract of a function that does nothing. Their
-// proofs are in proofs/Reach.antt and proofs/SortedLists.antt, for use in other proofs.
+// proofs are in proofs/SortedLists.antt and proofs/Reach.antt, for use in other proofs.
 ghost use Rattle.std.specs.Prelude.{◌≡◌, List};
 ghost use Rattle.tau_points.specs.declared.point.Point.{Point};
 ghost use Rattle.tau_points.specs.Order.{IsAscending, IsAscendingInPairs};
@@ -7,15 +7,13 @@ ghost use Rattle.tau_points.specs.Members.{SameMembers};
 ghost use Rattle.tau_points.specs.Reach.{Reach, IsClosed};
 ghost use Rattle.tau_points.specs.ReachLaws.{IsLeast, IsMonotone, ReachesUnion, IsNested, IsRestricted, IsReachedByPath, IsReachedBySimplePath};
 
-/// A relation on `A`, and a set of starts: any that the logic can name.
-pub trait Start<A> {
+/// Any relation on `A`, for the laws of what is reached.
+pub trait Leading<A> {
     ghost leads: { A → A → Type 0 };
-
-    ghost starts: { A → Type 0 };
 }
 
-/// A set of `A`: any that the logic can name.
-pub trait Collection<A> {
+/// Any set of values of `A`, for the laws of what is reached.
+pub trait Holding<A> {
     ghost holds: { A → Type 0 };
 }
 
@@ -31,14 +29,53 @@ pub fn pairs_by_members()
 {
 }
 
-/// What is reached holds the starts, and with each point all to which it leads.
-pub fn reach_is_closed<A, S: Start<A>>()
-    ensures { IsClosed S.leads S.starts (Reach S.leads S.starts) }
+/// What is reached holds the starts `P` and, with each value, all to which `L` leads from it.
+pub fn reach_is_closed<A, L: Leading<A>, P: Holding<A>>()
+    ensures { IsClosed L.leads P.holds (Reach L.leads P.holds) }
 {
 }
 
-/// What is reached lies in every set that holds the starts, and with each point all to which it leads.
-pub fn reach_is_least<A, S: Start<A>, C: Collection<A>>()
-    ensures { IsLeast S.leads S.starts C.holds }
+/// What is reached lies in every set `H` that holds the starts and, with each value, all to which `L` leads from it.
+pub fn reach_is_least<A, L: Leading<A>, P: Holding<A>, H: Holding<A>>()
+    ensures { IsLeast L.leads P.holds H.holds }
+{
+}
+
+/// More links and more starts reach more.
+pub fn reach_is_monotone<A, L: Leading<A>, M: Leading<A>, P: Holding<A>, Q: Holding<A>>()
+    ensures { IsMonotone L.leads M.leads P.holds Q.holds }
+{
+}
+
+/// From two sets together the same is reached as from each of them.
+pub fn reach_of_union<A, L: Leading<A>, P: Holding<A>, Q: Holding<A>>()
+    ensures { ReachesUnion L.leads P.holds Q.holds }
+{
+}
+
+/// From what is reached nothing more is reached.
+pub fn reach_is_nested<A, L: Leading<A>, P: Holding<A>, Q: Holding<A>>()
+    ensures { IsNested L.leads P.holds Q.holds }
+{
+}
+
+/// In a set `H` that holds the starts and is closed under `L`, links that lead from its members as `L` does reach the
+/// same, and all of it is in `H`.
+pub fn reach_is_restricted<A, L: Leading<A>, M: Leading<A>, P: Holding<A>, H: Holding<A>>()
+    ensures { IsRestricted L.leads M.leads P.holds H.holds }
+{
+}
+
+/// A value is reached exactly where a list begins in the starts, ends with it, and has a link from each of its items
+/// to the next.
+pub fn reached_by_path<A, L: Leading<A>, P: Holding<A>>()
+    ensures { IsReachedByPath L.leads P.holds }
+{
+}
+
+/// Where equality of the carrier is decidable, a value is reached exactly where such a list without repetition leads
+/// to it.
+pub fn reached_by_simple_path<A, L: Leading<A>, P: Holding<A>>()
+    ensures { IsReachedBySimplePath L.leads P.holds }
 {
 }

@@ -12,3 +12,4 @@ mod relation;
 mod reaching;
 pub mod laws;
 mod sorted;
+mod visited;

@@ -6,11 +6,11 @@ ghost use Rattle.tau_points.specs.Order.{IsAscending};
 ghost use Rattle.tau_points.specs.Members.{Adds, Joins, SameMembers, HasAll};
 
 use std::alloc::{AllocError, Global};
-use std::collections::BTreeSet;
 use std::marker::Model;
 
 use crate::point::Point;
 use crate::sorted;
+use crate::visited::Visited;
 
 /// A set of points, seen as the ascending list of its distinct points (docs/rules.md, "Points").
 #[derive(Drop)]
@@ -49,11 +49,12 @@ impl PointSet {
         Ok(PointSet { items })
     }
 
-    /// The points of a tree.
-    pub(crate) fn from_tree(alloc: Global, tree: &BTreeSet<Point>) -> Result<Self, AllocError>
-        ensures { IfOk result (λ set. set ≡ tree.now.keys) }
+    /// The set of the points that a search has come to.
+    pub(crate) fn from_visited(alloc: Global, visited: &Visited) -> Result<Self, AllocError>
+        ensures ascending { IfOk result IsAscending }
+        ensures points { IfOk result (λ set. set ≡ visited.now) }
     {
-        let items = tree.iter().copied().collect(alloc)?;
+        let items = visited.points(alloc)?;
         Ok(PointSet { items })
     }
 

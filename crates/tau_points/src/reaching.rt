@@ -5,11 +5,11 @@ ghost use Rattle.tau_points.specs.Members.{AddsAll};
 ghost use Rattle.tau_points.specs.Reach.{Reach, Leads};
 
 use std::alloc::{AllocError, Global};
-use std::collections::BTreeSet;
 
 use crate::point::Point;
 use crate::point_set::PointSet;
 use crate::relation::Relation;
+use crate::visited::Visited;
 
 /// What leads from point to point. [`search`] follows it. An implementation gives `leads`, the relation that it
 /// stands for, and `push_next`, which walks it from one point.
@@ -40,14 +40,14 @@ pub fn search<L: Links>(alloc: Global, links: &L, from: &PointSet) -> Result<Poi
     ensures ascending { IfOk result IsAscending }
     ensures reached { IfOk result (λ set. (q : Point) → Contains set q ↔ Reach (L.leads links.now) (Contains from.now) q) }
 {
-    let mut reached = BTreeSet::new(alloc);
+    let mut visited = Visited::new(alloc);
     let mut stack = Vec::from_slice(alloc, from.points())?;
     'search: while let Some(point) = stack.pop() {
-        if reached.insert(point)? {
+        if visited.insert(point)? {
             links.push_next(&point, &mut stack)?;
         }
     }
-    PointSet::from_tree(alloc, &reached)
+    PointSet::from_visited(alloc, &visited)
 }
 
 /// The points that are reached from a set by following the pairs of a relation.

@@ -1,7 +1,27 @@
+use Rattle.std.proofs.Common.{rules, sym, subst}
+use Rattle.std.specs.Ordering.{is_lt, is_le}
+use Rattle.std.proofs.lemmas.List.Sorted.{IsPartitionPoint-from_clause}
+use Rattle.tau_points.specs.Order.{point_cmp, IsAscendingInPairs}
+use Rattle.tau_points.specs.declared.point.Point.{Point}
+use Rattle.tau_points.proofs.PointOrder.{partitioned_lt, partitioned_le, IsSpan, span_read}
 use Rattle.tau_points.proofs.relation.Relation.span.Goals as goal
 
+is_span : (c : goal.After-partition_point-past) → IsSpan c.args.from.now c.args.self.now c.partition_point-first.result c.partition_point-past.result
+is_span c =
+    span_read c.args.from.now _ _ _ _ _ _ c.deref.ensures.value c.deref-2.ensures.value c.self.view_is c.partition_point-first.ensures.bound c.partition_point-past.ensures.bound
+    (IsPartitionPoint-from_clause (λ (x : Point × Point). is_lt (point_cmp x.0 c.args.from.now)) _ _ c.partition_point-first.ensures.partitioned
+      (partitioned_lt c.args.from.now _ (subst IsAscendingInPairs (sym c.deref.ensures.value) c.self.invariant)) (λ a r f k. search rules))
+    (IsPartitionPoint-from_clause (λ (x : Point × Point). is_le (point_cmp x.0 c.args.from.now)) _ _ c.partition_point-past.ensures.partitioned
+      (partitioned_le c.args.from.now _ (subst IsAscendingInPairs (sym c.deref-2.ensures.value) c.self.invariant)) (λ a r f k. search rules))
+
 pub returns-clause-ordered : goal.returns-clause-ordered
-returns-clause-ordered c = let h = c.partition_point-first.ensures.partitioned in ?
+returns-clause-ordered c = (is_span c).ordered
 
 pub returns-clause-before : goal.returns-clause-before
-returns-clause-before c = ?
+returns-clause-before c = (is_span c).before
+
+pub returns-clause-inside : goal.returns-clause-inside
+returns-clause-inside c = (is_span c).inside
+
+pub returns-clause-after : goal.returns-clause-after
+returns-clause-after c = (is_span c).after

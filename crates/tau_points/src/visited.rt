@@ -1,0 +1,57 @@
+ghost use Rattle.std.specs.Prelude.{◌≡◌, ◌+◌, ◌^◌, ◌<◌, [], length, Contains, OnOk, IfOk};
+ghost use Rattle.std.specs.Bool.{OnTrue, OnFalse};
+ghost use Rattle.tau_points.specs.Order.{IsAscending};
+ghost use Rattle.tau_points.specs.Members.{Adds};
+
+use std::alloc::{AllocError, Global};
+use std::collections::BTreeSet;
+use std::marker::Model;
+
+use crate::point::Point;
+
+/// The points that a search has come to, seen as their ascending list.
+#[derive(Drop)]
+pub(crate) struct Visited {
+    tree: BTreeSet<Point>,
+}
+
+impl Model for Visited {
+    ghost use Rattle.std.specs.Prelude.{List};
+    ghost use Rattle.tau_points.specs.declared.point.Point.{Point};
+
+    ghost Value = { List Point };
+
+    ghost view = { λ v. v.tree.keys };
+}
+
+impl Visited {
+    pub(crate) fn new(alloc: Global) -> Self
+        ensures { result ≡ [] }
+    {
+        Visited {
+            tree: BTreeSet::new(alloc),
+        }
+    }
+
+    /// Adds the point; true where it is new.
+    pub(crate) fn insert(&mut self, point: Point) -> Result<bool, AllocError>
+        ensures members { OnOk result (Adds self.old self.new point) }
+        ensures more { IfOk result (λ added. OnTrue added (length self.new ≡ length self.old + 1)) }
+        ensures known { IfOk result (λ added. OnFalse added (Contains self.old point)) }
+        ensures unchanged { IfOk result (λ added. OnFalse added (self.new ≡ self.old)) }
+        ensures small { OnOk result (length self.new < 2 ^ 63) }
+    {
+        let added = self.tree.insert(point)?;
+        prove!(self.tree.len() <= usize::MAX / 2);
+        Ok(added)
+    }
+
+    /// The points in ascending order.
+    pub(crate) fn points(&self, alloc: Global) -> Result<Vec<Point>, AllocError>
+        ensures ascending { IfOk result (λ points. IsAscending points.items) }
+        ensures points { IfOk result (λ points. points.items ≡ self.now) }
+    {
+        let points = self.tree.iter().copied().collect(alloc)?;
+        Ok(points)
+    }
+}
