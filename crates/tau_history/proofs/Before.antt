@@ -13,8 +13,10 @@ pub before_by_interval : (a b : Timeline) → AreComparable a b → (i j : ℕ) 
 before_by_interval a b p i j ei ej ne = (to, λ q. from (rank_before a b q)) where
   apart : interval a ≢ interval b
   apart h = ne (ei ∙ h ∙ sym ej)
+
   to : IsTrue (nat_lt i j) → IsBefore a b
   to t = let lt = ltb-true i j t in record { precedes = precedes_by_rank a b p (by_interval (omega arith)); differs = λ e. apart (ap interval e) }
+
   from : RanksBelow a b → IsTrue (nat_lt i j)
   from (by_interval h) = lt-ltb i j (omega arith)
   from (by_incarnation e h) = absurd (apart e)
@@ -25,8 +27,10 @@ pub before_by_incarnation : (a b : Timeline) → AreComparable a b → interval 
 before_by_incarnation a b p same m n em en ne = (to, λ q. from (rank_before a b q)) where
   apart : a.last ≢ b.last
   apart h = ne (em ∙ h ∙ sym en)
+
   to : IsTrue (nat_lt m n) → IsBefore a b
   to t = let lt = ltb-true m n t in record { precedes = precedes_by_rank a b p (by_incarnation same (omega arith)); differs = λ e. apart (ap (λ h. h.last) e) }
+
   from : RanksBelow a b → IsTrue (nat_lt m n)
   from (by_interval h) = absurd (omega arith)
   from (by_incarnation e h) = lt-ltb m n (omega arith)
@@ -37,6 +41,7 @@ pub before_by_mode : (a b : Timeline) → AreComparable a b → interval a ≡ i
 before_by_mode a b p same last = (λ q. from (below_of q.precedes) q.differs, to) where
   to : (a.stable ≡ false) × (b.stable ≡ true) → IsBefore a b
   to m = record { precedes = precedes_by_rank a b p (by_mode same last (λ _. m.1)); differs = λ e. let s : a.stable ≡ b.stable = ap (λ h. h.stable) e in cc (m.0, m.1) }
+
   from : IsBelow a b → a ≢ b → (a.stable ≡ false) × (b.stable ≡ true)
   from (fallen e l) ne = absurd (omega arith)
   from (later_interval n r e l) ne = absurd (omega (arith, ap length e, length-append a.closed (n ∷ r)))

@@ -15,6 +15,7 @@ level a b e = by_last (a.last - b.last) (b.last - a.last) refl refl where
   by_mode : (s : Bool) → b.stable ≡ s → a.last ≡ b.last → IsBelow a b ⊎ IsBelow b a
   by_mode true t l = inl (same_point e l (λ _. t))
   by_mode false t l = inr (same_point (sym e) (sym l) (λ h. cc))
+
   by_last : (j k : ℕ) → a.last - b.last ≡ j → b.last - a.last ≡ k → IsBelow a b ⊎ IsBelow b a
   by_last zero zero p q = by_mode b.stable refl (omega arith)
   by_last (suc j) k p q = inr (fallen (sym e) (omega arith))
@@ -45,12 +46,15 @@ on_chain a b c (later_interval n r e l) (fallen f k) = inl (later_interval n r (
 on_chain a b c (later_interval n r e l) (same_point f k s) = inl (later_interval n r (f ∙ e) l)
 on_chain a b c (later_interval n r e l) (later_interval m s f k) =
     ⊎_elim (λ p. level a b p)
-      (λ q. ⊎_elim (λ u. inl (later_interval n u.0 u.1 l)) (λ u. inr (later_interval m u.0 u.1 k)) q)
-      (fronts a.closed b.closed n m r s (sym e ∙ f))
+    (λ q. ⊎_elim (λ u. inl (later_interval n u.0 u.1 l)) (λ u. inr (later_interval m u.0 u.1 k)) q)
+    (fronts a.closed b.closed n m r s (sym e ∙ f))
 
 -- of two histories that both precede a third, one precedes the other
 pub comparable_below : {a b c : Timeline} → Precedes a c → Precedes b c → AreComparable a b
 comparable_below {a} {b} {c} p q = either a b (on_chain a b c (below_of p) (below_of q))
+
+pub law_comparable : (a b c : Timeline) → Precedes a c → Precedes b c → AreComparable a b
+law_comparable a b c p q = comparable_below p q
 
 pub interval_grows : {a b : Timeline} → Precedes a b → interval a ≤ interval b
 interval_grows {a} {b} p = by_parts (below_of p) where
@@ -64,6 +68,7 @@ pub closed_front : {a b : Timeline} → Precedes a b → a.closed ≡ take (inte
 closed_front {a} {b} p = by_parts (below_of p) where
   whole : a.closed ≡ b.closed → a.closed ≡ take (interval a) b.closed
   whole e = sym (take-length a.closed) ∙ ap (take (interval a)) e
+
   by_parts : IsBelow a b → a.closed ≡ take (interval a) b.closed
   by_parts (fallen e l) = whole e
   by_parts (same_point e l s) = whole e
@@ -74,24 +79,27 @@ pub numbers_front : {a b : Timeline} → Precedes a b → a.closed ≡ take (int
 numbers_front {a} {b} p = by_parts (below_of p) where
   whole : a.closed ≡ b.closed → a.closed ≡ take (interval a) (numbers b)
   whole e = sym (take-append_seam a.closed (b.last ∷ [])) ∙ ap (λ xs. take (interval a) (xs ++ b.last ∷ [])) e
+
   by_parts : IsBelow a b → a.closed ≡ take (interval a) (numbers b)
   by_parts (fallen e l) = whole e
   by_parts (same_point e l s) = whole e
   by_parts (later_interval n r e l) =
-    sym (take-append_seam a.closed (n ∷ (r ++ b.last ∷ []))) ∙ ap (take (interval a)) (sym (append_assoc a.closed (n ∷ r) (b.last ∷ [])) ∙ ap (λ xs. xs ++ b.last ∷ []) (sym e))
+      sym (take-append_seam a.closed (n ∷ (r ++ b.last ∷ []))) ∙ ap (take (interval a)) (sym (append_assoc a.closed (n ∷ r) (b.last ∷ [])) ∙ ap (λ xs. xs ++ b.last ∷ []) (sym e))
 
 -- the number of a closed interval stays
 pub number_stays : {a b : Timeline} → Precedes a b → (i : ℕ) → i < interval a → slice_get (numbers b) i ≡ slice_get (numbers a) i
 number_stays {a} {b} p i h = by_parts (below_of p) where
   own : slice_get (numbers a) i ≡ slice_get a.closed i
   own = slice_get-append a.closed (a.last ∷ []) i h
+
   whole : a.closed ≡ b.closed → slice_get (numbers b) i ≡ slice_get (numbers a) i
   whole e = slice_get-append b.closed (b.last ∷ []) i (omega (arith, ap length e)) ∙ ap (λ xs. slice_get xs i) (sym e) ∙ sym own
+
   by_parts : IsBelow a b → slice_get (numbers b) i ≡ slice_get (numbers a) i
   by_parts (fallen e l) = whole e
   by_parts (same_point e l s) = whole e
   by_parts (later_interval n r e l) =
-    slice_get-append b.closed (b.last ∷ []) i (omega (arith, ap length e, length-append a.closed (n ∷ r))) ∙ ap (λ xs. slice_get xs i) e
+      slice_get-append b.closed (b.last ∷ []) i (omega (arith, ap length e, length-append a.closed (n ∷ r))) ∙ ap (λ xs. slice_get xs i) e
       ∙ slice_get-append a.closed (n ∷ r) i h ∙ sym own
 
 -- the number of the present interval only grows
@@ -99,11 +107,12 @@ pub own_number_grows : {a b : Timeline} → Precedes a b → (n : ℕ) × (slice
 own_number_grows {a} {b} p = by_parts (below_of p) where
   at_end : a.closed ≡ b.closed → slice_get (numbers b) (interval a) ≡ Some b.last
   at_end e = ap (λ k. slice_get (numbers b) k) (ap length e) ∙ slice_get-seam b.closed b.last []
+
   by_parts : IsBelow a b → (n : ℕ) × (slice_get (numbers b) (interval a) ≡ Some n) × (a.last ≤ n)
   by_parts (fallen e l) = (b.last, at_end e, omega arith)
   by_parts (same_point e l s) = (b.last, at_end e, omega arith)
   by_parts (later_interval n r e l) =
-    (n, ap (λ xs. slice_get xs (interval a)) (ap (λ xs. xs ++ b.last ∷ []) e ∙ append_assoc a.closed (n ∷ r) (b.last ∷ [])) ∙ slice_get-seam a.closed n (r ++ b.last ∷ []), l)
+      (n, ap (λ xs. slice_get xs (interval a)) (ap (λ xs. xs ++ b.last ∷ []) e ∙ append_assoc a.closed (n ∷ r) (b.last ∷ [])) ∙ slice_get-seam a.closed n (r ++ b.last ∷ []), l)
 
 -- the incarnation only grows within an interval
 pub last_grows : {a b : Timeline} → Precedes a b → interval a ≡ interval b → a.last ≤ b.last

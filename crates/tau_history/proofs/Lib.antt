@@ -2,7 +2,8 @@ pub mod Order
 pub mod Paths
 pub mod Chain
 pub mod Table
-pub mod Moves
 pub mod Gets
 pub mod Before
-pub mod Tests
+pub mod Precedence
+pub mod Later
+pub mod Moves

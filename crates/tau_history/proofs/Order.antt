@@ -52,7 +52,7 @@ precedes_of a b (later_interval n r e l) =
     let p = along (a.closed ++ n ∷ []) r b.last (and_then (to_stable a n l) close refl) in
     with_mode b (subst (λ xs. Precedes a (volatile xs b.last)) (append_assoc a.closed (n ∷ []) r ∙ sym e) p)
 
-longer : (a b : Timeline) (n : ℕ) (r : List ℕ) → b.closed ≡ a.closed ++ n ∷ r → interval a < interval b
+pub longer : (a b : Timeline) (n : ℕ) (r : List ℕ) → b.closed ≡ a.closed ++ n ∷ r → interval a < interval b
 longer a b n r e = omega (arith, ap length e, length-append a.closed (n ∷ r))
 
 same_length : (a b : Timeline) → a.closed ≡ b.closed → interval a ≡ interval b

@@ -8,6 +8,12 @@ pub transitive : {a b c : Timeline} → Precedes a b → Precedes b c → Preced
 transitive p here = p
 transitive p (more q m may e) = more (transitive p q) m may e
 
+pub reflexive : (a : Timeline) → Precedes a a
+reflexive a = here
+
+pub law_transitive : (a b c : Timeline) → Precedes a b → Precedes b c → Precedes a c
+law_transitive a b c p q = transitive p q
+
 -- one move more
 pub and_then : {a b : Timeline} → Precedes a b → (m : Move) → MayMove m b → Precedes a (moved m b)
 and_then p m may = more p m may refl

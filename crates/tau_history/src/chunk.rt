@@ -40,7 +40,6 @@ impl Model for Chunk {
 
     ghost use Rattle.std.proofs.Common.{arith, length-append};
     ghost use Rattle.tau_history.specs.Falls.{weight_le};
-    
 
     ghost size_decreases = { λ a h. omega (arith, length-append (held a.before) a.block, weight_le a.before, weight_le a.jump) };
 }
@@ -49,7 +48,12 @@ impl Drop for Chunk {
     // A loop, so that a long chain needs no deep stack. The jump goes first: its chunks are held from `before` too.
     #[cycle(dropping)]
     fn drop(self) {
-        let Chunk { count: _, before, jump, block: _ } = self;
+        let Chunk {
+            count: _,
+            before,
+            jump,
+            block: _,
+        } = self;
         drop(jump);
         let mut next = before;
         while let Some(shared) = next {
@@ -66,7 +70,12 @@ impl Chunk {
     fn into_before(self) -> Option<Arc<Chunk>>
         ensures { length (held result) < length self }
     {
-        let Chunk { count: _, before, jump, block: _ } = self;
+        let Chunk {
+            count: _,
+            before,
+            jump,
+            block: _,
+        } = self;
         drop(jump);
         before
     }
@@ -114,14 +123,26 @@ fn jump_over(before: &Option<Arc<Chunk>>) -> Result<Option<Arc<Chunk>>, AllocErr
 }
 
 /// A new chunk on top of these.
-pub(crate) fn extended(alloc: Global, before: &Option<Arc<Chunk>>, block: [u32; 8]) -> Result<Option<Arc<Chunk>>, AllocError>
+pub(crate) fn extended(
+    alloc: Global,
+    before: &Option<Arc<Chunk>>,
+    block: [u32; 8],
+) -> Result<Option<Arc<Chunk>>, AllocError>
     requires { length (held before.now) + 8 < 2 ^ 32 }
     ensures { IfOk result (λ chunks. held chunks ≡ held before.now ++ block) }
 {
     let count = count_of(before) + SIZE;
     let jump = jump_over(before)?;
     let before = share(before)?;
-    match Arc::new(alloc, Chunk { count, before, jump, block }) {
+    match Arc::new(
+        alloc,
+        Chunk {
+            count,
+            before,
+            jump,
+            block,
+        },
+    ) {
         Ok(top) => Ok(Some(top)),
         Err(_) => Err(AllocError),
     }
@@ -139,7 +160,11 @@ pub(crate) fn number_in(chunks: &Option<Arc<Chunk>>, k: u32) -> u32
         if below <= k {
             return top.block[(k - below) as usize];
         }
-        rest = if k < count_of(&top.jump) { &top.jump } else { &top.before };
+        rest = if k < count_of(&top.jump) {
+            &top.jump
+        } else {
+            &top.before
+        };
     }
     unreachable!()
 }
@@ -156,7 +181,11 @@ pub(crate) fn front_of(chunks: &Option<Arc<Chunk>>, count: u32) -> &Option<Arc<C
         if top.count == count {
             return rest;
         }
-        rest = if count <= count_of(&top.jump) { &top.jump } else { &top.before };
+        rest = if count <= count_of(&top.jump) {
+            &top.jump
+        } else {
+            &top.before
+        };
     }
     rest
 }

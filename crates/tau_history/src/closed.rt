@@ -2,7 +2,7 @@
 ghost use Rattle.std.specs.Prelude.{◌≡◌, ◌+◌, ◌<◌, ◌≤◌, ◌^◌, ◌↔◌, ◌++◌, ◌∷◌, [], length, take, slice_get, Some, IsTrue, IfOk, OnOk, OnErr};
 ghost use Rattle.tau_history.specs.Closed.{ClosedList, IsFront};
 
-use crate::chunk::{Chunk, SIZE, count_of, extended, front_of, number_in, same, share};
+use crate::chunk::{Chunk, SIZE, extended, front_of, number_in, same, share};
 use std::alloc::{AllocError, Global};
 use std::marker::Model;
 use std::sync::Arc;
@@ -11,13 +11,15 @@ use std::sync::Arc;
 #[derive(Drop)]
 pub(crate) struct ClosedNumbers {
     chunks: Option<Arc<Chunk>>,
+    // How many numbers stand in the chunks.
+    chunked: u32,
     tail: [u32; 8],
     tail_len: u32,
     alloc: Global,
 }
 
 impl Model for ClosedNumbers {
-    ghost use Rattle.std.specs.Prelude.{◌≡◌, ◌+◌, ◌-◌, ◌<◌, ◌≤◌, ◌^◌, ◌++◌, length, take};
+    ghost use Rattle.std.specs.Prelude.{◌≡◌, ◌+◌, ◌-◌, ◌<◌, ◌≤◌, ◌^◌, ◌%◌, ◌++◌, length, take};
     ghost use Rattle.tau_history.specs.Closed.{ClosedList};
 
     ghost Value = { ClosedList };
@@ -26,7 +28,7 @@ impl Model for ClosedNumbers {
 
     ghost view = { λ c. record { numbers = held c.chunks ++ take c.tail_len c.tail; spare = 8 - c.tail_len } };
 
-    ghost invariant = { λ c. (length c.tail ≡ 8) × (c.tail_len ≤ 8) × (length (held c.chunks) + c.tail_len < 2 ^ 32) };
+    ghost invariant = { λ c. (length c.tail ≡ 8) × (c.tail_len ≤ 8) × (c.chunked ≡ length (held c.chunks)) × (c.chunked % 8 ≡ 0) × (c.chunked + c.tail_len < 2 ^ 32) };
 }
 
 impl ClosedNumbers {
@@ -35,13 +37,19 @@ impl ClosedNumbers {
         ensures numbers { result.numbers ≡ [] }
         ensures spare { result.spare ≡ 8 }
     {
-        ClosedNumbers { chunks: None, tail: [0; 8], tail_len: 0, alloc }
+        ClosedNumbers {
+            chunks: None,
+            chunked: 0,
+            tail: [0; 8],
+            tail_len: 0,
+            alloc,
+        }
     }
 
     pub(crate) fn len(&self) -> u32
         ensures { result ≡ length self.now.numbers }
     {
-        count_of(&self.chunks) + self.tail_len
+        self.chunked + self.tail_len
     }
 
     /// The number at `k`, in logarithmic time.
@@ -49,8 +57,11 @@ impl ClosedNumbers {
         requires { k < length self.now.numbers }
         ensures { slice_get self.now.numbers k ≡ Some result }
     {
-        let below = count_of(&self.chunks);
-        if k < below { number_in(&self.chunks, k) } else { self.tail[(k - below) as usize] }
+        if k < self.chunked {
+            number_in(&self.chunks, k)
+        } else {
+            self.tail[(k - self.chunked) as usize]
+        }
     }
 
     /// Makes room for one more number.
@@ -63,6 +74,7 @@ impl ClosedNumbers {
             return Ok(());
         }
         self.chunks = extended(self.alloc, &self.chunks, self.tail)?;
+        self.chunked += SIZE;
         self.tail_len = 0;
         Ok(())
     }
@@ -82,7 +94,13 @@ impl ClosedNumbers {
         ensures { IfOk result (λ c. c ≡ self.now) }
     {
         let chunks = share(&self.chunks)?;
-        Ok(ClosedNumbers { chunks, tail: self.tail, tail_len: self.tail_len, alloc: self.alloc })
+        Ok(ClosedNumbers {
+            chunks,
+            chunked: self.chunked,
+            tail: self.tail,
+            tail_len: self.tail_len,
+            alloc: self.alloc,
+        })
     }
 
     /// Whether the later numbers begin with these, in time linear in these.
@@ -90,8 +108,11 @@ impl ClosedNumbers {
         requires { length self.now.numbers ≤ length later.now.numbers }
         ensures { IsTrue result ↔ IsFront self.now.numbers later.now.numbers }
     {
-        let chunked = count_of(&self.chunks).min(count_of(&later.chunks));
-        if !same(front_of(&self.chunks, chunked), front_of(&later.chunks, chunked)) {
+        let chunked = self.chunked.min(later.chunked);
+        if !same(
+            front_of(&self.chunks, chunked),
+            front_of(&later.chunks, chunked),
+        ) {
             return false;
         }
         for k in chunked..self.len() {

@@ -39,14 +39,22 @@ impl History {
     {
         let mut closed = ClosedNumbers::new(alloc);
         closed.push_spare(0);
-        Ok(History { stable: false, closed, last: 0 })
+        Ok(History {
+            stable: false,
+            closed,
+            last: 0,
+        })
     }
 
     /// The history with which a created transactor opens: volatile, with the number 0.
     pub fn newborn(alloc: Global) -> Result<History, AllocError>
         ensures { IfOk result (λ h. h.history ≡ newborn) }
     {
-        Ok(History { stable: false, closed: ClosedNumbers::new(alloc), last: 0 })
+        Ok(History {
+            stable: false,
+            closed: ClosedNumbers::new(alloc),
+            last: 0,
+        })
     }
 
     /// Makes the history stable (`docs/rules.md`, "Histories").
@@ -185,14 +193,21 @@ impl History {
         ensures { IfOk result (λ h. h.history ≡ self.now.history) }
     {
         let closed = self.closed.copy()?;
-        Ok(History { stable: self.stable, closed, last: self.last })
+        Ok(History {
+            stable: self.stable,
+            closed,
+            last: self.last,
+        })
     }
 
     /// Whether the two histories are equal, in time linear in their closed intervals.
     pub fn same(&self, other: &History) -> bool
         ensures { IsTrue result ↔ (self.now.history ≡ other.now.history) }
     {
-        if self.stable != other.stable || self.last != other.last || self.interval() != other.interval() {
+        if self.stable != other.stable
+            || self.last != other.last
+            || self.interval() != other.interval()
+        {
             return false;
         }
         self.closed.continues_in(&other.closed)

@@ -9,3 +9,6 @@ pub mod laws;
 
 pub use fate::Fate;
 pub use history::History;
+
+#[cfg(test)]
+mod tests;

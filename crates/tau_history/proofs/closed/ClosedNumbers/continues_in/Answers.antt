@@ -12,12 +12,14 @@ returns-then-not-same c =
     let own : held c.self.inside.chunks ++ take c.self.inside.tail_len c.self.inside.tail ≡ xs = ap (λ v. v.numbers) c.self.view_is in
     let others : held c.later.inside.chunks ++ take c.later.inside.tail_len c.later.inside.tail ≡ ys = ap (λ v. v.numbers) c.later.view_is in
     let fits : n ≤ length (held c.self.inside.chunks) = omega arith in
-    let fits_too : n ≤ length (held c.later.inside.chunks) = omega arith in
-    (λ h. cc, λ f.
-      let within : n ≤ length xs = omega (arith, ap length own, length-append (held c.self.inside.chunks) (take c.self.inside.tail_len c.self.inside.tail)) in
-      let alike = c.same.ensures.1 (c.front_of.ensures ∙ sym (take-part xs (held c.self.inside.chunks) _ n own fits) ∙ take-front xs ys n f within
-        ∙ take-part ys (held c.later.inside.chunks) _ n others fits_too ∙ sym c.front_of-2.ensures) in
-      cc)
+    let fits_too : n ≤ length (held c.later.inside.chunks) = omega arith in (
+      λ h. cc,
+      λ f.
+          let within : n ≤ length xs = omega (arith, ap length own, length-append (held c.self.inside.chunks) (take c.self.inside.tail_len c.self.inside.tail)) in
+          let alike = c.same.ensures.1 (c.front_of.ensures ∙ sym (take-part xs (held c.self.inside.chunks) _ n own fits) ∙ take-front xs ys n f within
+          ∙ take-part ys (held c.later.inside.chunks) _ n others fits_too ∙ sym c.front_of-2.ensures) in
+          cc,
+    )
 
 pub loop-k-preserved : goal.loop-k-preserved
 loop-k-preserved c =

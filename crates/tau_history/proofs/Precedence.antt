@@ -30,22 +30,24 @@ tells_shorter a b m n lt em en = record { shorter = λ t. omega arith; needed = 
   by_parts (fallen e l) = absurd (omega (arith, ap length e))
   by_parts (same_point e l s) = absurd (omega (arith, ap length e))
   by_parts (later_interval k r e l) =
-    let same : n ≡ k = (let h = sym en ∙ ap (λ xs. slice_get xs (interval a)) e ∙ slice_get-seam a.closed k r in cc) in
-    le-leb m n (omega arith)
+      let same : n ≡ k = (let h = sym en ∙ ap (λ xs. slice_get xs (interval a)) e ∙ slice_get-seam a.closed k r in cc) in
+      le-leb m n (omega arith)
+
   back : IsTrue (nat_le m n) → IsFront a.closed b.closed → Precedes a b
   back t f =
-    let le = leb-true m n t in
-    let p = split_at b.closed (interval a) n en in
-    precedes_of a b (later_interval n p.0 (p.1 ∙ ap (λ xs. xs ++ n ∷ p.0) (sym f.is)) (omega arith))
+      let le = leb-true m n t in
+      let p = split_at b.closed (interval a) n en in
+      precedes_of a b (later_interval n p.0 (p.1 ∙ ap (λ xs. xs ++ n ∷ p.0) (sym f.is)) (omega arith))
 
 whole : (a b : Timeline) → interval a ≡ interval b → IsFront a.closed b.closed → a.closed ≡ b.closed
 whole a b e f = f.is ∙ ap (λ k. take k b.closed) e ∙ take-length b.closed
 
 pub tells_incarnation : (a b : Timeline) (m n : ℕ) → interval a ≡ interval b → m ≡ a.last → n ≡ b.last → m ≢ n → Tells (nat_lt m n) a b
 tells_incarnation a b m n e em en ne = record {
-    shorter = λ t. omega arith;
-    needed = λ p. by_rank (rank_of a b (below_of p));
-    suffices = λ t f. let lt = ltb-true m n t in precedes_of a b (fallen (whole a b e f) (omega arith)) } where
+  shorter = λ t. omega arith;
+  needed = λ p. by_rank (rank_of a b (below_of p));
+  suffices = λ t f. let lt = ltb-true m n t in precedes_of a b (fallen (whole a b e f) (omega arith));
+} where
   by_rank : RanksBelow a b → IsTrue (nat_lt m n)
   by_rank (by_interval h) = absurd (omega arith)
   by_rank (by_incarnation h l) = lt-ltb m n (omega arith)
@@ -53,9 +55,10 @@ tells_incarnation a b m n e em en ne = record {
 
 pub tells_mode : (a b : Timeline) (r : Bool) → interval a ≡ interval b → a.last ≡ b.last → (IsTrue r ↔ (IsTrue a.stable → IsTrue b.stable)) → Tells r a b
 tells_mode a b r e l d = record {
-    shorter = λ t. omega arith;
-    needed = λ p. by_rank (rank_of a b (below_of p));
-    suffices = λ t f. precedes_of a b (same_point (whole a b e f) l (d.0 t)) } where
+  shorter = λ t. omega arith;
+  needed = λ p. by_rank (rank_of a b (below_of p));
+  suffices = λ t f. precedes_of a b (same_point (whole a b e f) l (d.0 t));
+} where
   by_rank : RanksBelow a b → IsTrue r
   by_rank (by_interval h) = absurd (omega arith)
   by_rank (by_incarnation h k) = absurd (omega arith)
