@@ -1,0 +1,6 @@
+pub mod Later
+pub mod Trimming
+pub mod Settled
+pub mod Ascending
+pub mod Entries
+pub mod Merging

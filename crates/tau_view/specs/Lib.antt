@@ -1,0 +1,9 @@
+pub mod Held
+pub mod Rules
+pub mod Trim
+pub mod Past
+pub mod Laws
+pub mod Stored
+pub mod Full
+pub mod Entries
+pub mod Places

@@ -1,0 +1,190 @@
+ghost use Rattle.std.specs.Prelude.{◌≡◌, [], ◌++◌, IfOk, IfErr, OnOk, OnErr};
+ghost use Rattle.std.specs.Option.{option_map};
+ghost use Rattle.tau_view.specs.Held.{AllComparable};
+ghost use Rattle.tau_view.specs.Rules.{noted_in, later, merged_in};
+ghost use Rattle.tau_history.specs.Order.{AreComparable};
+ghost use Rattle.tau_view.specs.Entries.{entries_of};
+ghost use Rattle.tau_view.specs.Places.{IsAt, IsGap};
+ghost use Rattle.tau_view.specs.Stored.{AscendsFrom, history_in};
+
+use crate::entry::Entry;
+use std::alloc::{AllocError, Global};
+use std::cmp::Ordering;
+use std::marker::Model;
+use tau_history::History;
+
+/// The place of a transactor's entry, or as an `Err` the place at which it would stand.
+fn find(entries: &[Entry], who: u32) -> Result<usize, usize>
+    requires { AscendsFrom 0 (entries_of entries.now) }
+    ensures found { IfOk result (IsAt who (entries_of entries.now)) }
+    ensures gap { IfErr result (IsGap who (entries_of entries.now)) }
+{
+    let mut low = 0;
+    let mut high = entries.len();
+    'search: while low < high {
+        let middle = low + (high - low) / 2;
+        match entries[middle].who.cmp(&who) {
+            Ordering::Less => low = middle + 1,
+            Ordering::Equal => return Ok(middle),
+            Ordering::Greater => high = middle,
+        }
+    }
+    Err(low)
+}
+
+/// Puts the history in the place of the transactor's one, or between those of lower and of higher transactors.
+fn put(entries: &mut Vec<Entry>, who: u32, history: History) -> Result<(), AllocError>
+    requires { AscendsFrom 0 (entries_of entries.old.items) }
+    ensures ascends { AscendsFrom 0 (entries_of entries.new.items) }
+    ensures ok { OnOk result (history_in (entries_of entries.new.items)
+        ≡ noted_in who history.history (history_in (entries_of entries.old.items))) }
+    ensures err { OnErr result (entries.new.items ≡ entries.old.items) }
+{
+    match find(entries, who) {
+        Ok(place) => {
+            entries[place] = Entry { who, history };
+            Ok(())
+        }
+        Err(place) => {
+            entries.insert(place, Entry { who, history })?;
+            Ok(())
+        }
+    }
+}
+
+/// Adds these entries at the end.
+fn append(all: &mut Vec<Entry>, entries: &[Entry]) -> Result<(), AllocError>
+    ensures { OnOk result (entries_of all.new.items ≡ entries_of all.old.items ++ entries_of entries.now) }
+{
+    for entry in entries {
+        all.push(entry.copy()?)?;
+    }
+    Ok(())
+}
+
+/// The same histories, each shared with the original.
+fn copies(alloc: Global, entries: &[Entry]) -> Result<Vec<Entry>, AllocError>
+    ensures { IfOk result (λ all. entries_of all.items ≡ entries_of entries.now) }
+{
+    let mut all = Vec::with_capacity(alloc, entries.len())?;
+    append(&mut all, entries)?;
+    Ok(all)
+}
+
+/// The entry of the later history of two.
+fn later_entry(ours: &Entry, theirs: &Entry) -> Result<Entry, AllocError>
+    requires { AreComparable ours.now.history.history theirs.now.history.history }
+    ensures who { IfOk result (λ e. e.who ≡ ours.now.who) }
+    ensures history { IfOk result (λ e. e.history.history ≡ later ours.now.history.history theirs.now.history.history) }
+{
+    if ours.history.is_before(&theirs.history) {
+        let history = theirs.history.copy()?;
+        return Ok(Entry {
+            who: ours.who,
+            history,
+        });
+    }
+    ours.copy()
+}
+
+/// The later history of each transactor.
+fn merged(alloc: Global, ours: &[Entry], theirs: &[Entry]) -> Result<Vec<Entry>, AllocError>
+    requires ours { AscendsFrom 0 (entries_of ours.now) }
+    requires theirs { AscendsFrom 0 (entries_of theirs.now) }
+    requires comparable { AllComparable (history_in (entries_of ours.now)) (history_in (entries_of theirs.now)) }
+    ensures ascends { IfOk result (λ all. AscendsFrom 0 (entries_of all.items)) }
+    ensures histories { IfOk result (λ all. history_in (entries_of all.items)
+        ≡ merged_in (history_in (entries_of ours.now)) (history_in (entries_of theirs.now))) }
+{
+    let mut all = Vec::with_capacity(alloc, ours.len())?;
+    let (mut i, mut j) = (0, 0);
+    'merge: while i < ours.len() && j < theirs.len() {
+        match ours[i].who.cmp(&theirs[j].who) {
+            Ordering::Less => {
+                all.push(ours[i].copy()?)?;
+                i += 1;
+            }
+            Ordering::Equal => {
+                all.push(later_entry(&ours[i], &theirs[j])?)?;
+                i += 1;
+                j += 1;
+            }
+            Ordering::Greater => {
+                all.push(theirs[j].copy()?)?;
+                j += 1;
+            }
+        }
+    }
+    append(&mut all, &ours[i..])?;
+    append(&mut all, &theirs[j..])?;
+    Ok(all)
+}
+
+/// Histories by ascending transactor, at most one of each.
+#[derive(Drop)]
+pub(crate) struct Histories {
+    entries: Vec<Entry>,
+}
+
+impl Model for Histories {
+    ghost use Rattle.std.specs.Prelude.{List, ℕ, map};
+    ghost use Rattle.tau_history.specs.Timeline.{Timeline};
+
+    ghost Value = { List (ℕ × Timeline) };
+
+    ghost use Rattle.tau_view.specs.Entries.{entries_of};
+    ghost use Rattle.tau_view.specs.Stored.{AscendsFrom};
+
+    ghost view = { λ h. entries_of h.entries.items };
+
+    ghost invariant = { λ h. AscendsFrom 0 (entries_of h.entries.items) };
+}
+
+impl Histories {
+    /// No history.
+    pub(crate) fn new(alloc: Global) -> Histories
+        ensures { result ≡ [] }
+    {
+        Histories {
+            entries: Vec::new(alloc),
+        }
+    }
+
+    /// The history of a transactor.
+    pub(crate) fn get(&self, who: u32) -> Option<&History>
+        ensures { option_map (λ h. h.now.history) result ≡ history_in self.now who }
+    {
+        match find(&self.entries, who) {
+            Ok(place) => Some(&self.entries[place].history),
+            Err(_) => None,
+        }
+    }
+
+    /// Makes this history that of the transactor.
+    pub(crate) fn note(&mut self, who: u32, history: &History) -> Result<(), AllocError>
+        ensures ok { OnOk result (history_in self.new ≡ noted_in who history.now.history (history_in self.old)) }
+        ensures err { OnErr result (self.new ≡ self.old) }
+    {
+        let history = history.copy()?;
+        put(&mut self.entries, who, history)
+    }
+
+    /// The same histories.
+    pub(crate) fn copy(&self) -> Result<Histories, AllocError>
+        ensures { IfOk result (λ h. h ≡ self.now) }
+    {
+        let entries = copies(*self.entries.allocator(), &self.entries)?;
+        Ok(Histories { entries })
+    }
+
+    /// Makes the history of each transactor the later one of those here and there. The two are comparable.
+    pub(crate) fn merge(&mut self, other: &Histories) -> Result<(), AllocError>
+        requires { AllComparable (history_in self.old) (history_in other.now) }
+        ensures ok { OnOk result (history_in self.new ≡ merged_in (history_in self.old) (history_in other.now)) }
+        ensures err { OnErr result (self.new ≡ self.old) }
+    {
+        let entries = merged(*self.entries.allocator(), &self.entries, &other.entries)?;
+        self.entries = entries;
+        Ok(())
+    }
+}
