@@ -4,3 +4,5 @@ pub mod Settled
 pub mod Ascending
 pub mod Entries
 pub mod Merging
+pub mod Sets
+pub mod Operations

@@ -7,3 +7,4 @@ pub mod Stored
 pub mod Full
 pub mod Entries
 pub mod Places
+pub mod Edges

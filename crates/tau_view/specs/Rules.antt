@@ -2,6 +2,7 @@
 use Rattle.std.specs.Prelude.{ℕ, Bool, true, false, ◌&&◌, ◌||◌, ◌==◌, not, Option, Some, None, nat_lt, if◌then◌else◌}
 use Rattle.tau_history.specs.Timeline.{Timeline, interval}
 use Rattle.tau_points.specs.declared.point.Point.{Point}
+use Rattle.tau_view.specs.Edges.{edges_to, both_edges}
 use Rattle.tau_view.specs.Held.{Held, Histories, Points, same_point}
 
 -- nothing
@@ -21,7 +22,7 @@ touched p v = record v { root = λ q. v.root q || same_point q p }
 
 -- edges from the point to each other root are added
 abbrev pub depended : Point → Held → Held
-depended p v = record v { edge = λ x y. v.edge x y || (same_point x p && (v.root y && not (same_point y p))) }
+depended p v = record v { edge = both_edges v.edge (edges_to p v.root) }
 
 -- by interval, then by incarnation, then volatile before stable
 abbrev pub ranks_below : Timeline → Timeline → Bool
@@ -43,7 +44,7 @@ merged_in hs ks u = later_of (hs u) (ks u)
 
 -- the later histories and the edges of both; the roots stay
 abbrev pub merged : Held → Held → Held
-merged v w = record v { history = merged_in v.history w.history; edge = λ p q. v.edge p q || w.edge p q }
+merged v w = record v { history = merged_in v.history w.history; edge = both_edges v.edge w.edge }
 
 -- the roots become these
 abbrev pub with_roots : Points → Held → Held

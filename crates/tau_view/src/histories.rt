@@ -177,14 +177,12 @@ impl Histories {
         Ok(Histories { entries })
     }
 
-    /// Makes the history of each transactor the later one of those here and there. The two are comparable.
-    pub(crate) fn merge(&mut self, other: &Histories) -> Result<(), AllocError>
-        requires { AllComparable (history_in self.old) (history_in other.now) }
-        ensures ok { OnOk result (history_in self.new ≡ merged_in (history_in self.old) (history_in other.now)) }
-        ensures err { OnErr result (self.new ≡ self.old) }
+    /// The later history of each transactor, of those here and there. The two are comparable.
+    pub(crate) fn merged(&self, other: &Histories) -> Result<Histories, AllocError>
+        requires { AllComparable (history_in self.now) (history_in other.now) }
+        ensures { IfOk result (λ h. history_in h ≡ merged_in (history_in self.now) (history_in other.now)) }
     {
         let entries = merged(*self.entries.allocator(), &self.entries, &other.entries)?;
-        self.entries = entries;
-        Ok(())
+        Ok(Histories { entries })
     }
 }

@@ -2,8 +2,10 @@
 #![tactic(auto)]
 
 mod entry;
+mod facts;
 mod histories;
 pub mod laws;
 mod view;
 
+pub use facts::Facts;
 pub use view::View;
