@@ -6,3 +6,4 @@ pub mod Entries
 pub mod Merging
 pub mod Sets
 pub mod Operations
+pub mod Links

@@ -1,8 +1,6 @@
 -- A view that takes nothing away.
-use Rattle.std.specs.Prelude.{Bool, true, false, IsTrue}
+use Rattle.std.specs.Prelude.{true, false, IsTrue}
 use Rattle.std.proofs.Common.{◌≡◌}
-use Rattle.tau_points.specs.declared.point.Point.{Point}
-use Rattle.tau_view.specs.Held.{Histories}
 use Rattle.tau_view.specs.Trim.{EdgeTest, RootTest, DropsSettledEdges, DropsClosedRoots, DropsForGood}
 
 abbrev pub keeps_edges : EdgeTest

@@ -8,3 +8,4 @@ pub mod Full
 pub mod Entries
 pub mod Places
 pub mod Edges
+pub mod Before

@@ -1,9 +1,7 @@
-ghost use Rattle.std.specs.Prelude.{◌≡◌, ◌↔◌, [], IfOk, OnOk, OnErr, Contains};
+ghost use Rattle.std.specs.Prelude.{◌≡◌, [], IfOk, OnOk, OnErr};
 ghost use Rattle.std.specs.Option.{option_map};
-ghost use Rattle.tau_points.specs.declared.point.Point.{Point};
 ghost use Rattle.tau_view.specs.Held.{AllComparable, only};
 ghost use Rattle.tau_view.specs.Rules.{noted, touched, depended, merged, with_roots, with_no_roots};
-ghost use Rattle.tau_view.specs.Past.{KnownPast, PastUpToClosed};
 ghost use Rattle.tau_view.specs.Edges.{edges_to, both_edges};
 ghost use Rattle.tau_view.specs.Stored.{history_in, point_in, pair_in, held};
 
@@ -66,6 +64,11 @@ impl Facts {
             roots: PointSet::new(alloc),
             alloc,
         }
+    }
+
+    /// The allocator.
+    pub(crate) fn allocator(&self) -> Global {
+        self.alloc
     }
 
     /// The history of a transactor, or `None` where there is none.

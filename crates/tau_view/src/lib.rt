@@ -3,9 +3,12 @@
 
 mod entry;
 mod facts;
+mod full;
 mod histories;
 pub mod laws;
+mod past;
 mod view;
 
 pub use facts::Facts;
+pub use full::FullView;
 pub use view::View;

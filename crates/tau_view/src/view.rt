@@ -1,6 +1,7 @@
 ghost use Rattle.std.specs.Prelude.{◌≡◌, ℕ, ◌↔◌, Option, IfOk, OnOk, OnErr, IsTrue, Contains};
 ghost use Rattle.std.specs.Option.{option_map};
 ghost use Rattle.tau_points.specs.declared.point.Point.{Point};
+ghost use Rattle.tau_points.specs.Order.{IsAscending};
 ghost use Rattle.tau_view.specs.Held.{Held, AllPrecede, AllComparable};
 ghost use Rattle.tau_view.specs.Rules.{nothing, noted, touched, depended, merged, with_roots, with_no_roots};
 ghost use Rattle.tau_view.specs.Trim.{EdgeTest, RootTest, trim, DropsSettledEdges, DropsClosedRoots, DropsForGood};
@@ -38,12 +39,14 @@ pub trait View: Sized {
     /// The known past of these points (`docs/rules.md`, "Known past"): they, and all that the view's edges and
     /// histories lead to from them.
     fn past_of(&self, from: &PointSet) -> Result<PointSet, AllocError>
-        ensures { IfOk result
+        ensures ascending { IfOk result IsAscending }
+        ensures past { IfOk result
             (λ past. (q : Point) → Contains past q ↔ KnownPast (held self.now) (point_in from.now) q) };
 
     /// The part of the known past that is reached without going on from a Closed point.
     fn past_up_to_closed(&self, from: &PointSet) -> Result<PointSet, AllocError>
-        ensures { IfOk result
+        ensures ascending { IfOk result IsAscending }
+        ensures past { IfOk result
             (λ past. (q : Point) → Contains past q ↔ PastUpToClosed (held self.now) (point_in from.now) q) };
 
     /// The roots.
