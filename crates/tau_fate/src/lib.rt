@@ -1,0 +1,11 @@
+//! Verdicts on messages and the freedom of transactors, by what their views hold.
+#![tactic(auto)]
+
+mod decide;
+mod freedom;
+mod least;
+mod verdict;
+
+pub use decide::{free, judge};
+pub use freedom::Freedom;
+pub use verdict::Verdict;
