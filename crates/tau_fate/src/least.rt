@@ -3,7 +3,7 @@ ghost use Rattle.std.specs.Prelude.{◌≡◌, IfOk, IsFalse};
 ghost use Rattle.tau_history.specs.declared.fate.Fate.TheVariants.{Fallen};
 ghost use Rattle.tau_points.specs.Order.{IsAscending};
 ghost use Rattle.tau_view.specs.Held.{fate_in, is_firm, only};
-ghost use Rattle.tau_view.specs.Past.{FallenIn, NotFirmIn};
+ghost use Rattle.tau_view.specs.Past.{FallenIn, NotFirmIn, Settled};
 ghost use Rattle.tau_view.specs.Stored.{point_in};
 ghost use Rattle.tau_fate.specs.Least.{IsLeastIfAny};
 ghost use Rattle.tau_fate.specs.Found.{FallenAmong, NotFirmAmong};
@@ -71,5 +71,23 @@ pub(crate) fn least_not_firm<V: View>(view: &V, from: &PointSet) -> Result<Optio
     ensures { IfOk result (IsLeastIfAny (NotFirmIn (V.held view.now) (point_in from.now))) }
 {
     let past = view.past_of(from)?;
+    Ok(first_not_firm(view, &past))
+}
+
+/// The least Fallen point of the known past of these points, by a search that stops at Closed points.
+pub(crate) fn least_fallen_settled<V: View>(view: &V, from: &PointSet) -> Result<Option<Point>, AllocError>
+    requires { Settled (V.held view.now) }
+    ensures { IfOk result (IsLeastIfAny (FallenIn (V.held view.now) (point_in from.now))) }
+{
+    let past = view.past_up_to_closed(from)?;
+    Ok(first_fallen(view, &past))
+}
+
+/// The least point of the known past of these points that isn't firm, by a search that stops at Closed points.
+pub(crate) fn least_not_firm_settled<V: View>(view: &V, from: &PointSet) -> Result<Option<Point>, AllocError>
+    requires { Settled (V.held view.now) }
+    ensures { IfOk result (IsLeastIfAny (NotFirmIn (V.held view.now) (point_in from.now))) }
+{
+    let past = view.past_up_to_closed(from)?;
     Ok(first_not_firm(view, &past))
 }

@@ -6,6 +6,6 @@ mod freedom;
 mod least;
 mod verdict;
 
-pub use decide::{free, judge};
+pub use decide::{free, free_settled, judge, judge_settled};
 pub use freedom::Freedom;
 pub use verdict::Verdict;
