@@ -1,17 +1,17 @@
 -- Fates under a later history.
-use Rattle.std.proofs.Common.{◌≡◌, ◌≢◌, ℕ, ◌+◌, ◌<◌, ◌≤◌, ◌⊎◌, ◌↔◌, inl, inr, ⊎_elim, Bool, true, false, IsTrue, List, [], ◌∷◌, ◌++◌, length, get_or, Some, refl, sym, ap, ◌∙◌, subst, arith}
+use Rattle.std.proofs.Common.{◌≡◌, ◌≢◌, ℕ, ◌<◌, ◌≤◌, ◌⊎◌, inl, inr, ⊎_elim, refl, sym, ap, ◌∙◌, arith}
 use Rattle.std.specs.Prelude.{slice_get, slice_index}
 use Rattle.std.proofs.lemmas.Option.{get_or_from_slice_get, unwrap_or-slice_get}
 use Rattle.std.specs.Prelude.{unwrap_or}
 use Rattle.std.proofs.lemmas.Bool.{cases_lt}
 use Rattle.tau_history.specs.Timeline.{Timeline, numbers, interval}
 use Rattle.tau_history.specs.Order.{Precedes}
-use Rattle.tau_history.specs.Fates.{fate, IsOwn, IsClosed, IsFallen, IsStable, IsOpen, HasFate}
+use Rattle.tau_history.specs.Fates.{fate, IsOwn, IsClosed, IsFallen, IsStable, IsOpen}
 use Rattle.tau_history.specs.declared.fate.Fate.{Fate}
 use Rattle.tau_history.specs.declared.fate.Fate.TheVariants.{Ahead, Open, Stable, Closed, Fallen}
 use Rattle.tau_history.proofs.Order.{IsBelow, fallen, same_point, later_interval, below_of, longer}
 use Rattle.tau_history.proofs.Chain.{interval_grows, number_stays, own_number_grows}
-use Rattle.tau_history.proofs.Table.{own_number, has_row, fate_by_row, fate-closed, fate-fallen, fate-stable, HasReached, reached_of, not_ahead}
+use Rattle.tau_history.proofs.Table.{own_number, has_row, fate-closed, fate-fallen, HasReached, reached_of, not_ahead}
 
 -- the number of a closed interval stays, and no number falls
 pub index_stays : {a b : Timeline} → Precedes a b → (i : ℕ) → i < interval a → slice_index (numbers b) i ≡ slice_index (numbers a) i

@@ -7,3 +7,4 @@ pub mod Before
 pub mod Precedence
 pub mod Later
 pub mod Moves
+pub mod Sequence

@@ -1,17 +1,15 @@
 -- What one move does to fates, also a close while volatile.
-use Rattle.std.proofs.Common.{◌≡◌, ◌≢◌, ℕ, ◌+◌, ◌<◌, ◌≤◌, ◌⊎◌, ◌↔◌, inl, inr, ⊎_elim, Bool, true, false, IsTrue, List, [], ◌∷◌, ◌++◌, length, get_or, refl, sym, ap, ◌∙◌, arith}
+use Rattle.std.proofs.Common.{◌≡◌, ◌≢◌, ℕ, ◌+◌, ◌<◌, ◌≤◌, ◌⊎◌, ◌↔◌, inl, inr, ⊎_elim, [], ◌∷◌, refl, sym, ◌∙◌, arith}
 use Rattle.std.specs.Prelude.{slice_index}
 use Rattle.std.proofs.Math.ListN.{get_or-append}
-use Rattle.std.proofs.Math.Seq.{get_or-append_seam}
 use Rattle.std.proofs.lemmas.Bool.{cases_lt}
 use Rattle.tau_history.specs.Timeline.{Timeline, Move, keep, stabilize, close, fall, moved, numbers, interval}
 use Rattle.tau_history.specs.Order.{Precedes}
-use Rattle.tau_history.specs.Fates.{fate, IsOwn, IsClosed, IsFallen, IsStable, IsOpen}
-use Rattle.tau_history.specs.declared.fate.Fate.{Fate}
-use Rattle.tau_history.specs.declared.fate.Fate.TheVariants.{Ahead, Open, Stable, Closed, Fallen}
-use Rattle.tau_history.proofs.Order.{IsBelow, same_point, below_moved, precedes_of}
+use Rattle.tau_history.specs.Fates.{fate, IsOwn, IsClosed, IsFallen, IsStable}
+use Rattle.tau_history.specs.declared.fate.Fate.TheVariants.{Ahead, Stable, Closed, Fallen}
+use Rattle.tau_history.proofs.Order.{same_point, below_moved, precedes_of}
 use Rattle.tau_history.proofs.Table.{length-numbers, own_number, has_row, fate-closed, fate-fallen, fate-stable, HasReached, reached_of, not_ahead}
-use Rattle.tau_history.proofs.Later.{closed_stays, fallen_stays, reached_stays}
+use Rattle.tau_history.proofs.Later.{closed_stays, fallen_stays}
 
 -- a history precedes what a move makes of it; a close while volatile is a stabilize and a close
 pub precedes_moved : (m : Move) (h : Timeline) → Precedes h (moved m h)

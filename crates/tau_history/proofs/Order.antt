@@ -1,8 +1,8 @@
 -- The order of histories, told by their parts.
-use Rattle.std.proofs.Common.{◌≡◌, ℕ, zero, suc, ◌+◌, ◌-◌, ◌<◌, ◌≤◌, ◌⊎◌, inl, inr, ⊎_elim, Bool, true, false, IsTrue, List, [], ◌∷◌, ◌++◌, length, refl, sym, ap, ◌∙◌, subst, append_assoc, length-append, arith}
-use Rattle.tau_history.specs.Timeline.{Timeline, Move, keep, stabilize, close, fall, moved, numbers, interval}
-use Rattle.tau_history.specs.Order.{Precedes, here, more, MayMove, AreComparable}
-use Rattle.tau_history.proofs.Paths.{transitive, and_then, volatile, steady, falls, to_stable, along, with_mode}
+use Rattle.std.proofs.Common.{◌≡◌, ℕ, suc, ◌+◌, ◌-◌, ◌<◌, ◌≤◌, inl, inr, Bool, true, false, IsTrue, List, [], ◌∷◌, ◌++◌, length, refl, sym, ap, ◌∙◌, subst, append_assoc, length-append, arith}
+use Rattle.tau_history.specs.Timeline.{Timeline, Move, keep, stabilize, close, fall, moved, interval}
+use Rattle.tau_history.specs.Order.{Precedes, here, more, AreComparable}
+use Rattle.tau_history.proofs.Paths.{and_then, volatile, falls, to_stable, along, with_mode}
 
 -- how the parts of two histories lie where the first precedes the second
 pub data IsBelow (a b : Timeline) : Type 0 where

@@ -1,7 +1,7 @@
 -- Moves in a row.
-use Rattle.std.proofs.Common.{◌≡◌, ℕ, zero, suc, ◌+◌, ◌-◌, ◌<◌, ◌≤◌, Bool, true, false, IsTrue, List, [], ◌∷◌, ◌++◌, refl, sym, ap, subst, append_assoc, arith}
+use Rattle.std.proofs.Common.{◌≡◌, ℕ, zero, suc, ◌+◌, ◌-◌, ◌≤◌, Bool, true, false, List, [], ◌∷◌, ◌++◌, refl, sym, ap, subst, append_assoc, arith}
 use Rattle.std.proofs.lemmas.List.{append-nil}
-use Rattle.tau_history.specs.Timeline.{Timeline, Move, keep, stabilize, close, fall, moved, numbers}
+use Rattle.tau_history.specs.Timeline.{Timeline, Move, stabilize, close, fall, moved}
 use Rattle.tau_history.specs.Order.{Precedes, here, more, MayMove}
 
 pub transitive : {a b c : Timeline} → Precedes a b → Precedes b c → Precedes a c

@@ -18,19 +18,22 @@ fate_at own stable m (Some n) = if nat_lt m n then Fallen else (if nat_lt n m th
 abbrev pub fate : Timeline → ℕ → ℕ → Fate
 fate h i m = fate_at (i == interval h) h.stable m (slice_get (numbers h) i)
 
--- the table of fates, a row for each but `Ahead`
+-- the table of fates, a row for each. The interval was closed at this number
 pub record IsClosed (h : Timeline) (i m : ℕ) : Type 0 where
   pub below : i < interval h
   pub number : m ≡ slice_index (numbers h) i
 
+-- the history fell from this number
 pub record IsFallen (h : Timeline) (i m : ℕ) : Type 0 where
   pub within : i ≤ interval h
   pub below_number : m < slice_index (numbers h) i
 
+-- the history stands there, and is stable
 pub record IsStable (h : Timeline) (i m : ℕ) : Type 0 where
   pub own : IsOwn h i m
   pub mode : IsTrue h.stable
 
+-- the history stands there, and is volatile
 pub record IsOpen (h : Timeline) (i m : ℕ) : Type 0 where
   pub own : IsOwn h i m
   pub mode : IsFalse h.stable

@@ -1,7 +1,7 @@
 -- Laws of histories, each the contract of a function of the crate (docs/rules.md, "Histories", "Fates").
 use Rattle.std.specs.Prelude.{◌≡◌, ◌≢◌, ℕ, ◌⊎◌, ◌↔◌}
 use Rattle.tau_history.specs.Timeline.{Timeline, Move, stabilize, close, fall, moved}
-use Rattle.tau_history.specs.Order.{Precedes, AreComparable}
+use Rattle.tau_history.specs.Order.{Precedes, AreComparable, later_of}
 use Rattle.tau_history.specs.Fates.{fate, HasFate, IsOwn}
 use Rattle.tau_history.specs.declared.fate.Fate.{Fate}
 use Rattle.tau_history.specs.declared.fate.Fate.TheVariants.{Ahead, Stable, Closed, Fallen}
@@ -21,6 +21,10 @@ OrderIsAntisymmetric = (a b : Timeline) → Precedes a b → Precedes b a → a 
 -- of two histories that precede a third, one precedes the other
 abbrev pub PredecessorsAreComparable : Type 0
 PredecessorsAreComparable = (a b c : Timeline) → Precedes a c → Precedes b c → AreComparable a b
+
+-- of two histories of which one precedes the other, both precede the later one
+abbrev pub LaterIsPreceded : Type 0
+LaterIsPreceded = (a b : Timeline) → AreComparable a b → Precedes a (later_of a b) × Precedes b (later_of a b)
 
 -- each point has exactly the fate whose row of the table it meets
 abbrev pub FatesAreTheTable : Type 0

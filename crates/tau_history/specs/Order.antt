@@ -1,5 +1,5 @@
 -- The order of histories (docs/rules.md, "Histories").
-use Rattle.std.specs.Prelude.{◌≡◌, ◌≢◌, ◌<◌, ◌⊎◌, IsTrue}
+use Rattle.std.specs.Prelude.{◌≡◌, ◌≢◌, ◌⊎◌, Bool, not, ◌&&◌, IsTrue, nat_lt, ◌==◌, if◌then◌else◌}
 use Rattle.tau_history.specs.Timeline.{Timeline, Move, keep, stabilize, close, fall, moved, interval}
 
 -- only a stable history makes the move `close`
@@ -22,3 +22,12 @@ AreComparable a b = Precedes a b ⊎ Precedes b a
 pub record IsBefore (a b : Timeline) : Type 0 where
   pub precedes : Precedes a b
   pub differs : a ≢ b
+
+-- interval, incarnation and mode, compared in turn
+abbrev pub ranks_before : Timeline → Timeline → Bool
+ranks_before a b =
+    if interval a == interval b then (if a.last == b.last then not a.stable && b.stable else nat_lt a.last b.last) else nat_lt (interval a) (interval b)
+
+-- of two histories of which one precedes the other, the later one
+abbrev pub later_of : Timeline → Timeline → Timeline
+later_of a b = if ranks_before a b then b else a

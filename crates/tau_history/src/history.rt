@@ -1,7 +1,7 @@
 ghost use Rattle.std.specs.Prelude.{◌≡◌, ◌+◌, ◌-◌, ◌<◌, ◌≤◌, ◌^◌, ◌↔◌, slice_get, IsTrue, IfOk, OnOk, OnErr};
 ghost use Rattle.tau_history.specs.Timeline.{Timeline, moved, stabilize, close, fall, opening, newborn, numbers};
 ghost use Rattle.tau_history.specs.Timeline as timeline;
-ghost use Rattle.tau_history.specs.Order.{Precedes, AreComparable, IsBefore};
+ghost use Rattle.tau_history.specs.Order.{Precedes, AreComparable, IsBefore, ranks_before};
 ghost use Rattle.tau_history.specs.Fates.{fate};
 ghost use Rattle.tau_history.specs.Stored.{Stored};
 ghost use Rattle.tau_history.specs.Closed.{IsFront};
@@ -126,7 +126,8 @@ impl History {
     /// incarnation and mode tell it, in constant time.
     pub fn is_before(&self, other: &History) -> bool
         requires { AreComparable self.now.history other.now.history }
-        ensures { IsTrue result ↔ IsBefore self.now.history other.now.history }
+        ensures before { IsTrue result ↔ IsBefore self.now.history other.now.history }
+        ensures rank { result ≡ ranks_before self.now.history other.now.history }
     {
         if self.interval() != other.interval() {
             return self.interval() < other.interval();

@@ -1,5 +1,5 @@
 //! Laws of the order of histories and of fates, each the contract of a function that does nothing.
-ghost use Rattle.tau_history.specs.Laws.{OrderIsReflexive, OrderIsTransitive, OrderIsAntisymmetric, PredecessorsAreComparable, FatesAreTheTable, ReachedStaysReached, ClosedStaysClosed, FallenStaysFallen, StableClosesOrFalls, FallsMakeFallen, ClosesMakeClosed, StabilizesMakeStable};
+ghost use Rattle.tau_history.specs.Laws.{OrderIsReflexive, OrderIsTransitive, OrderIsAntisymmetric, PredecessorsAreComparable, LaterIsPreceded, FatesAreTheTable, ReachedStaysReached, ClosedStaysClosed, FallenStaysFallen, StableClosesOrFalls, FallsMakeFallen, ClosesMakeClosed, StabilizesMakeStable};
 
 /// Every history precedes itself (`docs/rules.md`, "Histories").
 #[tactic(auto, using(crate::proofs::Paths::reflexive))]
@@ -23,6 +23,12 @@ pub fn order_is_antisymmetric()
 #[tactic(auto, using(crate::proofs::Chain::law_comparable))]
 pub fn predecessors_are_comparable()
     ensures { PredecessorsAreComparable }
+{}
+
+/// Of two histories of which one precedes the other, both precede the later one
+/// (`docs/rules.md`, "Histories").
+pub fn later_is_preceded()
+    ensures { LaterIsPreceded }
 {}
 
 /// Each point has exactly the fate whose row of the table it meets (`docs/rules.md`, "Fates").

@@ -112,6 +112,7 @@ fn laws_and_threads(rt: HostRuntime) -> Result<(), Fail> {
     laws::order_is_transitive();
     laws::order_is_antisymmetric();
     laws::predecessors_are_comparable();
+    laws::later_is_preceded();
     laws::fates_are_the_table();
     laws::reached_stays_reached();
     laws::closed_stays_closed();

@@ -1,4 +1,4 @@
-use Rattle.std.proofs.Common.{◌≡◌, ℕ, ◌++◌, length, List, IsTrue, false, sym, ap, ◌∙◌, arith, length-append}
+use Rattle.std.proofs.Common.{◌≡◌, ◌++◌, length, sym, ap, ◌∙◌, arith, length-append}
 use Rattle.tau_history.specs.Chunks.{held}
 use Rattle.tau_history.proofs.Gets.{parts_of}
 use Rattle.tau_history.proofs.chunk.same.Goals as goal

@@ -1,6 +1,5 @@
-use Rattle.std.proofs.Common.{◌≡◌, ℕ, ◌+◌, ◌++◌, ◌≤◌, length, take, IsTrue, false, sym, ap, ◌∙◌, length-append, arith}
+use Rattle.std.proofs.Common.{◌≡◌, ◌++◌, ◌≤◌, length, take, sym, ap, ◌∙◌, length-append, arith}
 use Rattle.tau_history.specs.Chunks.{held}
-use Rattle.tau_history.specs.Closed.{IsFront}
 use Rattle.tau_history.proofs.Gets.{take-front, take-part, take-more_alike}
 use Rattle.tau_history.proofs.closed.ClosedNumbers.continues_in.Goals as goal
 

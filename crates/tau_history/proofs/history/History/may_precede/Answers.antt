@@ -1,7 +1,5 @@
-use Rattle.std.proofs.Common.{◌≡◌, ◌<◌, ◌↔◌, nat_lt, nat_le, Bool, true, false, not, IsTrue, sym, ap, ◌∙◌, subst, arith}
+use Rattle.std.proofs.Common.{nat_lt, nat_le, not, sym, ap, ◌∙◌, arith}
 use Rattle.std.specs.Prelude.{slice_get}
-use Rattle.tau_history.specs.Timeline.{Timeline, interval}
-use Rattle.tau_history.specs.Order.{Precedes}
 use Rattle.tau_history.proofs.Precedence.{Tells, tells_longer, tells_shorter, tells_incarnation, tells_mode}
 use Rattle.tau_history.proofs.history.History.may_precede.Goals as goal
 use Rattle.tau_history.proofs.history.History.may_precede.Goals.{After-at, Then-self-later, Then-not-self, Else-not-self}

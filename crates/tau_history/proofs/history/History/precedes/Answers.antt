@@ -1,4 +1,4 @@
-use Rattle.std.proofs.Common.{◌≡◌, sym, ap}
+use Rattle.std.proofs.Common.{sym, ap}
 use Rattle.tau_history.proofs.Gets.{front_along}
 use Rattle.tau_history.proofs.Chain.{interval_grows, closed_front}
 use Rattle.tau_history.proofs.history.History.precedes.Goals as goal
