@@ -1,7 +1,9 @@
 -- What a closure keeps of a list.
-use Rattle.std.proofs.Common.{◌≡◌, ◌∙◌, ℕ, suc, zero, Bool, true, false, cond, List, [], ◌∷◌, length, refl, sym, ap, arith}
+use Rattle.std.proofs.Common.{◌≡◌, ◌∙◌, ℕ, suc, zero, Bool, true, false, cond, List, [], ◌∷◌, length, refl, sym, ap, arith, subst, ⊎_elim}
 use Rattle.std.specs.Fn.{AlwaysReturns, CalledAt, ComputesKey}
-use Rattle.std.specs.List.{AllByRecursion, filter, items_where_true}
+use Rattle.tau_points.specs.Members.{HasAll}
+use Rattle.tau_points.proofs.Membership.{Contains-head, Contains-later, Contains-none, Contains-cons_cases}
+use Rattle.std.specs.List.{AllByRecursion, Contains, filter, items_where_true}
 use Rattle.std.specs.List.Retain.{IsFiltered, ReturnsInTurn}
 use Rattle.std.specs.List.Sorted.{IsStrictlySortedBy}
 use Rattle.std.specs.declared.cmp.Ordering.{Ordering}
@@ -41,3 +43,13 @@ kept_where g test (b ∷ bs) (x ∷ xs) f q computes same turn =
 
 pub kept_is : {A F : Type 0} (g : Mut F (Bor A × Unit {0}) Bool) (test : A → Bool) (f : F) (xs ys : List A) → ComputesKey g test f → IsFiltered (CalledAt g) f xs ys → ys ≡ filter test xs
 kept_is g test f xs ys computes kept = kept.4 ∙ kept_where g test kept.0 xs f kept.1 computes kept.2 kept.3
+
+fewer_where : {A : Type 0} (bs : List Bool) (xs : List A) (q : A) → Contains (items_where_true bs xs) q → Contains xs q
+fewer_where [] xs q c = absurd (Contains-none q c)
+fewer_where (b ∷ bs) [] q c = absurd (Contains-none q c)
+fewer_where (true ∷ bs) (x ∷ xs) q c =
+    ⊎_elim (λ (e : q ≡ x). subst (λ z. Contains (x ∷ xs) z) (sym e) (Contains-head x xs)) (λ h. Contains-later x xs q (fewer_where bs xs q h)) (Contains-cons_cases x (items_where_true bs xs) q c)
+fewer_where (false ∷ bs) (x ∷ xs) q c = Contains-later x xs q (fewer_where bs xs q c)
+
+pub fewer_kept : {A P : Type 0} (S : P → A → Bool → P → Type 0) (p : P) (xs ys : List A) → IsFiltered S p xs ys → HasAll xs ys
+fewer_kept S p xs ys kept q c = fewer_where kept.0 xs q (rw kept.4 at c)

@@ -5,4 +5,4 @@ pub mod Reach
 pub mod Searches
 pub mod SortedLists
 pub mod Spans
-pub mod Trees
+pub mod Tables

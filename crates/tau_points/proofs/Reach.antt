@@ -24,8 +24,8 @@ module _ {A : Type 0} where
   pub union : (L : A → A → Type 0) (P Q : A → Type 0) → ReachesUnion L P Q
   union L P Q x = (
     least L (λ z. P z ⊎ Q z) (λ z. Reach L P z ⊎ Reach L Q z)
-      (record { starts = λ z c. ⊎_elim (λ p. inl (start p)) (λ q. inr (start q)) c; follows = λ y z c l. ⊎_elim (λ r. inl (next r l)) (λ r. inr (next r l)) c }) x,
-    λ c. ⊎_elim (λ r. monotone L L P (λ z. P z ⊎ Q z) (λ y z l. l) (λ z p. inl p) x r) (λ r. monotone L L Q (λ z. P z ⊎ Q z) (λ y z l. l) (λ z q. inr q) x r) c
+        (record { starts = λ z c. ⊎_elim (λ p. inl (start p)) (λ q. inr (start q)) c; follows = λ y z c l. ⊎_elim (λ r. inl (next r l)) (λ r. inr (next r l)) c }) x,
+    λ c. ⊎_elim (λ r. monotone L L P (λ z. P z ⊎ Q z) (λ y z l. l) (λ z p. inl p) x r) (λ r. monotone L L Q (λ z. P z ⊎ Q z) (λ y z l. l) (λ z q. inr q) x r) c,
   )
 
   -- in a set that L keeps, links that M has too reach by M
@@ -35,7 +35,7 @@ module _ {A : Type 0} where
   pub restricted : (L M : A → A → Type 0) (P H : A → Type 0) → IsRestricted L M P H
   restricted L M P H c same x = (
     (λ r. (along L M P H c (λ y z h. (same y z h).0) x r).1, λ r. (along M L P H back (λ y z h. (same y z h).1) x r).1),
-    λ r. (along L M P H c (λ y z h. (same y z h).0) x r).0
+    λ r. (along L M P H c (λ y z h. (same y z h).0) x r).0,
   ) where
     back : IsClosed M P H
     back = record { starts = c.starts; follows = λ y z h m. c.follows y z h ((same y z h).1 m) }
@@ -91,21 +91,21 @@ module _ {A : Type 0} where
   next_simple L P same x y s l =
       ⊎_elim
       (λ here. let part = cut L s.path.first s.path.rest x y s.path.leads here in
-        let D : List A → Type 0 = λ xs. AllPairs (λ (a b : A). ¬ (a ≡ b)) (s.path.first ∷ xs) in
-        record {
-          path = record { first = s.path.first; rest = part.0; begins = s.path.begins; leads = part.3 };
-          distinct = AllPairs-front (λ (a b : A). ¬ (a ≡ b)) (s.path.first ∷ part.0) part.1 (subst D part.2 s.distinct)
-        })
+      let D : List A → Type 0 = λ xs. AllPairs (λ (a b : A). ¬ (a ≡ b)) (s.path.first ∷ xs) in
+      record {
+        path = record { first = s.path.first; rest = part.0; begins = s.path.begins; leads = part.3 };
+        distinct = AllPairs-front (λ (a b : A). ¬ (a ≡ b)) (s.path.first ∷ part.0) part.1 (subst D part.2 s.distinct);
+      })
       (λ none. record {
         path = record { first = s.path.first; rest = s.path.rest ++ y ∷ []; begins = s.path.begins; leads = leads_on L s.path.first s.path.rest x y s.path.leads l };
-        distinct = distinct_push (s.path.first ∷ s.path.rest) y none s.distinct
+        distinct = distinct_push (s.path.first ∷ s.path.rest) y none s.distinct;
       })
       (member same (s.path.first ∷ s.path.rest) y)
 
   pub simple_path_of : (L : A → A → Type 0) (P : A → Type 0) → HasDecidableEquality A → (y : A) → Reach L P y → SimplePath L P y
   simple_path_of L P same y (start p) = record {
     path = record { first = y; rest = []; begins = p; leads = refl };
-    distinct = λ i j d less below. absurd (omega arith)
+    distinct = λ i j d less below. absurd (omega arith);
   }
   simple_path_of L P same y (next {x = x} r l) = next_simple L P same x y (simple_path_of L P same x r) l
 

@@ -3,7 +3,7 @@ use Rattle.std.proofs.Common.{◌≡◌, ◌⊎◌, ◌↔◌, List, [], ◌∷�
 use Rattle.std.specs.Result.{IfOk}
 use Rattle.std.specs.List.{Contains}
 use Rattle.std.proofs.lemmas.List.Elements.{Contains-append_left, Contains-push_cases, Contains-push}
-use Rattle.tau_points.specs.Members.{Adds, AddsAll}
+use Rattle.tau_points.specs.Members.{Adds, AddsAll, SameMembers}
 use Rattle.tau_points.specs.Reach.{Reach, start, next, IsClosed}
 use Rattle.tau_points.proofs.Membership.{Contains-none}
 use Rattle.tau_points.proofs.Reach.{least}
@@ -19,7 +19,7 @@ module _ {A : Type 0} (L : A → A → Type 0) where
   searching_start from done left none all = record {
     starts = λ x here. inr (rw all here);
     sound = λ x c. ⊎_elim (λ (h : Contains done x). absurd (Contains-none x (rw none at h))) (λ (h : Contains left x). start (rw all at h)) c;
-    follows = λ x y h l. absurd (Contains-none x (rw none at h))
+    follows = λ x y h l. absurd (Contains-none x (rw none at h));
   }
 
   module _ (P : A → Type 0) where
@@ -28,8 +28,8 @@ module _ {A : Type 0} (L : A → A → Type 0) where
       λ h. s.sound q (inl h),
       least L P (Contains done) (record {
         starts = λ x p. ⊎_elim (λ h. h) (λ h. absurd (Contains-none x (subst (λ (l : List A). Contains l x) none h))) (s.starts x p);
-        follows = λ x y h l. ⊎_elim (λ k. k) (λ k. absurd (Contains-none y (subst (λ (m : List A). Contains m y) none k))) (s.follows x y h l)
-      }) q
+        follows = λ x y h l. ⊎_elim (λ k. k) (λ k. absurd (Contains-none y (subst (λ (m : List A). Contains m y) none k))) (s.follows x y h l);
+      }) q,
     )
 
     -- x comes off what is left
@@ -45,7 +45,7 @@ module _ {A : Type 0} (L : A → A → Type 0) where
         subst (λ (l : List A). Searching L P l left) (sym same) (record {
           starts = λ y p. off x done done left y here (λ q h. h) (t.starts y p);
           sound = λ y c. t.sound y (⊎_elim (λ h. inl h) (λ h. inr (Contains-append_left left (x ∷ []) y h)) c);
-          follows = λ y z h l. off x done done left z here (λ q k. k) (t.follows y z h l)
+          follows = λ y z h l. off x done done left z here (λ q k. k) (t.follows y z h l);
         })
 
     -- x is expanded
@@ -59,13 +59,13 @@ module _ {A : Type 0} (L : A → A → Type 0) where
         record {
           starts = λ y p. more y (off x done new left y here keeps (t.starts y p));
           sound = λ y c. ⊎_elim
-            (λ h. ⊎_elim (λ k. t.sound y (inl k)) (λ (e : y ≡ x). subst (Reach L P) (sym e) reached) ((adds y).0 h))
-            (λ h. ⊎_elim (λ k. t.sound y (inr (Contains-append_left left (x ∷ []) y k))) (λ l. next reached l) ((pushes y).0 h)) c;
+              (λ h. ⊎_elim (λ k. t.sound y (inl k)) (λ (e : y ≡ x). subst (Reach L P) (sym e) reached) ((adds y).0 h))
+              (λ h. ⊎_elim (λ k. t.sound y (inr (Contains-append_left left (x ∷ []) y k))) (λ l. next reached l) ((pushes y).0 h)) c;
           follows = λ y z h l. ⊎_elim
-            (λ k. more z (off x done new left z here keeps (t.follows y z k l)))
-            (λ (e : y ≡ x). inr ((pushes z).1 (inr (subst (λ (w : A). L w z) e l)))) ((adds y).0 h)
+              (λ k. more z (off x done new left z here keeps (t.follows y z k l)))
+              (λ (e : y ≡ x). inr ((pushes z).1 (inr (subst (λ (w : A). L w z) e l)))) ((adds y).0 h);
         }
 
-pub IfOk-reached : {A E : Type 0} (L : A → A → Type 0) (P : A → Type 0) (done : List A) (r : Result (List A) E) → IfOk r (λ set. set ≡ done) → ((q : A) → Contains done q ↔ Reach L P q) → IfOk r (λ set. (q : A) → Contains set q ↔ Reach L P q)
-IfOk-reached L P done (Ok set) e all = λ q. subst (λ l. Contains l q ↔ Reach L P q) (sym e) (all q)
-IfOk-reached L P done (Err error) e all = tt
+pub IfOk-reached : {A E : Type 0} (L : A → A → Type 0) (P : A → Type 0) (done : List A) (r : Result (List A) E) → IfOk r (SameMembers done) → ((q : A) → Contains done q ↔ Reach L P q) → IfOk r (λ set. (q : A) → Contains set q ↔ Reach L P q)
+IfOk-reached L P done (Ok set) same all = λ q. (λ h. (all q).0 ((same q).1 h), λ r. (same q).0 ((all q).1 r))
+IfOk-reached L P done (Err error) same all = tt

@@ -58,8 +58,8 @@ module _ {K : Type 0} {R : K → K → Ordering} (o : IsTotalOrder R) where
   same_heads x y xs ys s t h =
       ⊎_elim (λ e. e)
       (λ later. ⊎_elim (λ e. sym e)
-        (λ other. absurd (not_both x y (all_at (λ z. R x z ≡ Less) xs y (sorted_above R x xs s) other) (all_at (λ z. R y z ≡ Less) ys x (sorted_above R y ys t) later)))
-        (Contains-cons_cases x xs y ((h y).1 (Contains-head y ys))))
+      (λ other. absurd (not_both x y (all_at (λ z. R x z ≡ Less) xs y (sorted_above R x xs s) other) (all_at (λ z. R y z ≡ Less) ys x (sorted_above R y ys t) later)))
+      (Contains-cons_cases x xs y ((h y).1 (Contains-head y ys))))
       (Contains-cons_cases y ys x ((h x).0 (Contains-head x xs)))
 
   same_tails : (x y : K) (xs ys : List K) → x ≡ y → IsStrictlySortedBy R (x ∷ xs) → ((q : K) → Contains (x ∷ xs) q → Contains (y ∷ ys) q) → (q : K) → Contains xs q → Contains ys q
@@ -111,12 +111,12 @@ module _ {K : Type 0} {R : K → K → Ordering} (o : IsTotalOrder R) where
 pub Adds-place : {K : Type 0} (x : K) (xs : List K) (i : ℕ) → Adds xs (take i xs ++ x ∷ drop i xs) x
 Adds-place x xs i q = (
   λ c. ⊎_elim (λ front. inl (Contains-take i xs q front))
-    (λ back. ⊎_elim (λ e. inr e) (λ rest. inl (Contains-drop i xs q rest)) (Contains-cons_cases x (drop i xs) q back))
-    (Contains-append_cases (take i xs) (x ∷ drop i xs) q c),
+      (λ back. ⊎_elim (λ e. inr e) (λ rest. inl (Contains-drop i xs q rest)) (Contains-cons_cases x (drop i xs) q back))
+      (Contains-append_cases (take i xs) (x ∷ drop i xs) q c),
   λ c. ⊎_elim (λ old. ⊎_elim (λ front. Contains-append_left (take i xs) (x ∷ drop i xs) q front)
       (λ back. Contains-append_right (take i xs) (x ∷ drop i xs) q (Contains-later x (drop i xs) q back))
       (Contains-split i xs q old))
-    (λ (e : q ≡ x). Contains-append_right (take i xs) (x ∷ drop i xs) q (subst (λ z. Contains (x ∷ drop i xs) z) (sym e) (Contains-head x (drop i xs)))) c
+      (λ (e : q ≡ x). Contains-append_right (take i xs) (x ∷ drop i xs) q (subst (λ z. Contains (x ∷ drop i xs) z) (sym e) (Contains-head x (drop i xs)))) c,
 )
 
 -- an item that is there already
@@ -165,7 +165,7 @@ module _ {K : Type 0} {R : K → K → Ordering} (o : IsTotalOrder R) where
   more_members out u ts q c =
       ⊎_elim (λ front. inl (Contains-append_left out (u ∷ []) q front))
       (λ back. ⊎_elim (λ (e : q ≡ u). inl (Contains-append_right out (u ∷ []) q (subst (λ z. Contains (u ∷ []) z) (sym e) (Contains-head u []))))
-        (λ rest. inr (Contains-append_right out ts q rest)) (Contains-cons_cases u ts q back))
+      (λ rest. inr (Contains-append_right out ts q rest)) (Contains-cons_cases u ts q back))
       (Contains-append_cases out (u ∷ ts) q c)
 
   merge_less : (xs ys out : List K) (u t : K) (us ts : List K) → Merging R xs ys out (u ∷ us) (t ∷ ts) → R u t ≡ Less → Merging R xs ys (out ++ u ∷ []) us (t ∷ ts)
@@ -174,11 +174,11 @@ module _ {K : Type 0} {R : K → K → Ordering} (o : IsTotalOrder R) where
     second = rw (regroup out u (t ∷ ts)) (sorted_between out u t us ts m.first m.second e);
     whole = λ q. (
       λ c. (m.whole q).0 (⊎_elim (λ a. inl (rw (regroup out u us) at a))
-        (λ b. ⊎_elim (λ f. inl (rw (regroup out u us) at (Contains-append_left (out ++ u ∷ []) us q f))) (λ g. inr g) (more_members out u (t ∷ ts) q (rw (regroup out u (t ∷ ts)) at b))) c),
+          (λ b. ⊎_elim (λ f. inl (rw (regroup out u us) at (Contains-append_left (out ++ u ∷ []) us q f))) (λ g. inr g) (more_members out u (t ∷ ts) q (rw (regroup out u (t ∷ ts)) at b))) c),
       λ c. ⊎_elim (λ a. inl (rw (regroup out u us) a))
-        (λ b. inr (⊎_elim (λ f. Contains-append_left (out ++ u ∷ []) (t ∷ ts) q (Contains-append_left out (u ∷ []) q f)) (λ g. Contains-append_right (out ++ u ∷ []) (t ∷ ts) q g) (Contains-append_cases out (t ∷ ts) q b)))
-        ((m.whole q).1 c)
-    )
+          (λ b. inr (⊎_elim (λ f. Contains-append_left (out ++ u ∷ []) (t ∷ ts) q (Contains-append_left out (u ∷ []) q f)) (λ g. Contains-append_right (out ++ u ∷ []) (t ∷ ts) q g) (Contains-append_cases out (t ∷ ts) q b)))
+          ((m.whole q).1 c),
+    );
   }
 
   merge_equal : (xs ys out : List K) (u t : K) (us ts : List K) → Merging R xs ys out (u ∷ us) (t ∷ ts) → u ≡ t → Merging R xs ys (out ++ u ∷ []) us ts
@@ -189,8 +189,8 @@ module _ {K : Type 0} {R : K → K → Ordering} (o : IsTotalOrder R) where
         second = subst (IsStrictlySortedBy R) (sym same) m.second;
         whole = λ q. (
           λ c. (m.whole q).0 (⊎_elim (λ a. inl (rw (regroup out u us) at a)) (λ b. inr (subst (λ (l : List K). Contains l q) same b)) c),
-          λ c. ⊎_elim (λ a. inl (rw (regroup out u us) a)) (λ b. inr (subst (λ (l : List K). Contains l q) (sym same) b)) ((m.whole q).1 c)
-        )
+          λ c. ⊎_elim (λ a. inl (rw (regroup out u us) a)) (λ b. inr (subst (λ (l : List K). Contains l q) (sym same) b)) ((m.whole q).1 c),
+        );
       }
 
   swapped : {P Q : Type 0} → P ⊎ Q → Q ⊎ P
@@ -200,14 +200,14 @@ module _ {K : Type 0} {R : K → K → Ordering} (o : IsTotalOrder R) where
   merge_swapped xs ys out us ts m = record {
     first = m.second;
     second = m.first;
-    whole = λ q. (λ c. swapped ((m.whole q).0 (swapped c)), λ c. swapped ((m.whole q).1 (swapped c)))
+    whole = λ q. (λ c. swapped ((m.whole q).0 (swapped c)), λ c. swapped ((m.whole q).1 (swapped c)));
   }
 
   pub merge_start : (xs ys out : List K) → out ≡ [] → IsStrictlySortedBy R xs → IsStrictlySortedBy R ys → Merging R xs ys out xs ys
   merge_start xs ys out e s t = record {
     first = rw e s;
     second = rw e t;
-    whole = λ q. (λ c. rw e at c, λ c. rw e c)
+    whole = λ q. (λ c. rw e at c, λ c. rw e c);
   }
 
   opened : (xs : List K) (i : ℕ) (u : K) → i < length xs → u ≡ get_or xs i u → drop i xs ≡ u ∷ drop (i + 1) xs
@@ -222,7 +222,7 @@ module _ {K : Type 0} {R : K → K → Ordering} (o : IsTotalOrder R) where
   merge_at_less xs ys out new i j u t at m e is =
       subst (λ (l : List K). Merging R xs ys l (drop (i + 1) xs) (drop j ys)) (sym is)
       (subst (λ (l : List K). Merging R xs ys (out ++ u ∷ []) (drop (i + 1) xs) l) (sym (opened ys j t at.second_in at.second_is))
-        (merge_less xs ys out u t (drop (i + 1) xs) (drop (j + 1) ys) (opened_both xs ys out i j u t at m) e))
+      (merge_less xs ys out u t (drop (i + 1) xs) (drop (j + 1) ys) (opened_both xs ys out i j u t at m) e))
 
   pub merge_at_equal : (xs ys out new : List K) (i j : ℕ) (u t : K) → At xs ys i j u t → Merging R xs ys out (drop i xs) (drop j ys) → u ≡ t → new ≡ out ++ u ∷ [] → Merging R xs ys new (drop (i + 1) xs) (drop (j + 1) ys)
   merge_at_equal xs ys out new i j u t at m e is =
@@ -240,16 +240,16 @@ module _ {K : Type 0} {R : K → K → Ordering} (o : IsTotalOrder R) where
     λ q. (
       λ c. (m.whole q).0 (inr (subst (λ (l : List K). Contains l q) is c)),
       λ c. subst (λ (l : List K). Contains l q) (sym is)
-        (⊎_elim (λ a. ⊎_elim (λ f. Contains-append_left out ts q f) (λ g. absurd (Contains-none q (subst (λ (l : List K). Contains l q) ended g))) (Contains-append_cases out us q a))
-          (λ b. b) ((m.whole q).1 c))
-    )
+          (⊎_elim (λ a. ⊎_elim (λ f. Contains-append_left out ts q f) (λ g. absurd (Contains-none q (subst (λ (l : List K). Contains l q) ended g))) (Contains-append_cases out us q a))
+          (λ b. b) ((m.whole q).1 c)),
+    ),
   )
 
   pub merge_end : (xs ys out us ts new : List K) → Merging R xs ys out us ts → (us ≡ []) ⊎ (ts ≡ []) → new ≡ (out ++ us) ++ ts → IsStrictlySortedBy R new × Joins xs ys new
   merge_end xs ys out us ts new m ended is =
       ⊎_elim (λ (a : us ≡ []). finished xs ys out us ts new m a (is ∙ ap (λ (l : List K). (out ++ l) ++ ts) a ∙ ap (λ (l : List K). l ++ ts) (append-nil out)))
       (λ (b : ts ≡ []). let other = finished ys xs out ts us new (merge_swapped xs ys out us ts m) b (is ∙ ap (λ (l : List K). (out ++ us) ++ l) b ∙ append-nil (out ++ us)) in
-        (other.0, λ q. (λ c. swapped ((other.1 q).0 c), λ c. (other.1 q).1 (swapped c))))
+      (other.0, λ q. (λ c. swapped ((other.1 q).0 c), λ c. (other.1 q).1 (swapped c))))
       ended
 
 module _ {K : Type 0} where
@@ -276,7 +276,7 @@ inserted {K} {R} o x xs ys zs i e s within place is =
     let at = subst P e (within, place) in
     (subst (IsStrictlySortedBy R) (sym is) (sorted_place o x xs i at.0 s at.1.before at.1.after), subst (λ (l : List K). Adds xs l x) (sym is) (Adds-place x xs i))
 
-tail_of : {K : Type 0} (i : ℕ) (xs : List K) → take (length xs - i) (drop i xs) ≡ drop i xs
+pub tail_of : {K : Type 0} (i : ℕ) (xs : List K) → take (length xs - i) (drop i xs) ≡ drop i xs
 tail_of i xs = take_all (length xs - i) (drop i xs) (omega (arith, length-drop i xs))
 
 none_left : {K : Type 0} (i : ℕ) (xs : List K) → length xs ≤ i → drop i xs ≡ []
@@ -296,5 +296,5 @@ Joins-unchanged o xs ys new s t joins has = same_list o new xs t s (λ q. (λ c.
 pub SameMembers-sorted : {K : Type 0} {R : K → K → Ordering} {E : K → K → Bool} → IsEquivalence E → CmpEqualImpliesEq R → ((x y : K) → E x y ≡ eq_by_cmp R x y) → (xs ys zs new : List K) → ys ≡ xs → IsPermutation ys zs → new ≡ dedup E zs → SameMembers xs new
 SameMembers-sorted {E = E} laws exact ties xs ys zs new e moves is q = (
   λ c. rw is (Contains-dedup laws (λ x y t. tells_apart exact x y (sym (ties x y) ∙ t)) zs q (Contains-permutation ys zs q moves (rw e c))),
-  λ c. rw e at (Contains-permutation zs ys q (IsPermutation-sym ys zs moves) (Contains-from_dedup E zs q (rw is at c)))
+  λ c. rw e at (Contains-permutation zs ys q (IsPermutation-sym ys zs moves) (Contains-from_dedup E zs q (rw is at c))),
 )

@@ -1,15 +1,18 @@
-//! Points of transactors, sets of points, relations between points, and the search along links.
+//! Points of transactors, sets of points, relations between points, and the search along links
+//! (docs/rules.md, "Points" and "Known past").
 #![tactic(auto)]
 
 pub use point::Point;
 pub use point_set::PointSet;
+pub use reaching::{Links, reachable, search};
 pub use relation::Relation;
-pub use reaching::{reachable, search, Links};
 
+pub mod laws;
 mod point;
 mod point_set;
-mod relation;
 mod reaching;
-pub mod laws;
+mod relation;
 mod sorted;
+#[cfg(test)]
+mod tests;
 mod visited;

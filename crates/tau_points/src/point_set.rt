@@ -5,12 +5,11 @@ ghost use Rattle.tau_points.specs.declared.point.Point.{Point};
 ghost use Rattle.tau_points.specs.Order.{IsAscending};
 ghost use Rattle.tau_points.specs.Members.{Adds, Joins, SameMembers, HasAll};
 
-use std::alloc::{AllocError, Global};
-use std::marker::Model;
-
 use crate::point::Point;
 use crate::sorted;
 use crate::visited::Visited;
+use std::alloc::{AllocError, Global};
+use std::marker::Model;
 
 /// A set of points, seen as the ascending list of its distinct points (docs/rules.md, "Points").
 #[derive(Drop)]
@@ -45,16 +44,18 @@ impl PointSet {
         ensures ascending { IfOk result IsAscending }
         ensures members { IfOk result (SameMembers points.now) }
     {
-        let items = sorted::sorted_from(alloc, points)?;
+        let mut items = Vec::from_slice(alloc, points)?;
+        sorted::arrange(&mut items);
         Ok(PointSet { items })
     }
 
     /// The set of the points that a search has come to.
     pub(crate) fn from_visited(alloc: Global, visited: &Visited) -> Result<Self, AllocError>
         ensures ascending { IfOk result IsAscending }
-        ensures points { IfOk result (λ set. set ≡ visited.now) }
+        ensures members { IfOk result (SameMembers visited.now) }
     {
-        let items = visited.points(alloc)?;
+        let mut items = visited.points(alloc)?;
+        sorted::arrange(&mut items);
         Ok(PointSet { items })
     }
 
@@ -86,6 +87,7 @@ impl PointSet {
     pub fn retain<F: FnMut(&Point) -> bool>(&mut self, keep: F)
         requires { F.IsAlwaysCallable keep }
         ensures ascending { IsAscending self.new }
+        ensures fewer { HasAll self.old self.new }
         ensures kept { (test : Point → Bool) → ComputesKey F.FnMut test keep → self.new ≡ filter test self.old }
     {
         sorted::retain(&mut self.items, keep);

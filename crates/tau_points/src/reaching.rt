@@ -4,12 +4,11 @@ ghost use Rattle.tau_points.specs.Order.{IsAscending};
 ghost use Rattle.tau_points.specs.Members.{AddsAll};
 ghost use Rattle.tau_points.specs.Reach.{Reach, Leads};
 
-use std::alloc::{AllocError, Global};
-
 use crate::point::Point;
 use crate::point_set::PointSet;
 use crate::relation::Relation;
 use crate::visited::Visited;
+use std::alloc::{AllocError, Global};
 
 /// What leads from point to point. [`search`] follows it. An implementation gives `leads`, the relation that it
 /// stands for, and `push_next`, which walks it from one point.
@@ -26,8 +25,10 @@ impl Links for Relation {
     ghost leads = { λ links. Leads links };
 
     fn push_next(&self, point: &Point, stack: &mut Vec<Point>) -> Result<(), AllocError> {
-        let (first, past) = self.span(point);
-        for pair in &self.pairs()[first..past] {
+        for pair in &self.pairs()[self.first_from(point)..] {
+            if pair.0 != *point {
+                return Ok(());
+            }
             stack.push(pair.1)?;
         }
         Ok(())

@@ -1,17 +1,17 @@
-ghost use Rattle.std.specs.Prelude.{◌≡◌, ◌≤◌, [], length, filter, slice_get, Bool, IsTrue, ◌↔◌, Contains, OnOk, OnErr, IfOk};
+ghost use Rattle.std.specs.Prelude.{◌≡◌, ◌≤◌, [], length, filter, slice_get, Bool, IsTrue, false, ◌↔◌, Contains, OnOk, OnErr, IfOk};
 ghost use Rattle.std.specs.Bool.{OnTrue, OnFalse};
 ghost use Rattle.std.specs.Fn.{ComputesKey};
 ghost use Rattle.std.specs.List.{AllWithin};
+ghost use Rattle.std.specs.Ordering.{is_lt};
 ghost use Rattle.std.specs.declared.cmp.Ordering.TheVariants.{Less};
 ghost use Rattle.tau_points.specs.declared.point.Point.{Point};
 ghost use Rattle.tau_points.specs.Order.{point_cmp, IsAscendingInPairs};
 ghost use Rattle.tau_points.specs.Members.{Adds, Joins, SameMembers, HasAll};
 
-use std::alloc::{AllocError, Global};
-use std::marker::Model;
-
 use crate::point::Point;
 use crate::sorted;
+use std::alloc::{AllocError, Global};
+use std::marker::Model;
 
 /// A set of pairs of points, seen as the ascending list of its distinct pairs (docs/rules.md, "Views").
 #[derive(Drop)]
@@ -46,7 +46,8 @@ impl Relation {
         ensures ascending { IfOk result IsAscendingInPairs }
         ensures members { IfOk result (SameMembers pairs.now) }
     {
-        let items = sorted::sorted_from(alloc, pairs)?;
+        let mut items = Vec::from_slice(alloc, pairs)?;
+        sorted::arrange(&mut items);
         Ok(Relation { items })
     }
 
@@ -78,6 +79,7 @@ impl Relation {
     pub fn retain<F: FnMut(&(Point, Point)) -> bool>(&mut self, keep: F)
         requires { F.IsAlwaysCallable keep }
         ensures ascending { IsAscendingInPairs self.new }
+        ensures fewer { HasAll self.old self.new }
         ensures kept { (test : Point × Point → Bool) → ComputesKey F.FnMut test keep → self.new ≡ filter test self.old }
     {
         sorted::retain(&mut self.items, keep);
@@ -127,9 +129,18 @@ impl Relation {
         ensures inside { AllWithin (λ pair. pair.0 ≡ from.now) self.now result.0 result.1 }
         ensures after { AllWithin (λ pair. point_cmp from.now pair.0 ≡ Less) self.now result.1 (length self.now) }
     {
-        let first = self.items.partition_point(|pair| pair.0 < *from);
+        let first = self.first_from(from);
         let past = self.items.partition_point(|pair| pair.0 <= *from);
         (first, past)
+    }
+
+    /// The first position of a pair that is not before those from `from`.
+    pub(crate) fn first_from(&self, from: &Point) -> usize
+        ensures within { result ≤ length self.now }
+        ensures before { AllWithin (λ pair. point_cmp pair.0 from.now ≡ Less) self.now 0 result }
+        ensures not_before { AllWithin (λ pair. is_lt (point_cmp pair.0 from.now) ≡ false) self.now result (length self.now) }
+    {
+        self.items.partition_point(|pair| pair.0 < *from)
     }
 
     /// The pairs in ascending order.

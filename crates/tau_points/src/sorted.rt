@@ -7,10 +7,9 @@ ghost use Rattle.std.specs.List.Sorted.{IsStrictlySortedBy};
 ghost use Rattle.tau_points.specs.Members.{Adds, Joins, HasAll, SameMembers, IsPlace};
 ghost use Rattle.tau_points.specs.Exact.{point_cmp-exact, pair_cmp-exact};
 
+use crate::point::Point;
 use std::alloc::{AllocError, Global};
 use std::cmp::Ordering;
-
-use crate::point::Point;
 
 /// An order in which a value compares equal only to itself.
 pub(crate) trait Exact: Ord {
@@ -83,7 +82,12 @@ fn count_missing<T: Exact>(items: &[T], others: &[T]) -> usize
 }
 
 /// The items of both lists, with room for `len` taken first.
-fn merged<T: Exact + Copy>(alloc: Global, ours: &[T], theirs: &[T], len: usize) -> Result<Vec<T>, AllocError>
+fn merged<T: Exact + Copy>(
+    alloc: Global,
+    ours: &[T],
+    theirs: &[T],
+    len: usize,
+) -> Result<Vec<T>, AllocError>
     requires ours { IsStrictlySortedBy T.cmp ours.now }
     requires theirs { IsStrictlySortedBy T.cmp theirs.now }
     ensures sorted { IfOk result (λ all. IsStrictlySortedBy T.cmp all.items) }
@@ -133,15 +137,13 @@ pub(crate) fn merge<T: Exact + Copy>(items: &mut Vec<T>, others: &[T]) -> Result
     Ok(())
 }
 
-/// The items of a list in any order, ascending, each once.
-pub(crate) fn sorted_from<T: Exact + Copy>(alloc: Global, items: &[T]) -> Result<Vec<T>, AllocError>
-    ensures sorted { IfOk result (λ all. IsStrictlySortedBy T.cmp all.items) }
-    ensures members { IfOk result (λ all. SameMembers items.now all.items) }
+/// Puts a list in any order into ascending order, each item once.
+pub(crate) fn arrange<T: Exact + Copy>(items: &mut Vec<T>)
+    ensures sorted { IsStrictlySortedBy T.cmp items.new.items }
+    ensures members { SameMembers items.old.items items.new.items }
 {
-    let mut all = Vec::from_slice(alloc, items)?;
-    all.sort_unstable();
-    all.dedup();
-    Ok(all)
+    items.sort_unstable();
+    items.dedup();
 }
 
 /// Keeps the items at which `keep` answers true.
@@ -149,6 +151,7 @@ pub(crate) fn retain<T: Exact + Copy, F: FnMut(&T) -> bool>(items: &mut Vec<T>, 
     requires callable { F.IsAlwaysCallable keep }
     requires sorted { IsStrictlySortedBy T.cmp items.old.items }
     ensures sorted { IsStrictlySortedBy T.cmp items.new.items }
+    ensures fewer { HasAll items.old.items items.new.items }
     ensures kept { (test : T → Bool) → ComputesKey F.FnMut test keep → items.new.items ≡ filter test items.old.items }
 {
     items.retain(keep);

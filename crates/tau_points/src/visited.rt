@@ -1,18 +1,16 @@
 ghost use Rattle.std.specs.Prelude.{◌≡◌, ◌+◌, ◌^◌, ◌<◌, [], length, Contains, OnOk, IfOk};
 ghost use Rattle.std.specs.Bool.{OnTrue, OnFalse};
-ghost use Rattle.tau_points.specs.Order.{IsAscending};
 ghost use Rattle.tau_points.specs.Members.{Adds};
 
+use crate::point::Point;
 use std::alloc::{AllocError, Global};
-use std::collections::BTreeSet;
+use std::collections::HashSet;
 use std::marker::Model;
 
-use crate::point::Point;
-
-/// The points that a search has come to, seen as their ascending list.
+/// The points that a search has come to, seen as their list in some order.
 #[derive(Drop)]
 pub(crate) struct Visited {
-    tree: BTreeSet<Point>,
+    table: HashSet<Point>,
 }
 
 impl Model for Visited {
@@ -21,7 +19,7 @@ impl Model for Visited {
 
     ghost Value = { List Point };
 
-    ghost view = { λ v. v.tree.keys };
+    ghost view = { λ v. v.table.keys };
 }
 
 impl Visited {
@@ -29,7 +27,7 @@ impl Visited {
         ensures { result ≡ [] }
     {
         Visited {
-            tree: BTreeSet::new(alloc),
+            table: HashSet::new(alloc),
         }
     }
 
@@ -41,17 +39,15 @@ impl Visited {
         ensures unchanged { IfOk result (λ added. OnFalse added (self.new ≡ self.old)) }
         ensures small { OnOk result (length self.new < 2 ^ 63) }
     {
-        let added = self.tree.insert(point)?;
-        prove!(self.tree.len() <= usize::MAX / 2);
+        let added = self.table.insert(point)?;
+        prove!(self.table.len() <= usize::MAX / 2);
         Ok(added)
     }
 
-    /// The points in ascending order.
+    /// The points in some order.
     pub(crate) fn points(&self, alloc: Global) -> Result<Vec<Point>, AllocError>
-        ensures ascending { IfOk result (λ points. IsAscending points.items) }
-        ensures points { IfOk result (λ points. points.items ≡ self.now) }
+        ensures { IfOk result (λ points. points.items ≡ self.now) }
     {
-        let points = self.tree.iter().copied().collect(alloc)?;
-        Ok(points)
+        self.table.iter().copied().collect(alloc)
     }
 }

@@ -16,4 +16,4 @@ search-preserved g c =
 
 pub returns-clause-reached : goal.returns-clause-reached
 returns-clause-reached g c =
-    IfOk-reached _ _ _ _ c.from_visited.ensures.points (searching_end _ _ _ _ (nil_from_length c.search.stack.items (search (rules, c.in_default.ensures))) c.search.invariant)
+    IfOk-reached _ _ _ _ c.from_visited.ensures.members (searching_end _ _ _ _ (nil_from_length c.search.stack.items (search (rules, c.in_default.ensures))) c.search.invariant)

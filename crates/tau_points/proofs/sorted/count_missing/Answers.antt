@@ -7,7 +7,7 @@ scan-preserved-in-Equal g c = record {
   within = omega arith;
   fewer = omega arith;
   none = λ e. known_more _ _ _ _ _ _ (record { first_in = c.scan-test.true; second_in = c.if-j-others.true; first_is = c.index-items-i.is; second_is = c.index-others-j.is })
-    (g.met.T.Exact.exact _ _ (sym c.in-Equal.ensures)) (c.scan.invariant.none e)
+      (g.met.T.Exact.exact _ _ (sym c.in-Equal.ensures)) (c.scan.invariant.none e);
 }
 
 pub returns : goal.returns

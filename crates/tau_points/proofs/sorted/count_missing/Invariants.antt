@@ -6,7 +6,7 @@ abbrev pub invariant-scan : goal.invariant-scan
 invariant-scan g l = record {
   within : l.j ≤ length l.others;
   fewer : l.missing ≤ l.j;
-  none : l.missing ≡ 0 → (q : _) → Contains (take l.j l.others) q → Contains l.items q
+  none : l.missing ≡ 0 → (q : _) → Contains (take l.j l.others) q → Contains l.items q;
 }
 
 abbrev pub decreases-scan : goal.decreases-scan

@@ -6,7 +6,7 @@ abbrev pub invariant-merge : goal.invariant-merge
 invariant-merge g l = record {
   ours : l.i ≤ length l.ours;
   theirs : l.j ≤ length l.theirs;
-  state : Merging g.T.Ord.cmp l.ours l.theirs l.all.items (drop l.i l.ours) (drop l.j l.theirs)
+  state : Merging g.T.Ord.cmp l.ours l.theirs l.all.items (drop l.i l.ours) (drop l.j l.theirs);
 }
 
 abbrev pub decreases-merge : goal.decreases-merge

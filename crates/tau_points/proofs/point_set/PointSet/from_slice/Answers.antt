@@ -1,0 +1,4 @@
+use Rattle.tau_points.proofs.point_set.PointSet.from_slice.Goals as goal
+
+pub returns-clause-members : goal.returns-clause-members
+returns-clause-members c = rw (← c.in_ok-items.ensures.items) c.arrange.ensures.members
