@@ -2,9 +2,10 @@
 use Rattle.std.proofs.Common.{◌≡◌, ℕ, zero, suc, ◌+◌, ◌-◌, ◌<◌, ◌≤◌, ◌⊎◌, inl, inr, ⊎_elim, Bool, true, false, IsTrue, Option, Some, None, List, [], ◌∷◌, ◌++◌, length, ◌≢◌, get_or, take, drop, set, refl, sym, ap, ◌∙◌, subst, take-append-drop, arith, eqb, ltb, cond}
 use Rattle.std.proofs.lemmas.Bool.Decides.{nat_tests}
 use Rattle.tau_history.specs.Timeline.{Timeline}
+use Rattle.tau_history.specs.Order.{later_of}
 use Rattle.tau_view.specs.Stored.{AscendsFrom, history_in}
 use Rattle.tau_view.specs.Places.{Between, IsAt, IsGap, blank}
-use Rattle.tau_view.specs.Rules.{later, later_of}
+use Rattle.tau_view.specs.Rules.{later_history}
 
 abbrev pub Entries : Type 0
 Entries = List (ℕ × Timeline)
@@ -142,7 +143,7 @@ place_history who k es a p = ap (history_in es) (sym p.is) ∙ history_in-at bla
 
 -- what a merge has made so far, and what is left of both lists
 abbrev pub with_rest : Entries → Entries → Entries → ℕ → Option Timeline
-with_rest out xs ys u = or_else (history_in out u) (later_of (history_in xs u) (history_in ys u))
+with_rest out xs ys u = or_else (history_in out u) (later_history (history_in xs u) (history_in ys u))
 
 or_else-some : (o r : Option Timeline) (h : Timeline) → or_else (or_else o (Some h)) r ≡ or_else o (Some h)
 or_else-some None r h = refl
@@ -152,17 +153,17 @@ or_else-none : (o r : Option Timeline) → or_else (or_else o None) r ≡ or_els
 or_else-none None r = refl
 or_else-none (Some k) r = refl
 
-later_of-none : (h : Timeline) (o : Option Timeline) → o ≡ None → later_of (Some h) o ≡ Some h
-later_of-none h o e = rw e refl
+later_history-none : (h : Timeline) (o : Option Timeline) → o ≡ None → later_history (Some h) o ≡ Some h
+later_history-none h o e = rw e refl
 
-none_later : (h : Timeline) (o : Option Timeline) → o ≡ None → later_of o (Some h) ≡ Some h
+none_later : (h : Timeline) (o : Option Timeline) → o ≡ None → later_history o (Some h) ≡ Some h
 none_later h o e = rw e refl
 
 pub takes_ours : (out xs ys : Entries) (e : ℕ × Timeline) (u : ℕ) → AscendsFrom (e.0 + 1) ys → with_rest (out ++ e ∷ []) xs ys u ≡ with_rest out (e ∷ xs) ys u
 takes_ours out xs ys e u a =
     ⊎_elim
     (λ s. let none = none_below (e.0 + 1) u ys a (omega arith) in
-    rw (history_in-append out (e ∷ []) u, history_in-here e [] u s, history_in-here e xs u s, or_else-some, later_of-none e.1 (history_in ys u) none) refl)
+    rw (history_in-append out (e ∷ []) u, history_in-here e [] u s, history_in-here e xs u s, or_else-some, later_history-none e.1 (history_in ys u) none) refl)
     (λ s. rw (history_in-append out (e ∷ []) u, history_in-past e [] u s, history_in-past e xs u s, or_else-none) refl)
     (alike u e.0)
 
@@ -174,9 +175,9 @@ takes_theirs out xs ys e u a =
     (λ s. rw (history_in-append out (e ∷ []) u, history_in-past e [] u s, history_in-past e ys u s, or_else-none) refl)
     (alike u e.0)
 
-pub takes_later : (out xs ys : Entries) (w : ℕ) (h k : Timeline) (u : ℕ) → with_rest (out ++ (w, later h k) ∷ []) xs ys u ≡ with_rest out ((w, h) ∷ xs) ((w, k) ∷ ys) u
+pub takes_later : (out xs ys : Entries) (w : ℕ) (h k : Timeline) (u : ℕ) → with_rest (out ++ (w, later_of h k) ∷ []) xs ys u ≡ with_rest out ((w, h) ∷ xs) ((w, k) ∷ ys) u
 takes_later out xs ys w h k u =
     ⊎_elim
-    (λ s. rw (history_in-append out ((w, later h k) ∷ []) u, history_in-here (w, later h k) [] u s, history_in-here (w, h) xs u s, history_in-here (w, k) ys u s, or_else-some) refl)
-    (λ s. rw (history_in-append out ((w, later h k) ∷ []) u, history_in-past (w, later h k) [] u s, history_in-past (w, h) xs u s, history_in-past (w, k) ys u s, or_else-none) refl)
+    (λ s. rw (history_in-append out ((w, later_of h k) ∷ []) u, history_in-here (w, later_of h k) [] u s, history_in-here (w, h) xs u s, history_in-here (w, k) ys u s, or_else-some) refl)
+    (λ s. rw (history_in-append out ((w, later_of h k) ∷ []) u, history_in-past (w, later_of h k) [] u s, history_in-past (w, h) xs u s, history_in-past (w, k) ys u s, or_else-none) refl)
     (alike u w)

@@ -7,3 +7,4 @@ pub mod Merging
 pub mod Sets
 pub mod Operations
 pub mod Links
+pub mod Keeping

@@ -31,6 +31,7 @@ link_before v p q e = by_interval p.interval refl where
   by_number : (i : ℕ) → p.interval ≡ suc i → (o : Option ℕ) → number_in (v.history p.who) i ≡ o → option_map (λ n. record { who = p.who; interval = i; incarnation = n }) o ≡ Some q → Link v p q
   by_number i s None is f = absurd (cc)
   by_number i s (Some n) is f = let here : record { who = p.who; interval = i; incarnation = n } ≡ q = cc in before s is (sym here)
+
   by_interval : (k : ℕ) → p.interval ≡ k → Link v p q
   by_interval zero z = absurd (let none = before_none v.history p z in cc)
   by_interval (suc i) s = by_number i s (number_in (v.history p.who) i) refl (sym (before_at v.history p i s) ∙ e)
@@ -51,6 +52,7 @@ pub links_none : (s : Stored) (p : Point) (old new : List Point) → before_in (
 links_none s p old new none a q = (forth, back) where
   forth : Contains new q → Contains old q ⊎ Link (held s) p q
   forth h = ⊎_elim (λ o. inl o) (λ c. inr (link_of s p q (inl c))) ((a q).0 h)
+
   back : Contains old q ⊎ Link (held s) p q → Contains new q
   back h = (a q).1 (⊎_elim (λ o. inl o) (λ l. inr (⊎_elim (λ c. c) (λ e. absurd (cc)) (of_link s p q l))) h)
 
@@ -60,28 +62,32 @@ links_some s p b old mid new some a e = subst (AddsAll (Link (held s) p) old) (s
   forth : (q : Point) → Contains (mid ++ b ∷ []) q → Contains old q ⊎ Link (held s) p q
   forth q h =
       ⊎_elim (λ m. ⊎_elim (λ o. inl o) (λ c. inr (link_of s p q (inl c))) ((a q).0 m))
-        (λ is. inr (link_of s p q (inr (some ∙ ap Some is)))) (Contains-push_cases mid b q h)
+      (λ is. inr (link_of s p q (inr (some ∙ ap Some is)))) (Contains-push_cases mid b q h)
+
   back : (q : Point) → Contains old q ⊎ Link (held s) p q → Contains (mid ++ b ∷ []) q
   back q h =
       ⊎_elim (λ o. Contains-append_left mid (b ∷ []) q ((a q).1 (inl o)))
-        (λ l. ⊎_elim (λ c. Contains-append_left mid (b ∷ []) q ((a q).1 (inr c)))
-          (λ is. let same : b ≡ q = cc in subst (Contains (mid ++ b ∷ [])) same (Contains-push mid b)) (of_link s p q l)) h
+      (λ l. ⊎_elim (λ c. Contains-append_left mid (b ∷ []) q ((a q).1 (inr c)))
+      (λ is. let same : b ≡ q = cc in subst (Contains (mid ++ b ∷ [])) same (Contains-push mid b)) (of_link s p q l)) h
 
 -- from a point that isn't Closed
 pub open_links : (v : Held) (p : Point) (old new : List Point) → fate_in v.history p ≢ Closed → AddsAll (Link v p) old new → AddsAll (OpenLink v p) old new
 open_links v p old new n a q = (forth, back) where
   forth : Contains new q → Contains old q ⊎ OpenLink v p q
   forth h = ⊎_elim (λ o. inl o) (λ l. inr (record { link = l; open_source = n })) ((a q).0 h)
+
   back : Contains old q ⊎ OpenLink v p q → Contains new q
   back h = (a q).1 (⊎_elim (λ o. inl o) (λ l. inr l.link) h)
 
 -- what a search from listed points finds
 pub past_found : (v : Held) (from found : List Point) → ((q : Point) → Contains found q ↔ Reach (Link v) (Contains from) q) → (q : Point) → Contains found q ↔ KnownPast v (point_in from) q
-past_found v from found f q =
-    (λ c. monotone (Link v) (Link v) (Contains from) (λ x. IsTrue (point_in from x)) (λ x y l. l) (Contains-point_in from) q ((f q).0 c),
-     λ r. (f q).1 (monotone (Link v) (Link v) (λ x. IsTrue (point_in from x)) (Contains from) (λ x y l. l) (point_in-Contains from) q r))
+past_found v from found f q = (
+  λ c. monotone (Link v) (Link v) (Contains from) (λ x. IsTrue (point_in from x)) (λ x y l. l) (Contains-point_in from) q ((f q).0 c),
+  λ r. (f q).1 (monotone (Link v) (Link v) (λ x. IsTrue (point_in from x)) (Contains from) (λ x y l. l) (point_in-Contains from) q r),
+)
 
 pub open_past_found : (v : Held) (from found : List Point) → ((q : Point) → Contains found q ↔ Reach (OpenLink v) (Contains from) q) → (q : Point) → Contains found q ↔ PastUpToClosed v (point_in from) q
-open_past_found v from found f q =
-    (λ c. monotone (OpenLink v) (OpenLink v) (Contains from) (λ x. IsTrue (point_in from x)) (λ x y l. l) (Contains-point_in from) q ((f q).0 c),
-     λ r. (f q).1 (monotone (OpenLink v) (OpenLink v) (λ x. IsTrue (point_in from x)) (Contains from) (λ x y l. l) (point_in-Contains from) q r))
+open_past_found v from found f q = (
+  λ c. monotone (OpenLink v) (OpenLink v) (Contains from) (λ x. IsTrue (point_in from x)) (λ x y l. l) (Contains-point_in from) q ((f q).0 c),
+  λ r. (f q).1 (monotone (OpenLink v) (OpenLink v) (λ x. IsTrue (point_in from x)) (Contains from) (λ x y l. l) (point_in-Contains from) q r),
+)

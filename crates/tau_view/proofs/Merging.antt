@@ -8,9 +8,9 @@ use Rattle.tau_history.specs.Timeline.{Timeline}
 use Rattle.tau_view.specs.declared.entry.Entry.{Entry}
 use Rattle.tau_view.specs.Entries.{entry_of, entries_of}
 use Rattle.tau_view.specs.Places.{Between, blank}
-use Rattle.tau_history.specs.Order.{AreComparable}
+use Rattle.tau_history.specs.Order.{AreComparable, later_of}
 use Rattle.tau_view.specs.Held.{AllComparable}
-use Rattle.tau_view.specs.Rules.{later, later_of, merged_in}
+use Rattle.tau_view.specs.Rules.{later_history, merged_in}
 use Rattle.tau_view.specs.Stored.{AscendsFrom, history_in}
 use Rattle.tau_view.proofs.Ascending.{Entries, or_else, with_rest, takes_ours, takes_theirs, takes_later, between_append, ascends_append, ascends_lower, history_in-append, history_in-at}
 
@@ -41,18 +41,18 @@ module _ (wanted : ℕ → Option Timeline) (out : Entries) where
     same = λ u. takes_theirs out rs ss e u a ∙ m.same u;
   }
 
-  pub take_later : (w : ℕ) (h k : Timeline) (rs ss : Entries) → Merging wanted out ((w, h) ∷ rs) ((w, k) ∷ ss) → Merging wanted (out ++ (w, later h k) ∷ []) rs ss
+  pub take_later : (w : ℕ) (h k : Timeline) (rs ss : Entries) → Merging wanted out ((w, h) ∷ rs) ((w, k) ∷ ss) → Merging wanted (out ++ (w, later_of h k) ∷ []) rs ss
   take_later w h k rs ss m = record {
     floor = w + 1;
-    built = between_append 0 m.floor (w + 1) out ((w, later h k) ∷ []) m.built (m.ours.0, omega arith);
+    built = between_append 0 m.floor (w + 1) out ((w, later_of h k) ∷ []) m.built (m.ours.0, omega arith);
     ours = m.ours.1;
     theirs = m.theirs.1;
     same = λ u. takes_later out rs ss w h k u ∙ m.same u;
   }
 
-later_of-right : (o : Option Timeline) → later_of o None ≡ o
-later_of-right None = refl
-later_of-right (Some h) = refl
+later_history-right : (o : Option Timeline) → later_history o None ≡ o
+later_history-right None = refl
+later_history-right (Some h) = refl
 
 -- where one of the lists is through, the rest of the other completes the merge
 pub record Merged (wanted : ℕ → Option Timeline) (all : Entries) : Type 0 where
@@ -62,7 +62,7 @@ pub record Merged (wanted : ℕ → Option Timeline) (all : Entries) : Type 0 wh
 pub ours_left : (wanted : ℕ → Option Timeline) (out rs : Entries) → Merging wanted out rs [] → Merged wanted (out ++ rs)
 ours_left wanted out rs m = record {
   ascends = ascends_append 0 m.floor out rs m.built m.ours;
-  histories = λ i u. (history_in-append out rs u ∙ ap (or_else (history_in out u)) (sym (later_of-right (history_in rs u))) ∙ m.same u) i;
+  histories = λ i u. (history_in-append out rs u ∙ ap (or_else (history_in out u)) (sym (later_history-right (history_in rs u))) ∙ m.same u) i;
 }
 
 pub theirs_left : (wanted : ℕ → Option Timeline) (out ss : Entries) → Merging wanted out [] ss → Merged wanted (out ++ ss)
@@ -111,7 +111,7 @@ module _ (ours theirs : List Entry) where
       subst (λ rs. Merging goal_of (out ++ at theirs j ∷ []) rs (drop (j + 1) (entries_of theirs))) (sym (rest_from ours i p))
       (take_theirs goal_of out (at theirs j) (at ours i ∷ drop (i + 1) (entries_of ours)) (drop (j + 1) (entries_of theirs)) o (omega arith, o.ours.1))
 
-  pub equal_step : (out : Entries) (i j : ℕ) → i < length ours → j < length theirs → (at ours i).0 ≡ (at theirs j).0 → State out i j → State (out ++ ((at ours i).0, later (at ours i).1 (at theirs j).1) ∷ []) (i + 1) (j + 1)
+  pub equal_step : (out : Entries) (i j : ℕ) → i < length ours → j < length theirs → (at ours i).0 ≡ (at theirs j).0 → State out i j → State (out ++ ((at ours i).0, later_of (at ours i).1 (at theirs j).1) ∷ []) (i + 1) (j + 1)
   equal_step out i j p q e m =
       let o = opened out i j p q m in
       let same : Merging goal_of out (at ours i ∷ drop (i + 1) (entries_of ours)) (((at ours i).0, (at theirs j).1) ∷ drop (j + 1) (entries_of theirs)) = subst (λ w. Merging goal_of out (at ours i ∷ drop (i + 1) (entries_of ours)) ((w, (at theirs j).1) ∷ drop (j + 1) (entries_of theirs))) (sym e) o in

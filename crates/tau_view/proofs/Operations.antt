@@ -48,7 +48,7 @@ edges_to-more p rs k d h =
     let grown = take_more rs k d h in
     let one : (y : Point) → point_in (take (k + 1) rs) y ≡ (point_in (take k rs) y || same_point y r) = λ y. ap (λ xs. point_in xs y) grown ∙ point_in-push (take k rs) r y in
     λ i x y. (one_more (same_point x p) (point_in (take k rs) y) (same_point y r) (not (same_point y p))
-        ∙ ap (λ b. same_point x p && (b && not (same_point y p))) (sym (one y))) i
+    ∙ ap (λ b. same_point x p && (b && not (same_point y p))) (sym (one y))) i
 
 -- no edge leads from a point to itself
 no_loop : (s t : Bool) → (s && (t && not t)) ≡ false
@@ -73,4 +73,4 @@ apart true true false f = refl
 pub new_edge : (p r : Point) (old new : List (Point × Point)) → r ≢ p → Adds old new (p, r) → pair_in new ≡ both_edges (pair_in old) (edges_to p (only r))
 new_edge p r old new n a =
     pair_in-Adds old new p r a
-      ∙ (λ i x y. pair_in old x y || apart (same_point x p) (same_point y r) (same_point y p) (λ t u. n (sym (is_same y r t) ∙ is_same y p u)) i)
+    ∙ (λ i x y. pair_in old x y || apart (same_point x p) (same_point y r) (same_point y p) (λ t u. n (sym (is_same y r t) ∙ is_same y p u)) i)

@@ -69,19 +69,19 @@ pair_in-Contains [] p q h = cc
 pair_in-Contains (e ∷ es) p q h =
     let rest = pair_in-Contains es p q in
     let here : IsTrue (same_point p e.0 && same_point q e.1) → (p, q) ≡ e =
-        λ s i. (is_same p e.0 (and_left (same_point p e.0) (same_point q e.1) s) i, is_same q e.1 (and_right (same_point p e.0) (same_point q e.1) s) i) in
+    λ s i. (is_same p e.0 (and_left (same_point p e.0) (same_point q e.1) s) i, is_same q e.1 (and_right (same_point p e.0) (same_point q e.1) s) i) in
     ⊎_elim (λ s. subst (Contains (e ∷ es)) (sym (here s)) (Contains-head e es)) (λ t. Contains-later e es (p, q) (rest t))
-      (or_cases (same_point p e.0 && same_point q e.1) (pair_in es p q) h)
+    (or_cases (same_point p e.0 && same_point q e.1) (pair_in es p q) h)
 
 pub Contains-pair_in : (es : List (Point × Point)) (p q : Point) → Contains es (p, q) → IsTrue (pair_in es p q)
 Contains-pair_in [] p q h = absurd (Contains-none (p, q) h)
 Contains-pair_in (e ∷ es) p q h =
     let rest = Contains-pair_in es p q in
     ⊎_elim
-      (λ s. or_left (same_point p e.0 && same_point q e.1) (pair_in es p q)
-        (and_both (same_point p e.0) (same_point q e.1) (same_of p e.0 (ap (λ x. x.0) s)) (same_of q e.1 (ap (λ x. x.1) s))))
-      (λ t. or_right (same_point p e.0 && same_point q e.1) (pair_in es p q) (rest t))
-      (Contains-cons_cases e es (p, q) h)
+    (λ s. or_left (same_point p e.0 && same_point q e.1) (pair_in es p q)
+    (and_both (same_point p e.0) (same_point q e.1) (same_of p e.0 (ap (λ x. x.0) s)) (same_of q e.1 (ap (λ x. x.1) s))))
+    (λ t. or_right (same_point p e.0 && same_point q e.1) (pair_in es p q) (rest t))
+    (Contains-cons_cases e es (p, q) h)
 
 -- a set of points with one point more
 pub point_in-Adds : (old new : List Point) (x : Point) → Adds old new x → point_in new ≡ λ q. point_in old q || same_point q x
@@ -89,7 +89,8 @@ point_in-Adds old new x a = λ i q. same_tests (point_in new q) (point_in old q 
   forth : (q : Point) → IsTrue (point_in new q) → IsTrue (point_in old q || same_point q x)
   forth q h =
       ⊎_elim (λ c. or_left (point_in old q) (same_point q x) (Contains-point_in old q c)) (λ e. or_right (point_in old q) (same_point q x) (same_of q x e))
-        ((a q).0 (point_in-Contains new q h))
+      ((a q).0 (point_in-Contains new q h))
+
   back : (q : Point) → IsTrue (point_in old q || same_point q x) → IsTrue (point_in new q)
   back q h = Contains-point_in new q ((a q).1 (⊎_elim (λ t. inl (point_in-Contains old q t)) (λ s. inr (is_same q x s)) (or_cases (point_in old q) (same_point q x) h)))
 
@@ -103,13 +104,14 @@ pair_in-Adds old new x y a = λ i p q. same_tests (pair_in new p q) (pair_in old
   forth : (p q : Point) → IsTrue (pair_in new p q) → IsTrue (pair_in old p q || (same_point p x && same_point q y))
   forth p q h =
       ⊎_elim (λ c. or_left (pair_in old p q) (same_point p x && same_point q y) (Contains-pair_in old p q c))
-        (λ e. or_right (pair_in old p q) (same_point p x && same_point q y) (and_both (same_point p x) (same_point q y) (same_of p x (ap (λ z. z.0) e)) (same_of q y (ap (λ z. z.1) e))))
-        ((a (p, q)).0 (pair_in-Contains new p q h))
+      (λ e. or_right (pair_in old p q) (same_point p x && same_point q y) (and_both (same_point p x) (same_point q y) (same_of p x (ap (λ z. z.0) e)) (same_of q y (ap (λ z. z.1) e))))
+      ((a (p, q)).0 (pair_in-Contains new p q h))
+
   back : (p q : Point) → IsTrue (pair_in old p q || (same_point p x && same_point q y)) → IsTrue (pair_in new p q)
   back p q h =
       Contains-pair_in new p q ((a (p, q)).1
-        (⊎_elim (λ t. inl (pair_in-Contains old p q t)) (λ s. inr (λ i. (is_same p x (and_left (same_point p x) (same_point q y) s) i, is_same q y (and_right (same_point p x) (same_point q y) s) i)))
-          (or_cases (pair_in old p q) (same_point p x && same_point q y) h)))
+      (⊎_elim (λ t. inl (pair_in-Contains old p q t)) (λ s. inr (λ i. (is_same p x (and_left (same_point p x) (same_point q y) s) i, is_same q y (and_right (same_point p x) (same_point q y) s) i)))
+      (or_cases (pair_in old p q) (same_point p x && same_point q y) h)))
 
 -- the pairs of both sets
 pub pair_in-Joins : (xs ys new : List (Point × Point)) → Joins xs ys new → pair_in new ≡ λ p q. pair_in xs p q || pair_in ys p q
@@ -117,7 +119,8 @@ pair_in-Joins xs ys new a = λ i p q. same_tests (pair_in new p q) (pair_in xs p
   forth : (p q : Point) → IsTrue (pair_in new p q) → IsTrue (pair_in xs p q || pair_in ys p q)
   forth p q h =
       ⊎_elim (λ c. or_left (pair_in xs p q) (pair_in ys p q) (Contains-pair_in xs p q c)) (λ c. or_right (pair_in xs p q) (pair_in ys p q) (Contains-pair_in ys p q c))
-        ((a (p, q)).0 (pair_in-Contains new p q h))
+      ((a (p, q)).0 (pair_in-Contains new p q h))
+
   back : (p q : Point) → IsTrue (pair_in xs p q || pair_in ys p q) → IsTrue (pair_in new p q)
   back p q h =
       Contains-pair_in new p q ((a (p, q)).1 (⊎_elim (λ t. inl (pair_in-Contains xs p q t)) (λ t. inr (pair_in-Contains ys p q t)) (or_cases (pair_in xs p q) (pair_in ys p q) h)))

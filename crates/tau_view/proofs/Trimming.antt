@@ -3,7 +3,7 @@ use Rattle.std.proofs.Common.{◌≡◌, ℕ, Bool, true, false, not, ◌&&◌, 
 use Rattle.tau_history.specs.Timeline.{Timeline}
 use Rattle.tau_points.specs.declared.point.Point.{Point}
 use Rattle.tau_view.specs.Held.{Held, Histories, AllPrecede, AllComparable, same_point}
-use Rattle.tau_view.specs.Rules.{noted, touched, depended, merged, with_roots, with_no_roots, later_of}
+use Rattle.tau_view.specs.Rules.{noted, touched, depended, merged, with_roots, with_no_roots, later_history}
 use Rattle.tau_view.specs.Trim.{EdgeTest, RootTest, unless, trim, DropsClosedRoots, DropsForGood}
 use Rattle.tau_view.specs.Laws.{MayNote, NoteIgnoresTrim, TouchIgnoresTrim, DependIgnoresTrim, MergeIgnoresTrim, TakingRootsIgnoresTrim, ClearingRootsIgnoresTrim}
 use Rattle.tau_view.proofs.Later.{left_precedes, right_precedes, noted_precedes, all_here}
@@ -60,7 +60,7 @@ module _ (drops_edge : EdgeTest) (drops_root : RootTest) where
 
   pub merge_ignores_trim : DropsForGood drops_edge drops_root → MergeIgnoresTrim (trim drops_edge drops_root)
   merge_ignores_trim for_good v w c =
-      let hs : Histories = λ u. later_of (v.history u) (w.history u) in
+      let hs : Histories = λ u. later_history (v.history u) (w.history u) in
       let left = left_precedes v.history w.history c in
       let right = right_precedes v.history w.history c in
       λ i. record {

@@ -6,7 +6,7 @@ use Rattle.tau_history.specs.declared.fate.Fate.{Fate}
 use Rattle.tau_history.specs.declared.fate.Fate.TheVariants.{Closed}
 use Rattle.tau_points.specs.declared.point.Point.{Point}
 use Rattle.tau_view.specs.Held.{Held, Histories, Points, fate_in, AllPrecede, AllComparable}
-use Rattle.tau_view.specs.Rules.{noted, touched, depended, merged, with_roots, with_no_roots, later}
+use Rattle.tau_view.specs.Rules.{noted, touched, depended, merged, with_roots, with_no_roots}
 use Rattle.tau_view.specs.Trim.{EdgeTest, RootTest, trim}
 use Rattle.tau_view.specs.Past.{SomeFallen, SomeNotFirm, Settled}
 
@@ -48,11 +48,3 @@ NotFirmIgnoresTrim t = (v : Held) (P Q : Points) → Settled v → LosesClosed v
 -- settled facts stay settled
 abbrev pub SettledUnderTrim : (Held → Held) → Type 0
 SettledUnderTrim t = (v : Held) → Settled v → Settled (t v)
-
--- the later one of two comparable histories is one that both precede
-pub record BothPrecede (a b : Timeline) : Type 0 where
-  pub first : Precedes a (later a b)
-  pub second : Precedes b (later a b)
-
-abbrev pub LaterIsLater : Type 0
-LaterIsLater = (a b : Timeline) → AreComparable a b → BothPrecede a b

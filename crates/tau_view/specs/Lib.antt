@@ -9,3 +9,4 @@ pub mod Entries
 pub mod Places
 pub mod Edges
 pub mod Before
+pub mod Dropping

@@ -1,6 +1,7 @@
 -- What the rules make of what a view holds (docs/rules.md, "Views", "Merge of facts").
 use Rattle.std.specs.Prelude.{ℕ, Bool, true, false, ◌&&◌, ◌||◌, ◌==◌, not, Option, Some, None, nat_lt, if◌then◌else◌}
-use Rattle.tau_history.specs.Timeline.{Timeline, interval}
+use Rattle.tau_history.specs.Timeline.{Timeline}
+use Rattle.tau_history.specs.Order.{later_of}
 use Rattle.tau_points.specs.declared.point.Point.{Point}
 use Rattle.tau_view.specs.Edges.{edges_to, both_edges}
 use Rattle.tau_view.specs.Held.{Held, Histories, Points, same_point}
@@ -24,23 +25,15 @@ touched p v = record v { root = λ q. v.root q || same_point q p }
 abbrev pub depended : Point → Held → Held
 depended p v = record v { edge = both_edges v.edge (edges_to p v.root) }
 
--- by interval, then by incarnation, then volatile before stable
-abbrev pub ranks_below : Timeline → Timeline → Bool
-ranks_below a b =
-    nat_lt (interval a) (interval b) || ((interval a == interval b) && (nat_lt a.last b.last || ((a.last == b.last) && (not a.stable && b.stable))))
-
--- the later one of two histories that are comparable
-abbrev pub later : Timeline → Timeline → Timeline
-later a b = if ranks_below a b then b else a
-
-abbrev pub later_of : Option Timeline → Option Timeline → Option Timeline
-later_of None k = k
-later_of (Some h) None = Some h
-later_of (Some h) (Some k) = Some (later h k)
+-- the later one of two histories, or the only one
+abbrev pub later_history : Option Timeline → Option Timeline → Option Timeline
+later_history None k = k
+later_history (Some h) None = Some h
+later_history (Some h) (Some k) = Some (later_of h k)
 
 -- the later history of each transactor
 abbrev pub merged_in : Histories → Histories → Histories
-merged_in hs ks u = later_of (hs u) (ks u)
+merged_in hs ks u = later_history (hs u) (ks u)
 
 -- the later histories and the edges of both; the roots stay
 abbrev pub merged : Held → Held → Held

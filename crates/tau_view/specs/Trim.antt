@@ -3,7 +3,7 @@ use Rattle.std.specs.Prelude.{◌≡◌, ℕ, Bool, true, false, ◌⊎◌, if�
 use Rattle.tau_history.specs.declared.fate.Fate.{Fate}
 use Rattle.tau_history.specs.declared.fate.Fate.TheVariants.{Closed, Fallen}
 use Rattle.tau_points.specs.declared.point.Point.{Point}
-use Rattle.tau_view.specs.Held.{Held, Histories, fate_in, AllPrecede}
+use Rattle.tau_view.specs.Held.{Held, Histories, Edges, Points, fate_in, AllPrecede}
 
 -- which edges are taken away under these histories
 abbrev pub EdgeTest : Type 0
@@ -17,12 +17,18 @@ RootTest = Histories → Point → Bool
 abbrev pub unless : Bool → Bool → Bool
 unless dropped there = if dropped then false else there
 
+-- the edges that are not dropped
+abbrev pub edges_kept : EdgeTest → Histories → Edges → Edges
+edges_kept drops_edge hs edge p q = unless (drops_edge hs p q) (edge p q)
+
+-- the roots that are not dropped
+abbrev pub roots_kept : RootTest → Histories → Points → Points
+roots_kept drops_root hs root q = unless (drops_root hs q) (root q)
+
 -- without the edges and roots that the tests name; the histories stay
 abbrev pub trim : EdgeTest → RootTest → Held → Held
-trim drops_edge drops_root v = record v {
-  edge = λ p q. unless (drops_edge v.history p q) (v.edge p q);
-  root = λ q. unless (drops_root v.history q) (v.root q);
-}
+trim drops_edge drops_root v =
+    record v { edge = edges_kept drops_edge v.history v.edge; root = roots_kept drops_root v.history v.root }
 
 -- an edge that is dropped leads from a Closed or Fallen point or to a Closed one
 abbrev pub DropsSettledEdges : EdgeTest → Type 0

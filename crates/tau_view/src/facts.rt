@@ -2,16 +2,17 @@ ghost use Rattle.std.specs.Prelude.{◌≡◌, [], IfOk, OnOk, OnErr};
 ghost use Rattle.std.specs.Option.{option_map};
 ghost use Rattle.tau_view.specs.Held.{AllComparable, only};
 ghost use Rattle.tau_view.specs.Rules.{noted, touched, depended, merged, with_roots, with_no_roots};
+ghost use Rattle.tau_view.specs.Dropping.{edges_by, roots_by};
+ghost use Rattle.tau_view.specs.Trim.{roots_kept, trim};
 ghost use Rattle.tau_view.specs.Edges.{edges_to, both_edges};
 ghost use Rattle.tau_view.specs.Stored.{history_in, point_in, pair_in, held};
 
+use crate::dropping::{Dropping, drop_edges, drop_roots};
+use crate::histories::Histories;
 use std::alloc::{AllocError, Global};
 use std::marker::Model;
-
 use tau_history::History;
 use tau_points::{Point, PointSet, Relation};
-
-use crate::histories::Histories;
 
 /// Histories, edges and roots, with the plain operations of the rules (`docs/rules.md`, "Views"). Every type of view
 /// stores its own in this one. A call that answers `AllocError` leaves the value as it was.
@@ -69,6 +70,13 @@ impl Facts {
     /// The allocator.
     pub(crate) fn allocator(&self) -> Global {
         self.alloc
+    }
+
+    /// The histories.
+    pub(crate) fn histories(&self) -> &Histories
+        ensures { result.now ≡ self.now.histories }
+    {
+        &self.histories
     }
 
     /// The history of a transactor, or `None` where there is none.
@@ -146,6 +154,21 @@ impl Facts {
         ensures { self.new ≡ record self.old { roots = [] } }
     {
         self.roots.clear();
+    }
+
+    /// Drops edges and roots by the fates of their points. It takes no memory.
+    pub fn drop_by<D: Dropping>(&mut self)
+        ensures { held self.new ≡ trim (edges_by D.edge) (roots_by D.root) (held self.old) }
+    {
+        drop_edges::<D>(&self.histories, &mut self.edges);
+        drop_roots::<D>(&self.histories, &mut self.roots);
+    }
+
+    /// Drops roots by their fates. It takes no memory.
+    pub fn drop_roots_by<D: Dropping>(&mut self)
+        ensures { held self.new ≡ with_roots (roots_kept (roots_by D.root) (history_in self.old.histories) (point_in self.old.roots)) (held self.old) }
+    {
+        drop_roots::<D>(&self.histories, &mut self.roots);
     }
 
     /// The same histories, edges and roots.

@@ -1,13 +1,11 @@
 ghost use Rattle.std.specs.Prelude.{◌≡◌, IfOk};
 
-use std::alloc::{AllocError, Global};
-use std::marker::Model;
-
-use tau_history::History;
-use tau_points::{Point, PointSet, Relation};
-
 use crate::facts::Facts;
 use crate::view::View;
+use std::alloc::{AllocError, Global};
+use std::marker::Model;
+use tau_history::History;
+use tau_points::{Point, PointSet, Relation};
 
 /// A view that drops nothing: each call gives exactly what the rules say (`docs/rules.md`, "Views").
 #[derive(Drop)]

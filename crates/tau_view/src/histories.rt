@@ -1,8 +1,8 @@
 ghost use Rattle.std.specs.Prelude.{◌≡◌, [], ◌++◌, IfOk, IfErr, OnOk, OnErr};
 ghost use Rattle.std.specs.Option.{option_map};
-ghost use Rattle.tau_view.specs.Held.{AllComparable};
-ghost use Rattle.tau_view.specs.Rules.{noted_in, later, merged_in};
-ghost use Rattle.tau_history.specs.Order.{AreComparable};
+ghost use Rattle.tau_view.specs.Held.{AllComparable, fate_in};
+ghost use Rattle.tau_view.specs.Rules.{noted_in, merged_in};
+ghost use Rattle.tau_history.specs.Order.{AreComparable, later_of};
 ghost use Rattle.tau_view.specs.Entries.{entries_of};
 ghost use Rattle.tau_view.specs.Places.{IsAt, IsGap};
 ghost use Rattle.tau_view.specs.Stored.{AscendsFrom, history_in};
@@ -11,7 +11,8 @@ use crate::entry::Entry;
 use std::alloc::{AllocError, Global};
 use std::cmp::Ordering;
 use std::marker::Model;
-use tau_history::History;
+use tau_history::{Fate, History};
+use tau_points::Point;
 
 /// The place of a transactor's entry, or as an `Err` the place at which it would stand.
 fn find(entries: &[Entry], who: u32) -> Result<usize, usize>
@@ -75,7 +76,7 @@ fn copies(alloc: Global, entries: &[Entry]) -> Result<Vec<Entry>, AllocError>
 fn later_entry(ours: &Entry, theirs: &Entry) -> Result<Entry, AllocError>
     requires { AreComparable ours.now.history.history theirs.now.history.history }
     ensures who { IfOk result (λ e. e.who ≡ ours.now.who) }
-    ensures history { IfOk result (λ e. e.history.history ≡ later ours.now.history.history theirs.now.history.history) }
+    ensures history { IfOk result (λ e. e.history.history ≡ later_of ours.now.history.history theirs.now.history.history) }
 {
     if ours.history.is_before(&theirs.history) {
         let history = theirs.history.copy()?;
@@ -157,6 +158,16 @@ impl Histories {
         match find(&self.entries, who) {
             Ok(place) => Some(&self.entries[place].history),
             Err(_) => None,
+        }
+    }
+
+    /// The fate of a point; Ahead where its transactor has no history.
+    pub(crate) fn fate_of(&self, point: &Point) -> Fate
+        ensures { result ≡ fate_in (history_in self.now) point.now }
+    {
+        match self.get(point.who) {
+            Some(history) => history.fate(point.interval, point.incarnation),
+            None => Fate::Ahead,
         }
     }
 

@@ -1,6 +1,6 @@
 //! Laws of every type of view, each the contract of a function that does nothing.
 ghost use Rattle.tau_view.specs.Trim.{trim};
-ghost use Rattle.tau_view.specs.Laws.{NoteIgnoresTrim, TouchIgnoresTrim, DependIgnoresTrim, MergeIgnoresTrim, TakingRootsIgnoresTrim, ClearingRootsIgnoresTrim, FallenIgnoresTrim, NotFirmIgnoresTrim, SettledUnderTrim, LaterIsLater};
+ghost use Rattle.tau_view.specs.Laws.{NoteIgnoresTrim, TouchIgnoresTrim, DependIgnoresTrim, MergeIgnoresTrim, TakingRootsIgnoresTrim, ClearingRootsIgnoresTrim, FallenIgnoresTrim, NotFirmIgnoresTrim, SettledUnderTrim};
 
 use crate::view::View;
 
@@ -25,9 +25,4 @@ pub fn decisions_ignore_trim<V: View>()
 /// Settled facts stay settled when they are trimmed.
 pub fn settled_under_trim<V: View>()
     ensures { SettledUnderTrim (trim V.drops_edge V.drops_root) }
-{}
-
-/// Two comparable histories both precede the later one.
-pub fn later_is_later()
-    ensures { LaterIsLater }
 {}

@@ -1,6 +1,7 @@
 //! What a transactor has heard: histories, edges and roots, and the known past.
 #![tactic(auto)]
 
+mod dropping;
 mod entry;
 mod facts;
 mod full;
@@ -9,6 +10,7 @@ pub mod laws;
 mod past;
 mod view;
 
+pub use dropping::Dropping;
 pub use facts::Facts;
 pub use full::FullView;
 pub use view::View;

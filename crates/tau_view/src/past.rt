@@ -6,12 +6,10 @@ ghost use Rattle.tau_view.specs.Past.{KnownPast, PastUpToClosed};
 ghost use Rattle.tau_view.specs.Before.{before_in};
 ghost use Rattle.tau_view.specs.Stored.{history_in, point_in, held};
 
-use std::alloc::AllocError;
-
-use tau_history::Fate;
-use tau_points::{search, Links, Point, PointSet};
-
 use crate::facts::Facts;
+use std::alloc::AllocError;
+use tau_history::Fate;
+use tau_points::{Links, Point, PointSet, search};
 
 /// What leads on from a point that isn't Closed.
 #[derive(Drop)]
@@ -24,10 +22,7 @@ impl Facts {
     pub fn fate_of(&self, point: &Point) -> Fate
         ensures { result ≡ fate_in (history_in self.now.histories) point.now }
     {
-        match self.history_of(point.who) {
-            Some(history) => history.fate(point.interval, point.incarnation),
-            None => Fate::Ahead,
-        }
+        self.histories().fate_of(point)
     }
 
     /// The point of the interval before, as the history of the point's transactor has it.

@@ -8,4 +8,4 @@ pub returns : goal.returns
 returns c =
     let differ = c.if-eq.ensures in
     new_edge c.args.from c.args.root c.args.edges.now c.insert.new.self
-      (λ e. let same : IsTrue (same_point c.args.root c.args.from) = same_of c.args.root c.args.from e in cc) c.in_ok-insert.ensures.members
+    (λ e. let same : IsTrue (same_point c.args.root c.args.from) = same_of c.args.root c.args.from e in cc) c.in_ok-insert.ensures.members

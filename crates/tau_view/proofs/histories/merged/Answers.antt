@@ -1,7 +1,6 @@
 use Rattle.std.proofs.Common.{◌≡◌, ◌≤◌, ◌<◌, ◌+◌, ◌⊎◌, inl, inr, ◌∷◌, ◌++◌, [], length, drop, sym, ap, ◌∙◌, subst, arith}
-use Rattle.tau_history.specs.Order.{AreComparable}
+use Rattle.tau_history.specs.Order.{AreComparable, later_of}
 use Rattle.tau_view.specs.Entries.{entry_of, entries_of}
-use Rattle.tau_view.specs.Rules.{later}
 use Rattle.tau_view.proofs.Merging.{at, read_as, pushed, State, less_at, greater_at, equal_at, less_step, greater_step, equal_step, comparable_at, finished}
 use Rattle.tau_view.proofs.histories.merged.Goals as goal
 use Rattle.tau_view.proofs.histories.merged.Goals.{then-merge-test+else-j-theirs, else-merge-test}
@@ -45,9 +44,9 @@ merge-preserved-in-Equal c =
     let same = equal_at ours theirs c.merge.i c.merge.j c.index-ours-i.result c.index-theirs-j.result p q c.in-Equal.ensures in
     let e = read_as ours c.merge.i c.index-ours-i-in-Equal.result p c.index-ours-i-in-Equal.is in
     let f = read_as theirs c.merge.j c.index-theirs-j-in-Equal.result q c.index-theirs-j-in-Equal.is in
-    let all = pushed c.merge.all.items _ _ ((at ours c.merge.i).0, later (at ours c.merge.i).1 (at theirs c.merge.j).1) c.in_ok-push-in-Equal.ensures.items
+    let all = pushed c.merge.all.items _ _ ((at ours c.merge.i).0, later_of (at ours c.merge.i).1 (at theirs c.merge.j).1) c.in_ok-push-in-Equal.ensures.items
     (c.in_ok-later_entry-in-Equal.ensures.who ∙ ap (λ x. x.0) e)
-    (c.in_ok-later_entry-in-Equal.ensures.history ∙ (λ i. later (e i).1 (f i).1)) in
+    (c.in_ok-later_entry-in-Equal.ensures.history ∙ (λ i. later_of (e i).1 (f i).1)) in
     record {
       ours = omega arith;
       theirs = omega arith;

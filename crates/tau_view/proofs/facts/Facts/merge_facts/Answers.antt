@@ -9,4 +9,4 @@ returns-clause-ok c =
     let own : Stored = record { histories = c.self.inside.histories; edges = c.self.inside.edges; roots = c.self.inside.roots } in
     let others : Stored = record { histories = c.other.inside.histories; edges = c.other.inside.edges; roots = c.other.inside.roots } in
     merged_is own others c.in_ok-histories.histories c.union.new.self c.in_ok-histories.ensures c.in_ok-union.ensures.members
-      ∙ (λ i. merged (held (c.self.view_is i)) (held (c.other.view_is i)))
+    ∙ (λ i. merged (held (c.self.view_is i)) (held (c.other.view_is i)))

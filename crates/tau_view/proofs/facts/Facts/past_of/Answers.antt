@@ -13,4 +13,4 @@ returns-clause-past c =
     let v = held c.args.self.now in
     let from = c.args.from.now in
     IfOk-weaker c.search.result (λ found. (q : Point) → Contains found q ↔ Reach (Link v) (Contains from) q) (λ found. (q : Point) → Contains found q ↔ KnownPast v (point_in from) q)
-      (λ found f. past_found v from found f) c.search.ensures.reached
+    (λ found f. past_found v from found f) c.search.ensures.reached

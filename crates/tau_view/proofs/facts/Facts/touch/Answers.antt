@@ -7,4 +7,4 @@ use Rattle.tau_view.proofs.facts.Facts.touch.Goals as goal
 pub returns-clause-ok : goal.returns-clause-ok
 returns-clause-ok c =
     touched_is (record { histories = c.self.inside.histories; edges = c.self.inside.edges; roots = c.self.inside.roots }) c.insert.new.self c.args.point c.in_ok-insert.ensures.members
-      ∙ ap (λ s. touched c.args.point (held s)) c.self.view_is
+    ∙ ap (λ s. touched c.args.point (held s)) c.self.view_is

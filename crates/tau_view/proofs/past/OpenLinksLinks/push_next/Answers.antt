@@ -13,4 +13,4 @@ returns-in_default c =
     let old = c.args.stack.now.items in
     let new = c.push_next.new.stack.items in
     IfOk-weaker c.push_next.result (λ _. AddsAll (Link v p) old new) (λ _. AddsAll (OpenLink v p) old new)
-      (λ _ a. open_links v p old new (λ closed. c.in_default.not-Closed (c.fate_of.ensures ∙ closed)) a) c.push_next.ensures
+    (λ _ a. open_links v p old new (λ closed. c.in_default.not-Closed (c.fate_of.ensures ∙ closed)) a) c.push_next.ensures
