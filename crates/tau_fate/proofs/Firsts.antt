@@ -23,7 +23,7 @@ module _ (P : Point → Type 0) (d : Point) where
   first_least [] k asc h none q c p e = absurd (omega arith)
   first_least (x ∷ xs) zero asc h none q c p e =
       ⊎_elim (λ same. not_below_itself point_cmp-total x (subst (λ z. point_cmp z x ≡ Less) same e))
-        (λ later. not_both point_cmp-total q x e (above_all x xs (sorted_above point_cmp x xs asc) q later)) (Contains-cons_cases x xs q c)
+      (λ later. not_both point_cmp-total q x e (above_all x xs (sorted_above point_cmp x xs asc) q later)) (Contains-cons_cases x xs q c)
   first_least (x ∷ xs) (suc k) asc h none q c p e =
       let rest = first_least xs k (sorted_rest point_cmp x xs asc) (omega arith) (λ r m. none r (Contains-later x (take k xs) r m)) q in
       ⊎_elim (λ same. none x (Contains-head x (take k xs)) (subst P same p)) (λ later. rest later p e) (Contains-cons_cases x xs q c)

@@ -2,14 +2,14 @@ ghost use Rattle.std.specs.Prelude.{IfOk};
 ghost use Rattle.tau_view.specs.Past.{Settled};
 ghost use Rattle.tau_fate.specs.Decisions.{IsVerdict, IsFreedom};
 
+use crate::freedom::Freedom;
+use crate::least::{
+    least_fallen, least_fallen_settled, least_not_firm, least_not_firm_settled, single,
+};
+use crate::verdict::Verdict;
 use std::alloc::{AllocError, Global};
-
 use tau_points::Point;
 use tau_view::View;
-
-use crate::freedom::Freedom;
-use crate::least::{least_fallen, least_fallen_settled, least_not_firm, least_not_firm_settled, single};
-use crate::verdict::Verdict;
 
 /// The verdict on a message (`docs/rules.md`, "Verdict"), by the facts of `merged`, the receiver's own point `me`, and
 /// the roots of the message's view `sent`. It is exact on whatever views are given; a point whose transactor has no
@@ -41,7 +41,12 @@ pub fn free<V: View>(alloc: Global, own: &V, me: Point) -> Result<Freedom, Alloc
 
 /// The verdict that `judge` gives, where each point of the known past of a Closed point is firm. Its cost doesn't grow
 /// with the intervals and edges that lie behind Closed points.
-pub fn judge_settled<V: View>(alloc: Global, merged: &V, me: Point, sent: &V) -> Result<Verdict, AllocError>
+pub fn judge_settled<V: View>(
+    alloc: Global,
+    merged: &V,
+    me: Point,
+    sent: &V,
+) -> Result<Verdict, AllocError>
     requires { Settled (V.held merged.now) }
     ensures { IfOk result (IsVerdict (V.held merged.now) me (V.held sent.now).root) }
 {

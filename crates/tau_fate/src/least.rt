@@ -9,7 +9,6 @@ ghost use Rattle.tau_fate.specs.Least.{IsLeastIfAny};
 ghost use Rattle.tau_fate.specs.Found.{FallenAmong, NotFirmAmong};
 
 use std::alloc::{AllocError, Global};
-
 use tau_history::Fate;
 use tau_points::{Point, PointSet};
 use tau_view::View;
@@ -67,7 +66,10 @@ pub(crate) fn least_fallen<V: View>(view: &V, from: &PointSet) -> Result<Option<
 }
 
 /// The least point of the known past of these points that isn't firm.
-pub(crate) fn least_not_firm<V: View>(view: &V, from: &PointSet) -> Result<Option<Point>, AllocError>
+pub(crate) fn least_not_firm<V: View>(
+    view: &V,
+    from: &PointSet,
+) -> Result<Option<Point>, AllocError>
     ensures { IfOk result (IsLeastIfAny (NotFirmIn (V.held view.now) (point_in from.now))) }
 {
     let past = view.past_of(from)?;
@@ -75,7 +77,10 @@ pub(crate) fn least_not_firm<V: View>(view: &V, from: &PointSet) -> Result<Optio
 }
 
 /// The least Fallen point of the known past of these points, by a search that stops at Closed points.
-pub(crate) fn least_fallen_settled<V: View>(view: &V, from: &PointSet) -> Result<Option<Point>, AllocError>
+pub(crate) fn least_fallen_settled<V: View>(
+    view: &V,
+    from: &PointSet,
+) -> Result<Option<Point>, AllocError>
     requires { Settled (V.held view.now) }
     ensures { IfOk result (IsLeastIfAny (FallenIn (V.held view.now) (point_in from.now))) }
 {
@@ -84,7 +89,10 @@ pub(crate) fn least_fallen_settled<V: View>(view: &V, from: &PointSet) -> Result
 }
 
 /// The least point of the known past of these points that isn't firm, by a search that stops at Closed points.
-pub(crate) fn least_not_firm_settled<V: View>(view: &V, from: &PointSet) -> Result<Option<Point>, AllocError>
+pub(crate) fn least_not_firm_settled<V: View>(
+    view: &V,
+    from: &PointSet,
+) -> Result<Option<Point>, AllocError>
     requires { Settled (V.held view.now) }
     ensures { IfOk result (IsLeastIfAny (NotFirmIn (V.held view.now) (point_in from.now))) }
 {

@@ -19,7 +19,7 @@ returns-then-eq g c =
     let d : Point = record { who = 0; interval = 0; incarnation = 0 } in
     let fell : fate_in hs (get_or xs k d) ≡ Fallen = sym c.fate_of.ensures ∙ same_true the_type (search rules) _ _ (sym c.if-eq.ensures) in
     subst (λ ps. IsLeast (FallenAmong hs ps) (get_or xs k d)) c.points-point-items.ensures.points
-      (record {
-        holds = record { among = Contains-get_or xs k d (omega arith); is_fallen = fell };
-        least = λ q a. first_least (λ r. fate_in hs r ≡ Fallen) d xs k c.points-point-items.ensures.ascending (omega arith) c.loop-point.invariant q a.among a.is_fallen
-      })
+    (record {
+      holds = record { among = Contains-get_or xs k d (omega arith); is_fallen = fell };
+      least = λ q a. first_least (λ r. fate_in hs r ≡ Fallen) d xs k c.points-point-items.ensures.ascending (omega arith) c.loop-point.invariant q a.among a.is_fallen;
+    })

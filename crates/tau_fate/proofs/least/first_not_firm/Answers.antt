@@ -16,7 +16,7 @@ returns-in_default g c =
     let d : Point = record { who = 0; interval = 0; incarnation = 0 } in
     let bound : IsFalse (is_firm (fate_in hs (get_or xs k d))) = subst (λ f. IsFalse (is_firm f)) c.fate_of.ensures (not_firm c.fate_of.result c.in_default.not-Stable c.in_default.not-Closed) in
     subst (λ ps. IsLeast (NotFirmAmong hs ps) (get_or xs k d)) c.points-point-items.ensures.points
-      (record {
-        holds = record { among = Contains-get_or xs k d (omega arith); not_firm = bound };
-        least = λ q a. first_least (λ r. IsFalse (is_firm (fate_in hs r))) d xs k c.points-point-items.ensures.ascending (omega arith) c.loop-point.invariant q a.among a.not_firm
-      })
+    (record {
+      holds = record { among = Contains-get_or xs k d (omega arith); not_firm = bound };
+      least = λ q a. first_least (λ r. IsFalse (is_firm (fate_in hs r))) d xs k c.points-point-items.ensures.ascending (omega arith) c.loop-point.invariant q a.among a.not_firm;
+    })

@@ -1,0 +1,7 @@
+//! Views without the edges and roots that no decision needs.
+#![tactic(auto)]
+
+mod pruned;
+mod pruning;
+
+pub use pruned::PrunedView;
