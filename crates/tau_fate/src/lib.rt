@@ -3,6 +3,7 @@
 
 mod decide;
 mod freedom;
+pub mod laws;
 mod least;
 mod verdict;
 
