@@ -8,3 +8,4 @@ pub mod Sets
 pub mod Operations
 pub mod Links
 pub mod Keeping
+pub mod Merges
