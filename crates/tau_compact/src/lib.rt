@@ -5,3 +5,6 @@ mod pruned;
 mod pruning;
 
 pub use pruned::PrunedView;
+
+#[cfg(test)]
+mod tests;
