@@ -50,8 +50,8 @@ pub fn judge_settled<V: View>(
     requires { Settled (V.held merged.now) }
     ensures { IfOk result (IsVerdict (V.held merged.now) me (V.held sent.now).root) }
 {
-    let own = single(alloc, me)?;
-    if let Some(point) = least_fallen_settled(merged, &own)? {
+    let points = single(alloc, me)?;
+    if let Some(point) = least_fallen_settled(merged, &points)? {
         return Ok(Verdict::Fall { point });
     }
     match least_fallen_settled(merged, sent.roots())? {

@@ -72,8 +72,8 @@ pub(crate) fn least_not_firm<V: View>(
 ) -> Result<Option<Point>, AllocError>
     ensures { IfOk result (IsLeastIfAny (NotFirmIn (V.held view.now) (point_in from.now))) }
 {
-    let past = view.past_of(from)?;
-    Ok(first_not_firm(view, &past))
+    let known = view.past_of(from)?;
+    Ok(first_not_firm(view, &known))
 }
 
 /// The least Fallen point of the known past of these points, by a search that stops at Closed points.
@@ -96,6 +96,6 @@ pub(crate) fn least_not_firm_settled<V: View>(
     requires { Settled (V.held view.now) }
     ensures { IfOk result (IsLeastIfAny (NotFirmIn (V.held view.now) (point_in from.now))) }
 {
-    let past = view.past_up_to_closed(from)?;
-    Ok(first_not_firm(view, &past))
+    let known = view.past_up_to_closed(from)?;
+    Ok(first_not_firm(view, &known))
 }

@@ -3,7 +3,7 @@ use Rattle.std.proofs.Common.{◌≡◌, ℕ, suc, ◌+◌, ◌<◌, ◌≤◌, 
 use Rattle.std.specs.Ordering.{nat_cmp}
 use Rattle.std.specs.Cmp.{ranked}
 use Rattle.std.proofs.Math.Seq.{drop-cons}
-use Rattle.std.proofs.lemmas.List.{get_or-map, length-map, map-append, append-nil, drop_all, take_all, drop-map}
+use Rattle.std.proofs.lemmas.List.{get_or-map, length-map, map-append, append-nil, drop_all, take_all, take_more, drop-map}
 use Rattle.tau_history.specs.Timeline.{Timeline}
 use Rattle.tau_view.specs.declared.entry.Entry.{Entry}
 use Rattle.tau_view.specs.Entries.{entry_of, entries_of}
@@ -12,7 +12,7 @@ use Rattle.tau_history.specs.Order.{AreComparable, later_of}
 use Rattle.tau_view.specs.Held.{AllComparable}
 use Rattle.tau_view.specs.Rules.{later_history, merged_in}
 use Rattle.tau_view.specs.Stored.{AscendsFrom, history_in}
-use Rattle.tau_view.proofs.Ascending.{Entries, or_else, with_rest, takes_ours, takes_theirs, takes_later, between_append, ascends_append, ascends_lower, history_in-append, history_in-at}
+use Rattle.tau_view.proofs.Ascending.{Entries, or_else, with_rest, takes_ours, takes_theirs, takes_later, between_append, ascends_append, ascends_lower, history_in-append, history_in-at, history_in-here, history_in-past, alike}
 
 -- what is built so far, and what is left of both lists, have the wanted histories
 pub record Merging (wanted : ℕ → Option Timeline) (out rs ss : Entries) : Type 0 where
@@ -178,3 +178,37 @@ pub finished : (ours theirs all one two : List Entry) (i j : ℕ) → (length ou
 finished ours theirs all one two i j over m a b =
     subst (Merged (goal_of ours theirs)) (rests ours theirs all one two i j a b)
     (⊎_elim (λ h. ends_theirs ours theirs (entries_of all) i j h m) (λ h. ends_ours ours theirs (entries_of all) i j h m) over)
+
+-- what of theirs is covered by ours
+module _ (ours theirs : List Entry) where
+  abbrev pub Covered : ℕ → Type 0
+  Covered j = (u : ℕ) → later_history (history_in (entries_of ours) u) (history_in (take j (entries_of theirs)) u) ≡ history_in (entries_of ours) u
+
+  pub covered_none : Covered 0
+  covered_none u = later_history-right (history_in (entries_of ours) u)
+
+  later_here : (o n : Option Timeline) (h k : Timeline) → o ≡ Some h → later_of h k ≡ h → n ≡ Some k → later_history o n ≡ o
+  later_here o n h k e l f = rw (e, f) (ap Some l)
+
+  pub covered_more : (i j : ℕ) → i < length ours → j < length theirs → AscendsFrom 0 (entries_of ours) → (at ours i).0 ≡ (at theirs j).0 → later_of (at ours i).1 (at theirs j).1 ≡ (at ours i).1 → Covered j → Covered (j + 1)
+  covered_more i j p q a e l covered u =
+      let ys = entries_of theirs in
+      let p' : i < length (entries_of ours) = omega (arith, length-map ours entry_of) in
+      let q' : j < length ys = omega (arith, length-map theirs entry_of) in
+      let grown : take (j + 1) ys ≡ take j ys ++ at theirs j ∷ [] = take_more ys j blank q' in
+      ap (λ xs. later_history (history_in (entries_of ours) u) (history_in xs u)) grown ∙ go (history_in (take j ys) u) refl p' (history_in-append (take j ys) (at theirs j ∷ []) u) where
+        go : (o : Option Timeline) → history_in (take j (entries_of theirs)) u ≡ o → i < length (entries_of ours) → history_in (take j (entries_of theirs) ++ at theirs j ∷ []) u ≡ or_else (history_in (take j (entries_of theirs)) u) (history_in (at theirs j ∷ []) u) → later_history (history_in (entries_of ours) u) (history_in (take j (entries_of theirs) ++ at theirs j ∷ []) u) ≡ history_in (entries_of ours) u
+        go (Some k) t p' split = ap (later_history (history_in (entries_of ours) u)) (split ∙ ap (λ o. or_else o (history_in (at theirs j ∷ []) u)) t ∙ sym t) ∙ covered u
+        go None t p' split =
+            let rest : history_in (take j (entries_of theirs) ++ at theirs j ∷ []) u ≡ history_in (at theirs j ∷ []) u = split ∙ ap (λ o. or_else o (history_in (at theirs j ∷ []) u)) t in
+            ap (later_history (history_in (entries_of ours) u)) rest
+            ∙ ⊎_elim
+            (λ s. later_here (history_in (entries_of ours) u) (history_in (at theirs j ∷ []) u) (at ours i).1 (at theirs j).1
+            (ap (history_in (entries_of ours)) (s ∙ sym e) ∙ history_in-at blank 0 i (entries_of ours) a p') l (history_in-here (at theirs j) [] u s))
+            (λ n. ap (later_history (history_in (entries_of ours) u)) (history_in-past (at theirs j) [] u n) ∙ later_history-right (history_in (entries_of ours) u))
+            (alike u (at theirs j).0)
+
+  pub covered_all : (j : ℕ) → j ≡ length theirs → Covered j → merged_in (history_in (entries_of ours)) (history_in (entries_of theirs)) ≡ history_in (entries_of ours)
+  covered_all j e covered =
+      let whole : take j (entries_of theirs) ≡ entries_of theirs = take_all j (entries_of theirs) (omega (arith, length-map theirs entry_of)) in
+      λ k u. (ap (λ xs. later_history (history_in (entries_of ours) u) (history_in xs u)) (sym whole) ∙ covered u) k

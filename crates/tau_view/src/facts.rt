@@ -134,6 +134,10 @@ impl Facts {
         ensures ok { OnOk result (held self.new ≡ merged (held self.old) (held other.now)) }
         ensures err { OnErr result (self.new ≡ self.old) }
     {
+        if self.histories.covers(&other.histories) {
+            self.edges.union(&other.edges)?;
+            return Ok(());
+        }
         let histories = self.histories.merged(&other.histories)?;
         self.edges.union(&other.edges)?;
         self.histories = histories;

@@ -1,5 +1,6 @@
 ghost use Rattle.std.specs.Prelude.{◌≡◌, [], ◌++◌, IfOk, IfErr, OnOk, OnErr};
 ghost use Rattle.std.specs.Option.{option_map};
+ghost use Rattle.std.specs.Bool.{OnTrue};
 ghost use Rattle.tau_view.specs.Held.{AllComparable, fate_in};
 ghost use Rattle.tau_view.specs.Rules.{noted_in, merged_in};
 ghost use Rattle.tau_history.specs.Order.{AreComparable, later_of};
@@ -86,6 +87,31 @@ fn later_entry(ours: &Entry, theirs: &Entry) -> Result<Entry, AllocError>
         });
     }
     ours.copy()
+}
+
+/// Whether no history of theirs is of another transactor than ours or later than ours.
+fn covers(ours: &[Entry], theirs: &[Entry]) -> bool
+    requires ours { AscendsFrom 0 (entries_of ours.now) }
+    requires theirs { AscendsFrom 0 (entries_of theirs.now) }
+    requires comparable { AllComparable (history_in (entries_of ours.now)) (history_in (entries_of theirs.now)) }
+    ensures { OnTrue result (merged_in (history_in (entries_of ours.now)) (history_in (entries_of theirs.now))
+        ≡ history_in (entries_of ours.now)) }
+{
+    let (mut i, mut j) = (0, 0);
+    'compare: while i < ours.len() && j < theirs.len() {
+        match ours[i].who.cmp(&theirs[j].who) {
+            Ordering::Less => i += 1,
+            Ordering::Equal => {
+                if ours[i].history.is_before(&theirs[j].history) {
+                    return false;
+                }
+                i += 1;
+                j += 1;
+            }
+            Ordering::Greater => return false,
+        }
+    }
+    j == theirs.len()
 }
 
 /// The later history of each transactor.
@@ -186,6 +212,14 @@ impl Histories {
     {
         let entries = copies(*self.entries.allocator(), &self.entries)?;
         Ok(Histories { entries })
+    }
+
+    /// Whether a merge with the other histories gives these again.
+    pub(crate) fn covers(&self, other: &Histories) -> bool
+        requires { AllComparable (history_in self.now) (history_in other.now) }
+        ensures { OnTrue result (merged_in (history_in self.now) (history_in other.now) ≡ history_in self.now) }
+    {
+        covers(&self.entries, &other.entries)
     }
 
     /// The later history of each transactor, of those here and there. The two are comparable.

@@ -1,15 +1,17 @@
+use crate::laws::{calls_ignore_trim, decisions_ignore_trim, settled_under_trim};
+use crate::{FullView, View};
 use std::alloc::{AllocError, Global};
 use std::process::Abort;
 use std::test::Fail;
-
 use tau_history::History;
 use tau_points::{Point, PointSet};
 
-use crate::laws::{calls_ignore_trim, decisions_ignore_trim, settled_under_trim};
-use crate::{FullView, View};
-
 fn point(who: u32, interval: u32, incarnation: u32) -> Point {
-    Point { who, interval, incarnation }
+    Point {
+        who,
+        interval,
+        incarnation,
+    }
 }
 
 /// Notes the opening history of a transactor that has none in the view.
@@ -85,7 +87,12 @@ fn single(alloc: Global, point: Point) -> Result<PointSet, AllocError> {
 fn finds_the_known_past(rt: HostRuntime) -> Result<(), Fail> {
     let view = sample(rt.alloc())?;
     let from = single(rt.alloc(), point(0, 1, 0))?;
-    let points = [point(0, 0, 0), point(0, 1, 0), point(1, 0, 0), point(1, 1, 0)];
+    let points = [
+        point(0, 0, 0),
+        point(0, 1, 0),
+        point(1, 0, 0),
+        point(1, 1, 0),
+    ];
     assert!(rt; view.past_of(&from)?.points() == points.as_slice());
     assert!(rt; view.past_up_to_closed(&from)?.points() == points.as_slice());
     Ok(())
