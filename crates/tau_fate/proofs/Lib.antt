@@ -1,0 +1,4 @@
+pub mod Firsts
+pub mod Stops
+pub mod SameKinds
+pub mod Empty

@@ -1,0 +1,31 @@
+-- Kinds of verdicts and of freedom, whatever the point that they name.
+use Rattle.std.specs.Prelude.{◌≡◌}
+use Rattle.tau_points.specs.declared.point.Point.{Point}
+use Rattle.tau_view.specs.Held.{Held, AllPrecede}
+use Rattle.tau_view.specs.Past.{Settled}
+use Rattle.tau_fate.specs.declared.verdict.Verdict.{Verdict}
+use Rattle.tau_fate.specs.declared.verdict.Verdict.TheVariants.{Take, Drop, Fall}
+use Rattle.tau_fate.specs.declared.freedom.Freedom.{Freedom}
+use Rattle.tau_fate.specs.declared.freedom.Freedom.TheVariants.{Free, Bound}
+use Rattle.tau_fate.specs.Decisions.{IsVerdict, IsFreedom}
+
+-- both are Take, both Drop or both Fall
+pub data SameVerdictKind : Verdict → Verdict → Type 0 where
+  both_take : SameVerdictKind Take Take
+  both_drop : {p q : Point} → SameVerdictKind (Drop p) (Drop q)
+  both_fall : {p q : Point} → SameVerdictKind (Fall p) (Fall q)
+
+-- both are Free or both Bound
+pub data SameFreedomKind : Freedom → Freedom → Type 0 where
+  both_free : SameFreedomKind Free Free
+  both_bound : {p q : Point} → SameFreedomKind (Bound p) (Bound q)
+
+-- on settled facts that know the message's histories, trimmed views lead to a verdict of the same kind
+abbrev pub VerdictKindIgnoresTrim : (Held → Held) → Type 0
+VerdictKindIgnoresTrim t =
+    (v w : Held) (me : Point) (a b : Verdict) → Settled v → AllPrecede w.history v.history → IsVerdict v me w.root a → IsVerdict (t v) me (t w).root b
+      → SameVerdictKind a b
+
+-- and to freedom of the same kind
+abbrev pub FreedomKindIgnoresTrim : (Held → Held) → Type 0
+FreedomKindIgnoresTrim t = (v : Held) (me : Point) (a b : Freedom) → Settled v → IsFreedom v me a → IsFreedom (t v) me b → SameFreedomKind a b

@@ -1,0 +1,4 @@
+pub mod Least
+pub mod Decisions
+pub mod Found
+pub mod DecisionKinds

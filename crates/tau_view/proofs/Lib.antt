@@ -1,0 +1,11 @@
+pub mod Later
+pub mod Trimming
+pub mod Settled
+pub mod Ascending
+pub mod Entries
+pub mod Merging
+pub mod Sets
+pub mod Operations
+pub mod Links
+pub mod Keeping
+pub mod Merges

@@ -1,0 +1,12 @@
+pub mod Held
+pub mod Rules
+pub mod Trim
+pub mod Past
+pub mod Laws
+pub mod Stored
+pub mod Full
+pub mod Entries
+pub mod Places
+pub mod Edges
+pub mod Before
+pub mod Dropping

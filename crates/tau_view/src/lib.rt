@@ -1,0 +1,19 @@
+//! What a transactor has heard: histories, edges and roots, and the known past.
+#![tactic(auto)]
+
+mod dropping;
+mod entry;
+mod facts;
+mod full;
+mod histories;
+pub mod laws;
+mod past;
+mod view;
+
+pub use dropping::Dropping;
+pub use facts::Facts;
+pub use full::FullView;
+pub use view::View;
+
+#[cfg(test)]
+mod tests;
