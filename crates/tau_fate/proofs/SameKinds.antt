@@ -49,6 +49,7 @@ module _ (drops_edge : EdgeTest) (drops_root : RootTest) (settled_edges : DropsS
         by_test : (d : Bool) → IsTrue (unless d (w.root q)) → IsTrue (w.root q)
         by_test true k = cc
         by_test false k = k
+
       lost : (q : Point) → IsTrue (w.root q) → IsTrue (unless (drops_root w.history q) (w.root q)) ⊎ (fate_in v.history q ≡ Closed)
       lost q h = by_test (drops_root w.history q) refl where
         by_test : (d : Bool) → drops_root w.history q ≡ d → IsTrue (unless (drops_root w.history q) (w.root q)) ⊎ (fate_in v.history q ≡ Closed)

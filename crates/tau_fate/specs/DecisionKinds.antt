@@ -24,7 +24,7 @@ pub data SameFreedomKind : Freedom → Freedom → Type 0 where
 abbrev pub VerdictKindIgnoresTrim : (Held → Held) → Type 0
 VerdictKindIgnoresTrim t =
     (v w : Held) (me : Point) (a b : Verdict) → Settled v → AllPrecede w.history v.history → IsVerdict v me w.root a → IsVerdict (t v) me (t w).root b
-      → SameVerdictKind a b
+    → SameVerdictKind a b
 
 -- and to freedom of the same kind
 abbrev pub FreedomKindIgnoresTrim : (Held → Held) → Type 0

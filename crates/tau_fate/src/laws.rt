@@ -9,5 +9,4 @@ use tau_view::View;
 pub fn kinds_ignore_trim<V: View>()
     ensures verdict { VerdictKindIgnoresTrim (trim V.drops_edge V.drops_root) }
     ensures freedom { FreedomKindIgnoresTrim (trim V.drops_edge V.drops_root) }
-{
-}
+{}

@@ -84,8 +84,8 @@ pub(crate) fn least_fallen_settled<V: View>(
     requires { Settled (V.held view.now) }
     ensures { IfOk result (IsLeastIfAny (FallenIn (V.held view.now) (point_in from.now))) }
 {
-    let past = view.past_up_to_closed(from)?;
-    Ok(first_fallen(view, &past))
+    let found = view.past_up_to_closed(from)?;
+    Ok(first_fallen(view, &found))
 }
 
 /// The least point of the known past of these points that isn't firm, by a search that stops at Closed points.
@@ -96,6 +96,6 @@ pub(crate) fn least_not_firm_settled<V: View>(
     requires { Settled (V.held view.now) }
     ensures { IfOk result (IsLeastIfAny (NotFirmIn (V.held view.now) (point_in from.now))) }
 {
-    let known = view.past_up_to_closed(from)?;
-    Ok(first_not_firm(view, &known))
+    let found = view.past_up_to_closed(from)?;
+    Ok(first_not_firm(view, &found))
 }

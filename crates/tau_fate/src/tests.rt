@@ -1,12 +1,10 @@
+use crate::laws::kinds_ignore_trim;
+use crate::{Freedom, Verdict, free, free_settled, judge, judge_settled};
 use std::alloc::{AllocError, Global};
 use std::process::Abort;
 use std::test::Fail;
-
 use tau_points::Point;
 use tau_view::{FullView, View};
-
-use crate::laws::kinds_ignore_trim;
-use crate::{free, free_settled, judge, judge_settled, Freedom, Verdict};
 
 const ME: Point = Point {
     who: 0,
