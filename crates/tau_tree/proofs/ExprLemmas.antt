@@ -2,15 +2,15 @@
 use Rattle.std.proofs.Common.{◌≡◌, ℕ, ℤ, Bool, List, sym, ap, ◌∙◌}
 use Rattle.std.specs.declared.alloc.Global.{Global}
 use Rattle.std.specs.declared.boxed.Box.{Box}
-use Rattle.tau_tree.specs.Code.{Code, Codes, unit, truth, int, text, msg, own, var, start, list, let_in, if_else, seq, fold, apply, get, set, send, new, stabilize, checkpoint, rollback, dependent, inside}
+use Rattle.tau_tree.specs.Code.{Code, unit, truth, int, text, msg, own, var, start, list, let_in, if_else, seq, fold, apply, get, set, send, new, stabilize, checkpoint, rollback, dependent, inside}
 use Rattle.tau_tree.specs.Expr.{code_of, codes_of, code_step, codes_step}
-use Rattle.tau_tree.specs.declared.expressions.Prim.{Prim}
+use Rattle.tau_tree.specs.declared.expressions.Operation.{Operation}
 use Rattle.tau_tree.specs.declared.expressions.Expr.{Expr}
 use Rattle.tau_tree.specs.declared.expressions.Exprs.{Exprs}
 use Rattle.tau_tree.specs.declared.expressions.Expr.TheVariants as exprs
 use Rattle.tau_tree.specs.declared.expressions.Expr.TheOpen.{Expr-F}
 use Rattle.tau_tree.specs.declared.expressions.Expr.TheViews.{roll-Expr}
-use Rattle.tau_tree.specs.declared.expressions.Expr.TheFolds.{fold-Exprs, map-Expr, fold-Expr, fold-roll-Expr, fold_out-Exprs}
+use Rattle.tau_tree.specs.declared.expressions.Expr.TheFolds.{fold-Exprs, map-Expr, fold-roll-Expr, fold_out-Exprs}
 
 -- one expression, whose parts are expressions
 abbrev rolled : (x : Expr-F Expr Exprs) → code_of (roll-Expr x) ≡ code_step (map-Expr Expr Exprs Code (List Code) code_of (fold-Exprs Code (List Code) code_step codes_step) x)
@@ -60,7 +60,7 @@ code_of-Seq es =
 pub code_of-Fold : (l f : Box Expr Global) (s i : List ℕ) (b : Box Expr Global) → code_of (exprs.Fold l f s i b) ≡ fold (code_of l.value) (code_of f.value) s i (code_of b.value)
 code_of-Fold l f s i b = ap code_of (sym (exprs.rolls-Fold l f s i b)) ∙ rolled (Expr-F.Fold l f s i b)
 
-pub code_of-Apply : (p : Prim) (es : Exprs) → code_of (exprs.Apply p es) ≡ apply p (inside (codes_of es))
+pub code_of-Apply : (p : Operation) (es : Exprs) → code_of (exprs.Apply p es) ≡ apply p (inside (codes_of es))
 code_of-Apply p es =
     ap code_of (sym (exprs.rolls-Apply p es)) ∙ rolled (Expr-F.Apply p es) ∙ ap (λ cs. apply p (inside cs)) (held es)
 

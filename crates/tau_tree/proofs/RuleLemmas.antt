@@ -6,7 +6,7 @@ use Rattle.tau_tree.specs.Code.{Code, seq, apply, inside}
 use Rattle.tau_tree.specs.Expr.{code_of, codes_of}
 use Rattle.tau_tree.specs.Parts.{arity, count_of}
 use Rattle.tau_tree.specs.Checks.{KeepsRules}
-use Rattle.tau_tree.specs.declared.expressions.Prim.{Prim}
+use Rattle.tau_tree.specs.declared.expressions.Operation.{Operation}
 use Rattle.tau_tree.specs.declared.expressions.Expr.{Expr}
 use Rattle.tau_tree.specs.declared.expressions.Exprs.{Exprs}
 use Rattle.tau_tree.specs.declared.expressions.Expr.TheVariants as exprs
@@ -39,7 +39,7 @@ rules_of_seq n m x es b e test =
     ) in
     subst (λ c. IsTrue (not b) ↔ KeepsRules n m c) (sym (ap code_of e ∙ code_of-Seq es)) at
 
-pub rules_of_apply : (n m : ℕ) (x : Expr) (p : Prim) (es : Exprs) (len wanted : ℕ) → x ≡ exprs.Apply p es → len ≡ length (codes_of es) → wanted ≡ arity p → IsTrue (nat_eq len wanted) ↔ KeepsRules n m (code_of x)
+pub rules_of_apply : (n m : ℕ) (x : Expr) (p : Operation) (es : Exprs) (len wanted : ℕ) → x ≡ exprs.Apply p es → len ≡ length (codes_of es) → wanted ≡ arity p → IsTrue (nat_eq len wanted) ↔ KeepsRules n m (code_of x)
 rules_of_apply n m x p es len wanted e here there =
     let count = count_of-inside (codes_of es) in
     let at : IsTrue (nat_eq len wanted) ↔ KeepsRules n m (apply p (inside (codes_of es))) = (

@@ -3,7 +3,7 @@ use Rattle.std.proofs.Common.{◌≡◌, ◌↔◌, ℕ, ◌<◌, Bool, IsTrue, 
 use Rattle.std.proofs.lemmas.List.{get_or-map}
 use Rattle.tau_tree.specs.Code.{Code, Codes, list, seq, apply, inside, items_of, items_of-inside}
 use Rattle.tau_tree.specs.Expr.{code_of, codes_of}
-use Rattle.tau_tree.specs.declared.expressions.Prim.{Prim}
+use Rattle.tau_tree.specs.declared.expressions.Operation.{Operation}
 use Rattle.tau_tree.specs.declared.expressions.Expr.{Expr}
 use Rattle.tau_tree.specs.declared.expressions.Exprs.{Exprs}
 use Rattle.tau_tree.specs.declared.expressions.Expr.TheVariants as exprs
@@ -33,10 +33,10 @@ pub same_seqs : (x y : Expr) (xs ys : Exprs) (b : Bool) → x ≡ exprs.Seq xs �
 same_seqs x y xs ys b ex ey test =
     same_by seq seq_inj x y (codes_of xs) (codes_of ys) b (ap code_of ex ∙ code_of-Seq xs) (ap code_of ey ∙ code_of-Seq ys) test
 
-apply_inj : (p : Prim) (xs ys : Codes) → apply p xs ≡ apply p ys → xs ≡ ys
+apply_inj : (p : Operation) (xs ys : Codes) → apply p xs ≡ apply p ys → xs ≡ ys
 apply_inj p xs ys e = cc
 
-pub same_applies : (x y : Expr) (p q : Prim) (xs ys : Exprs) (b : Bool) → x ≡ exprs.Apply p xs → y ≡ exprs.Apply q ys → p ≡ q → (IsTrue b ↔ (codes_of xs ≡ codes_of ys)) → IsTrue b ↔ (code_of x ≡ code_of y)
+pub same_applies : (x y : Expr) (p q : Operation) (xs ys : Exprs) (b : Bool) → x ≡ exprs.Apply p xs → y ≡ exprs.Apply q ys → p ≡ q → (IsTrue b ↔ (codes_of xs ≡ codes_of ys)) → IsTrue b ↔ (code_of x ≡ code_of y)
 same_applies x y p q xs ys b ex ey e test =
     let there : code_of y ≡ apply p (inside (codes_of ys)) = ap code_of ey ∙ code_of-Apply q ys ∙ ap (λ r. apply r (inside (codes_of ys))) (sym e) in
     same_by (apply p) (apply_inj p) x y (codes_of xs) (codes_of ys) b (ap code_of ex ∙ code_of-Apply p xs) there test

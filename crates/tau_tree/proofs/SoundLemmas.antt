@@ -1,5 +1,5 @@
 -- A program is sound exactly where each check of it passes.
-use Rattle.std.proofs.Common.{◌≡◌, ◌≢◌, ◌<◌, ◌≤◌, ◌+◌, ℕ, List, [], length, map, get_or, sym, subst, arith}
+use Rattle.std.proofs.Common.{◌≡◌, ◌≢◌, ◌≤◌, ◌+◌, ℕ, List, [], length, map, subst, arith}
 use Rattle.std.specs.List.{All, AllPairs}
 use Rattle.std.proofs.lemmas.List.{get_or-map, length-map}
 use Rattle.std.proofs.lemmas.List.Elements.{All-map}
@@ -11,7 +11,7 @@ use Rattle.tau_tree.specs.declared.programs.Program.{Program}
 use Rattle.tau_tree.specs.Behaviour.{NamedCode}
 use Rattle.tau_tree.specs.Code.{Code}
 use Rattle.tau_tree.specs.Parts.{depth_of, IsBoundIn, Throughout, HasNames, NamesStart, NamesBehaviour, HasArity, HasItem, HasTwoNames, HasShortText}
-use Rattle.tau_tree.specs.Sound.{Sound, FailsBelow, behaviour_names, start_names, bodies}
+use Rattle.tau_tree.specs.Sound.{Sound, FailsBelow, bodies}
 use Rattle.tau_tree.specs.Checks.{KeepsLimits, KeepsRules, IsSoundStart, IsSoundPost, IsSoundBehaviour}
 use Rattle.tau_tree.proofs.SplitLemmas.{throughout_weaker, throughout_both}
 

@@ -4,8 +4,8 @@ use Rattle.std.specs.Coded.{Coded, code_by, coded_ℕ, coded_ℤ, coded_bool, co
 use Rattle.std.proofs.Common.{ap, sym, ◌∙◌, eqb, eq-eqb}
 use Rattle.std.proofs.lemmas.Bool.{false≢true}
 use base.Stored.{Gv, gnil, gnum, gcons}
-use Rattle.tau_tree.specs.declared.expressions.Prim.{Prim}
-use Rattle.tau_tree.specs.declared.expressions.Prim.TheVariants as prims
+use Rattle.tau_tree.specs.declared.expressions.Operation.{Operation}
+use Rattle.tau_tree.specs.declared.expressions.Operation.TheVariants as prims
 
 -- an expression; words and texts by their bytes, starts and behaviours by their numbers
 mutual
@@ -23,7 +23,7 @@ mutual
     if_else : Code → Code → Code → Code
     seq : Codes → Code
     fold : Code → Code → List ℕ → List ℕ → Code → Code
-    apply : Prim → Codes → Code
+    apply : Operation → Codes → Code
     get : Code
     set : Code → Code
     send : Code → Code → Code
@@ -56,7 +56,7 @@ inside-items_of none = refl
 inside-items_of (more c cs) = ap (more c) (inside-items_of cs)
 
 -- a number for each operation, and back
-abbrev pub prim_number : Prim → ℕ
+abbrev pub prim_number : Operation → ℕ
 prim_number prims.Add = 0
 prim_number prims.Sub = 1
 prim_number prims.Mul = 2
@@ -70,11 +70,11 @@ prim_number prims.Item = 9
 prim_number prims.Push = 10
 prim_number prims.Cat = 11
 
-abbrev pub prim_at : ℕ → Prim
+abbrev pub prim_at : ℕ → Operation
 prim_at n =
     if n == 0 then prims.Add else (if n == 1 then prims.Sub else (if n == 2 then prims.Mul else (if n == 3 then prims.Div else (if n == 4 then prims.Rem else (if n == 5 then prims.Less else (if n == 6 then prims.Same else (if n == 7 then prims.Not else (if n == 8 then prims.Len else (if n == 9 then prims.Item else (if n == 10 then prims.Push else prims.Cat))))))))))
 
-pub prim_at-prim_number : (p : Prim) → prim_at (prim_number p) ≡ p
+pub prim_at-prim_number : (p : Operation) → prim_at (prim_number p) ≡ p
 prim_at-prim_number prims.Add = refl
 prim_at-prim_number prims.Sub = refl
 prim_at-prim_number prims.Mul = refl
@@ -88,7 +88,7 @@ prim_at-prim_number prims.Item = refl
 prim_at-prim_number prims.Push = refl
 prim_at-prim_number prims.Cat = refl
 
-abbrev pub prim_code : Coded Prim
+abbrev pub prim_code : Coded Operation
 prim_code = code_by ℕ coded_ℕ prim_number prim_at prim_at-prim_number
 
 abbrev pub word_code : Coded (List ℕ)

@@ -1,10 +1,10 @@
 -- Rules that an expression keeps in each of its parts.
-use Rattle.std.specs.Prelude.{◌≡◌, ◌≢◌, ℕ, ◌+◌, ◌<◌, ◌≤◌, max, List, [], ◌∷◌, ◌++◌, Contains}
+use Rattle.std.specs.Prelude.{◌≡◌, ◌≢◌, ℕ, ◌+◌, ◌<◌, max, List, [], ◌∷◌, ◌++◌, Contains}
 use Rattle.tau_value.specs.Names.{IsName}
 use Rattle.tau_value.specs.Sizes.{IsInBounds}
 use Rattle.tau_value.specs.Val as val
-use Rattle.tau_tree.specs.declared.expressions.Prim.{Prim}
-use Rattle.tau_tree.specs.declared.expressions.Prim.TheVariants as prims
+use Rattle.tau_tree.specs.declared.expressions.Operation.{Operation}
+use Rattle.tau_tree.specs.declared.expressions.Operation.TheVariants as prims
 use Rattle.tau_tree.specs.Code.{Code, unit, truth, int, text, msg, own, var, start, list, let_in, if_else, seq, fold, apply, get, set, send, new, stabilize, checkpoint, rollback, dependent, Codes, none, more}
 
 -- how deep lists stand inside one another where the expression is printed
@@ -115,7 +115,7 @@ NamesBehaviour behaviours (new b n s) = b < behaviours
 NamesBehaviour behaviours c = Unit {0}
 
 -- how many arguments an operation has
-abbrev pub arity : Prim → ℕ
+abbrev pub arity : Operation → ℕ
 arity prims.Add = 2
 arity prims.Sub = 2
 arity prims.Mul = 2

@@ -5,8 +5,9 @@ ghost use Rattle.tau_tree.specs.Code.{inside};
 ghost use Rattle.tau_tree.specs.Parts.{depth_of, depth_of_all, arity as arity_of, IsBoundIn, AllBoundIn, Throughout, AllThroughout};
 ghost use Rattle.tau_tree.specs.Checks.{KeepsRules};
 
+use crate::expressions::Operation;
 use crate::scopes::Scope;
-use crate::{Expr, Exprs, Prim};
+use crate::{Expr, Exprs};
 use std::alloc::AllocError;
 use tau_value::is_name;
 
@@ -271,11 +272,11 @@ fn keeps_rules(expr: &Expr, starts: u32, behaviours: u32) -> bool
 }
 
 // How many arguments an operation has.
-fn arity(prim: Prim) -> usize
+fn arity(prim: Operation) -> usize
     ensures { result ≡ arity_of prim }
 {
     match prim {
-        Prim::Not | Prim::Len => 1,
+        Operation::Not | Operation::Len => 1,
         _ => 2,
     }
 }

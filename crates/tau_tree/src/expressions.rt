@@ -5,9 +5,10 @@ ghost use Rattle.tau_tree.specs.Expr.{code_of, codes_of};
 use std::alloc::{AllocError, Global};
 use tau_sexpr::{Text, Word};
 
-/// An operation on values (docs/language.md, "Expressions").
+/// An operation on values (docs/language.md, "Expressions"). The crate offers it as `Prim`. Here it has another name,
+/// since a library of the prover is called `Prim`, and crates above would not check.
 #[derive(Clone, Copy, Debug, PartialEq, Eq)]
-pub enum Prim {
+pub enum Operation {
     Add,
     Sub,
     Mul,
@@ -57,7 +58,7 @@ pub enum Expr {
         body: Box<Expr>,
     },
     Apply {
-        prim: Prim,
+        prim: Operation,
         args: Exprs,
     },
     Get,

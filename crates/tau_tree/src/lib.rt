@@ -15,7 +15,7 @@ mod tests;
 
 pub use behaviours::{Behaviour, Behaviours};
 pub use entries::{Entry, Failure, Script};
-pub use expressions::{Expr, Exprs, Prim};
+pub use expressions::{Expr, Exprs, Operation as Prim};
 pub use posts::{Post, Posts};
 pub use programs::Program;
 pub use starts::{Start, Starts};

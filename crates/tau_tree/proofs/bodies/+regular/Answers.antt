@@ -1,5 +1,4 @@
 use Rattle.std.proofs.Common.{◌≡◌, ◌<◌, length, get_or, arith, sym, ◌∙◌}
-use Rattle.tau_tree.specs.Expr.{code_of}
 use Rattle.tau_tree.specs.Parts.{Throughout, AllThroughout}
 use Rattle.tau_tree.specs.Checks.{KeepsRules}
 use Rattle.tau_tree.proofs.EachLemmas.{each_throughout, each-more, each-at}

@@ -1,5 +1,4 @@
 use Rattle.std.proofs.Common.{◌≡◌, ◌<◌, ◌≤◌, length, get_or, arith, sym, ◌∙◌}
-use Rattle.tau_tree.specs.Expr.{code_of}
 use Rattle.tau_tree.specs.Parts.{depth_of, depth_of_all}
 use Rattle.tau_tree.proofs.EachLemmas.{each_shallow, each-more, each-at}
 use Rattle.tau_tree.proofs.bodies.+shallow.Goals as goal

@@ -1,6 +1,6 @@
-use Rattle.std.proofs.Common.{rules, ◌≡◌, ◌<◌, map, get_or, length, arith, sym, ap, ◌∙◌}
+use Rattle.std.proofs.Common.{rules, ◌≡◌, ◌<◌, map, get_or, length, arith, sym, ◌∙◌}
 use denote.Enum.Bare.{same_true}
-use Rattle.tau_tree.specs.contracts.expressions.Prim.{the_type}
+use Rattle.tau_tree.specs.contracts.expressions.Operation.{the_type}
 use Rattle.tau_tree.specs.Expr.{code_of}
 use Rattle.tau_tree.proofs.SameLemmas.{same_lists, same_seqs, same_applies, same_at}
 use Rattle.tau_tree.proofs.expressions.+same.Goals as goal

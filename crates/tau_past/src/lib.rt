@@ -1,0 +1,12 @@
+//! The causal past of a run (docs/definitions.md).
+#![tactic(auto)]
+
+mod laws;
+
+pub use laws::{
+    nothing_heard_at_first, opening_points_stand_alone, posts_carry_nothing, rules_make_safe,
+    without_falls_all_is_taken,
+};
+
+#[cfg(test)]
+mod tests;

@@ -1,0 +1,14 @@
+use Rattle.std.proofs.Common.{◌≡◌, ◌<◌, ◌∙◌, ap, length, arith, sym, Some, None, Option}
+use Rattle.std.specs.Prelude.{slice_get}
+use Rattle.tau_trace.specs.Run.{Run, len}
+use Rattle.tau_trace.proofs.Reading as reading
+use Rattle.tau_trace.proofs.trace.Trace.born.Goals as goal
+use Rattle.tau_trace.proofs.Indexing.{few_transactors}
+
+pub overflow_cast-result : goal.overflow_cast-result
+overflow_cast-result c =
+    let T : Run = record { opening = c.self.inside.opening; steps = c.self.inside.steps.items } in
+    let ts = c.self.inside.transactors in
+    let ms = c.self.inside.messages.items in
+    let made = c.self.inside.made.items in
+    omega (arith, few_transactors T made ts ms c.self.invariant, c.len.ensures, c.self.inside.messages.ok.0)

@@ -1,0 +1,16 @@
+pub mod Steps
+pub mod Run
+pub mod Places
+pub mod Numbering
+pub mod Histories
+pub mod Points
+pub mod Turns
+pub mod Known
+pub mod Laws
+pub mod Ascending
+pub mod Tracking
+pub mod Living
+pub mod Stored
+pub mod Noting
+pub mod Nodes
+pub mod StepForms

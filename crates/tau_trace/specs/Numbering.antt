@@ -1,0 +1,50 @@
+-- The numbers of transactors and messages, and the messages in flight (docs/rules.md, "Numbers", "Messages in flight").
+use Rattle.std.specs.Prelude.{◌≡◌, ℕ, ◌+◌, ◌<◌, Bool, false, Option, Some, length, slice_get, option_and_then}
+use Rattle.std.specs.Option.{option_map_or}
+use Rattle.tau_value.specs.declared.shared.Value.{Value}
+use Rattle.tau_trace.specs.declared.step.Step.TheVariants.{Send, New}
+use Rattle.tau_trace.specs.Steps.{removed_by, is_new, is_send}
+use Rattle.tau_trace.specs.Run.{Run, step_at, starts}
+use Rattle.tau_trace.specs.Places.{count_below}
+
+-- how many transactors exist at place k: the starts, and one for each New before it
+abbrev pub born : Run → ℕ → ℕ
+born T k = starts T + count_below (λ j. option_map_or is_new (step_at T j) false) k
+
+-- how many messages exist at place k: the posts, and one for each Send before it
+abbrev pub sent : Run → ℕ → ℕ
+sent T k = length T.opening.targets + count_below (λ j. option_map_or is_send (step_at T j) false) k
+
+-- the step at place j is a New by transactor `by`, and makes transactor u
+pub record IsNew (T : Run) (j by u : ℕ) : Type 0 where
+  pub behaviour : ℕ
+  pub node : ℕ
+  pub state : Value
+  pub stands : step_at T j ≡ Some (New by behaviour node state)
+  pub made : u ≡ born T j
+
+-- the step at place j is a Send by transactor `by`, and makes message m
+pub record IsOrigin (T : Run) (j by m : ℕ) : Type 0 where
+  pub to : ℕ
+  pub value : Value
+  pub stands : step_at T j ≡ Some (Send by to value)
+  pub made : m ≡ sent T j
+
+-- transactor u is the receiver of message m
+pub data Receives (T : Run) (m u : ℕ) : Type 0 where
+  post : slice_get T.opening.targets m ≡ Some u → Receives T m u
+  message : {j by : ℕ} → (origin : IsOrigin T j by m) → origin.to ≡ u → Receives T m u
+
+-- transactor t stands at node n
+pub data IsHome (T : Run) (t n : ℕ) : Type 0 where
+  start : slice_get T.opening.homes t ≡ Some n → IsHome T t n
+  created : {j by : ℕ} → (birth : IsNew T j by t) → birth.node ≡ n → IsHome T t n
+
+-- the step at place j takes message m out of flight
+abbrev pub Removes : Run → ℕ → ℕ → Type 0
+Removes T m j = option_and_then removed_by (step_at T j) ≡ Some m
+
+-- message m is in flight at place k: it exists there, and no earlier step took it
+pub record InFlight (T : Run) (m k : ℕ) : Type 0 where
+  pub exists : m < sent T k
+  pub not_removed : (j : ℕ) → j < k → ¬ Removes T m j

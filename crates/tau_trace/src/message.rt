@@ -1,0 +1,39 @@
+//! What the steps so far say of one message.
+ghost use Rattle.std.specs.Prelude.{◌≡◌, slice_get};
+ghost use Rattle.tau_trace.specs.Stored.{sent_to, removed_at};
+
+/// Its receiver, and the place of the step that took it out of flight.
+#[derive(Clone, Copy)]
+pub(crate) struct Message {
+    pub(crate) target: u32,
+    pub(crate) ended_by: Option<u32>,
+}
+
+impl Message {
+    /// A message in flight.
+    pub(crate) fn new(target: u32) -> Message
+        ensures { result ≡ sent_to target }
+    {
+        Message {
+            target,
+            ended_by: None,
+        }
+    }
+
+    /// The same after a step at this place that takes it out of flight: the first such step stays.
+    pub(crate) fn removed(self, place: u32) -> Message
+        ensures { result ≡ removed_at place self }
+    {
+        Message {
+            ended_by: self.ended_by.or(Some(place)),
+            ..self
+        }
+    }
+}
+
+/// The record of a message.
+pub(crate) fn message_of(messages: &[Message], message: u32) -> Option<Message>
+    ensures { result ≡ slice_get messages.now message }
+{
+    messages.get(message as usize).copied()
+}

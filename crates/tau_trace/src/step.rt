@@ -1,0 +1,187 @@
+//! Steps.
+ghost use Rattle.std.specs.Prelude.{◌≡◌, IfOk};
+ghost use Rattle.tau_trace.specs.Steps.{actor, removed_by};
+
+use std::alloc::AllocError;
+use tau_value::Value;
+
+/// A step of a run (docs/rules.md, "Steps"). `who` is the transactor that makes it.
+#[derive(Drop)]
+pub enum Step {
+    Take {
+        who: u32,
+        message: u32,
+    },
+    Drop {
+        who: u32,
+        message: u32,
+    },
+    Fall {
+        who: u32,
+        message: u32,
+    },
+    Void {
+        who: u32,
+        message: u32,
+    },
+    Get {
+        who: u32,
+    },
+    Set {
+        who: u32,
+        value: Value,
+    },
+    Skip {
+        who: u32,
+    },
+    Send {
+        who: u32,
+        to: u32,
+        value: Value,
+    },
+    New {
+        who: u32,
+        behaviour: u32,
+        node: u32,
+        state: Value,
+    },
+    Stabilize {
+        who: u32,
+    },
+    Ask {
+        who: u32,
+        answer: bool,
+    },
+    Checkpoint {
+        who: u32,
+    },
+    Hold {
+        who: u32,
+    },
+    Rollback {
+        who: u32,
+    },
+    Stay {
+        who: u32,
+    },
+    Done {
+        who: u32,
+    },
+    Trap {
+        who: u32,
+        code: u8,
+    },
+    Fail {
+        who: u32,
+    },
+    Lose {
+        message: u32,
+    },
+}
+
+impl Step {
+    /// The transactor that makes the step; `None` for a Lose.
+    pub fn actor(&self) -> Option<u32>
+        ensures { result ≡ actor self.now }
+    {
+        match self {
+            Step::Take { who, .. }
+            | Step::Drop { who, .. }
+            | Step::Fall { who, .. }
+            | Step::Void { who, .. }
+            | Step::Get { who }
+            | Step::Set { who, .. }
+            | Step::Skip { who }
+            | Step::Send { who, .. }
+            | Step::New { who, .. }
+            | Step::Stabilize { who }
+            | Step::Ask { who, .. }
+            | Step::Checkpoint { who }
+            | Step::Hold { who }
+            | Step::Rollback { who }
+            | Step::Stay { who }
+            | Step::Done { who }
+            | Step::Trap { who, .. }
+            | Step::Fail { who } => Some(*who),
+            Step::Lose { .. } => None,
+        }
+    }
+
+    /// The message that the step takes out of flight: that of a Take, Drop, Void or Lose.
+    pub fn removed(&self) -> Option<u32>
+        ensures { result ≡ removed_by self.now }
+    {
+        match self {
+            Step::Take { message, .. }
+            | Step::Drop { message, .. }
+            | Step::Void { message, .. }
+            | Step::Lose { message } => Some(*message),
+            _ => None,
+        }
+    }
+
+    /// An equal step, which shares its value. The error is want of memory.
+    pub fn copy(&self) -> Result<Step, AllocError>
+        ensures { IfOk result (λ s. s ≡ self.now) }
+    {
+        let copy = match self {
+            Step::Take { who, message } => Step::Take {
+                who: *who,
+                message: *message,
+            },
+            Step::Drop { who, message } => Step::Drop {
+                who: *who,
+                message: *message,
+            },
+            Step::Fall { who, message } => Step::Fall {
+                who: *who,
+                message: *message,
+            },
+            Step::Void { who, message } => Step::Void {
+                who: *who,
+                message: *message,
+            },
+            Step::Get { who } => Step::Get { who: *who },
+            Step::Set { who, value } => Step::Set {
+                who: *who,
+                value: value.copy()?,
+            },
+            Step::Skip { who } => Step::Skip { who: *who },
+            Step::Send { who, to, value } => Step::Send {
+                who: *who,
+                to: *to,
+                value: value.copy()?,
+            },
+            Step::New {
+                who,
+                behaviour,
+                node,
+                state,
+            } => {
+                Step::New {
+                    who: *who,
+                    behaviour: *behaviour,
+                    node: *node,
+                    state: state.copy()?,
+                }
+            }
+            Step::Stabilize { who } => Step::Stabilize { who: *who },
+            Step::Ask { who, answer } => Step::Ask {
+                who: *who,
+                answer: *answer,
+            },
+            Step::Checkpoint { who } => Step::Checkpoint { who: *who },
+            Step::Hold { who } => Step::Hold { who: *who },
+            Step::Rollback { who } => Step::Rollback { who: *who },
+            Step::Stay { who } => Step::Stay { who: *who },
+            Step::Done { who } => Step::Done { who: *who },
+            Step::Trap { who, code } => Step::Trap {
+                who: *who,
+                code: *code,
+            },
+            Step::Fail { who } => Step::Fail { who: *who },
+            Step::Lose { message } => Step::Lose { message: *message },
+        };
+        Ok(copy)
+    }
+}

@@ -1,0 +1,16 @@
+//! What a trace begins with.
+ghost use Rattle.std.specs.Prelude.{◌≡◌, map, IfOk};
+ghost use Rattle.tau_trace.specs.Stored.{sent_to};
+
+use crate::message::Message;
+use std::alloc::{AllocError, Global};
+
+/// The messages of the posts, by their receivers.
+pub(crate) fn posts(alloc: Global, targets: &[u32]) -> Result<Vec<Message>, AllocError>
+    ensures { IfOk result (λ v. v.items ≡ map sent_to targets.now) }
+{
+    targets
+        .iter()
+        .map(|target| Message::new(*target))
+        .collect(alloc)
+}
