@@ -50,16 +50,17 @@ due-same S T U k c (Some s) a d =
 pub cursor-same : (S : List Entry) (T U : Run) (k : ℕ) (c : Cursor) → Agree T U k → CursorAt S T k c → CursorAt S U k c
 cursor-same S T U zero c a p = passes-same S T U 0 _ c a p
 cursor-same S T U (suc k) c a m =
-    let b : Agree T U k = agree_below k (omega arith) a in
-    (m.0,
-    record {
-      before = m.1.before;
-      stood = cursor-same S T U k m.1.before b m.1.stood;
-      step = m.1.step;
-      due = due-same S T U k m.1.before m.1.step b m.1.due;
-      moved = m.1.moved;
-    },
-    passes-same S T U (suc k) m.0 c a m.2)
+    let b : Agree T U k = agree_below k (omega arith) a in (
+      m.0,
+      record {
+        before = m.1.before;
+        stood = cursor-same S T U k m.1.before b m.1.stood;
+        step = m.1.step;
+        due = due-same S T U k m.1.before m.1.step b m.1.due;
+        moved = m.1.moved;
+      },
+      passes-same S T U (suc k) m.0 c a m.2,
+    )
 
 comes-same : (S : List Entry) (T U : Run) (k : ℕ) (c : Cursor) → Agree T U k → ComesTo S T k c → ComesTo S U k c
 comes-same S T U zero c a e = e
