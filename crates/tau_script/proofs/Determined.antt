@@ -11,7 +11,6 @@ use Rattle.tau_trace.proofs.Lists.{same_some}
 use Rattle.tau_script.specs.declared.cursor.Cursor.{Cursor}
 use Rattle.tau_script.specs.Cursors.{moved_past_due, IsDueAs, IsRipe, IsDueAt, IsDueHere, MovedFrom, CursorAt, PassesTo}
 use Rattle.tau_script.specs.Scripts.{IsDue, IsComplete, Allows, is_failure}
-use Rattle.tau_script.specs.Laws.{IsDetermined}
 use Rattle.tau_script.proofs.Passing.{passes_once}
 
 due_as_once : (T : Run) (k from : ℕ) (f : Failure) (r s : Step) → IsDueAs T k from f (Some r) → IsDueAs T k from f (Some s) → r ≡ s
@@ -46,9 +45,6 @@ one_cursor S T (suc k) c d m n =
 pub one_step : (S : List Entry) (T : Run) (k : ℕ) (r s : Option Step) → IsDue S T k r → IsDue S T k s → r ≡ s
 one_step S T k r s x y =
     due_same_cursor S T k x.cursor y.cursor r s (one_cursor S T k x.cursor y.cursor x.stands y.stands) x.due y.due
-
-pub determined : (S : List Entry) (T : Run) (k : ℕ) → IsDetermined S T k
-determined S T k = record { cursor = one_cursor S T k; step = one_step S T k }
 
 pub no_failure : (S : List Entry) (T : Run) (s : Step) → IsComplete S T → Allows S T (len T) s → IsFalse (is_failure s)
 no_failure S T s c (inl d) = let e : None ≡ Some s = one_step S T (len T) None (Some s) c.none_due d in absurd (cc)

@@ -7,10 +7,12 @@ use Rattle.tau_script.specs.declared.cursor.Cursor.{Cursor}
 use Rattle.tau_script.specs.Cursors.{CursorAt, ComesTo, IsDueAt, moved_past_due}
 use Rattle.tau_script.specs.Scripts.{IsDue, DueStep, Allows, HasObject, IsComplete, is_failure}
 
--- at each place there is at most one cursor, and one step is due or none is
+-- at place k there is exactly one cursor, and exactly one step is due or none is
 pub record IsDetermined (S : List Entry) (T : Run) (k : ℕ) : Type 0 where
-  pub cursor : (c d : Cursor) → CursorAt S T k c → CursorAt S T k d → c ≡ d
-  pub step : (r s : Option Step) → IsDue S T k r → IsDue S T k s → r ≡ s
+  pub cursor : Cursor
+  pub cursor_is : (c : Cursor) → CursorAt S T k c ↔ (c ≡ cursor)
+  pub step : Option Step
+  pub step_is : (s : Option Step) → IsDue S T k s ↔ (s ≡ step)
 
 abbrev pub ScriptsAreDetermined : Type 0
 ScriptsAreDetermined = (S : List Entry) (T : Run) (k : ℕ) → IsDetermined S T k

@@ -1,7 +1,7 @@
 //! Laws of scripts, each the contract of a function that does nothing.
 ghost use Rattle.tau_script.specs.Laws.{ScriptsAreDetermined, ScriptsAreLocal, CursorsGoOn, DueStepsHaveObjects, CompleteRunsHaveNoFailures};
 
-/// At each place there is at most one cursor, and one step is due or none is (docs/rules.md, "Scripts").
+/// At each place of each run there is exactly one cursor, and exactly one step is due or none is (docs/rules.md, "Scripts").
 pub fn scripts_are_determined()
     ensures { ScriptsAreDetermined }
 {}

@@ -1,4 +1,4 @@
-use Rattle.tau_script.proofs.Determined.{determined}
+use Rattle.tau_script.proofs.Existing.{determined}
 use Rattle.tau_script.proofs.laws.scripts_are_determined.Goals as goal
 
 pub returns : goal.returns
