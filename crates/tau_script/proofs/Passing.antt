@@ -1,12 +1,15 @@
 -- Passing over entries, and what is due where the cursor rests.
 use Rattle.std.proofs.Common.{◌≡◌, ◌⊎◌, inl, inr, ℕ, zero, suc, ◌<◌, ◌≤◌, List, Option, Some, None, refl, sym, subst, ◌∙◌, arith}
+use Rattle.std.specs.Prelude.{IfSome}
 use Rattle.tau_tree.specs.declared.entries.Entry.{Entry}
 use Rattle.tau_tree.specs.declared.entries.Failure.{Failure}
 use Rattle.tau_tree.specs.declared.entries.Failure.TheVariants as failures
 use Rattle.tau_trace.specs.declared.step.Step.{Step}
 use Rattle.tau_trace.specs.declared.step.Step.TheVariants as steps
 use Rattle.tau_trace.specs.Run.{Run, len, appended}
-use Rattle.tau_trace.specs.Known.{IsKnownAt}
+use Rattle.tau_trace.specs.Numbering.{born}
+use Rattle.tau_trace.specs.Known.{IsKnownAt, WellFormed}
+use Rattle.tau_trace.proofs.Indexing.{born-le}
 use Rattle.tau_script.specs.declared.cursor.Cursor.{Cursor}
 use Rattle.tau_script.specs.Cursors.{next_entry, IsDueAs, IsRipe, IsPassedOver, PassesTo, rests, passes, IsDueAt, IsDueHere, MovedFrom, CursorAt, ComesTo, IsCurrent}
 use Rattle.tau_script.specs.Scripts.{HasObject, fails, loses}
@@ -34,7 +37,7 @@ module _ (S : List Entry) (T : Run) (k : ℕ) where
   due_ripe c e (Some s) n ripe due = record { entry = e; ripe = ripe; due = due }
 
 -- a due failure has its object
-object_as : (T : Run) (k from : ℕ) (f : Failure) (s : Step) → IsDueAs T k from f (Some s) → HasObject T k s
+pub object_as : (T : Run) (k from : ℕ) (f : Failure) (s : Step) → IsDueAs T k from f (Some s) → HasObject T k s
 object_as T k from (failures.Fail n) s d = subst (HasObject T k) (sym d.2) (fails d.1.1.exists d.1.1.living)
 object_as T k from (failures.Lose m) s d = subst (HasObject T k) (sym d.1) (loses d.0)
 
@@ -45,6 +48,19 @@ object S T k c s d = object_as T k c.who d.entry.failure s d.due
 pub object_known : (T : Run) (k : ℕ) (s : Step) → HasObject T k s → IsKnownAt T k s
 object_known T k s (fails e l) = e
 object_known T k s (loses f) = f.exists
+
+-- and a transactor that fails has a number after it
+known_fits : (T : Run) (s : Step) (t : ℕ) → WellFormed T → IsKnownAt T (len T) s → s ≡ steps.Fail t → t < 4294967295
+known_fits T s t w k e =
+    let below : t < born T (len T) = subst (IsKnownAt T (len T)) e k in
+    omega (arith, below, born-le T (len T), w.opening.few_names, w.few_steps)
+
+pub object_fits : (T : Run) (s : Step) → WellFormed T → HasObject T (len T) s → (t : ℕ) → s ≡ steps.Fail t → t < 4294967295
+object_fits T s w o t e = known_fits T s t w (object_known T (len T) s o) e
+
+pub if_some : {A : Type 0} (P : A → Type 0) (r : Option A) → ((x : A) → r ≡ Some x → P x) → IfSome r P
+if_some P None h = tt
+if_some P (Some x) h = h x refl
 
 -- the script's cursor rests
 pub cursor_rests : (S : List Entry) (T : Run) (k : ℕ) (c : Cursor) → CursorAt S T k c → ¬ IsPassedOver S T k c
