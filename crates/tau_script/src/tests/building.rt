@@ -168,16 +168,6 @@ pub(crate) fn add(run: &mut Recorded, step: Step) {
     }
 }
 
-fn move_past(run: &mut Recorded, step: &Step) {
-    if run.script.len() > 4096 || run.cursor.entry as usize >= run.script.len() {
-        return;
-    }
-    match step {
-        Step::Fail { who: u32::MAX } => {}
-        _ => passed(&run.script, &mut run.cursor, step),
-    }
-}
-
 fn made_by(step: &Step) -> Made {
     match step {
         Step::Fail { who } => Made::Failed(*who),
@@ -188,10 +178,13 @@ fn made_by(step: &Step) -> Made {
 
 /// Appends the step that is due, if one is.
 pub(crate) fn add_due(run: &mut Recorded) -> Made {
-    match asked(run) {
+    if run.script.len() > 4096 {
+        return Made::Nothing;
+    }
+    match due(&run.script, &mut run.cursor, &run.trace) {
         Some(step) => {
             let made = made_by(&step);
-            move_past(run, &step);
+            passed(&run.script, &mut run.cursor, &step);
             append(&mut run.trace, step);
             made
         }
