@@ -5,3 +5,5 @@ pub mod Decisions
 pub mod States
 pub mod Safety
 pub mod Laws
+pub mod Tables
+pub mod TableSteps

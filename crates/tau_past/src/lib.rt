@@ -1,7 +1,9 @@
 //! The causal past of a run (docs/definitions.md).
 #![tactic(auto)]
 
+mod carrying;
 mod laws;
+mod made;
 
 pub use laws::{
     nothing_heard_at_first, opening_points_stand_alone, posts_carry_nothing, rules_make_safe,

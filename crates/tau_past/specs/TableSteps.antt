@@ -1,0 +1,42 @@
+-- How a step goes on with the tables, by its kind.
+use Rattle.std.specs.Prelude.{◌≡◌, ℕ, ◌-◌, Bool, Option, None, Some, List, slice_get, length, nat_le, option_map, if◌then◌else◌}
+use Rattle.tau_history.specs.Timeline.{Timeline, interval}
+use Rattle.tau_points.specs.declared.point.Point.{Point}
+use Rattle.tau_trace.specs.declared.step.Step.{Step}
+use Rattle.tau_trace.specs.declared.step.Step.TheVariants.{Take, Set, New}
+use Rattle.tau_trace.specs.Steps.{ends_turn, is_new}
+use Rattle.tau_past.specs.declared.carrying.Carrying.{Carrying}
+use Rattle.tau_past.specs.Carried.{touches, first_point}
+use Rattle.tau_past.specs.Tables.{nothing}
+
+-- what the turn of a transactor carries
+abbrev pub carrying_of : Option (Option Carrying) → Carrying
+carrying_of (Some (Some c)) = c
+carrying_of (Some None) = nothing
+carrying_of None = nothing
+
+abbrev pub carried_by : List (Option Carrying) → Option ℕ → Carrying
+carried_by turns None = nothing
+carried_by turns (Some t) = carrying_of (slice_get turns t)
+
+-- what the turn carries after a step of its own
+abbrev pub turn_after : Step → ℕ → Point → Option ℕ → Option Carrying → Option Carrying
+turn_after (Take t m) k own origin turn = Some (record { touched = None; rest = origin })
+turn_after s k own origin turn =
+    if ends_turn s then None else (if touches s then option_map (λ c. record { touched = Some own; rest = Some k }) turn else turn)
+
+-- the place of the Send of message m, where the first so many messages are posts
+abbrev pub origin_of : List ℕ → ℕ → ℕ → Option ℕ
+origin_of sends posts m = if nat_le posts m then slice_get sends (m - posts) else None
+
+abbrev pub origin_in : List ℕ → ℕ → Step → Option ℕ
+origin_in sends posts (Take t m) = origin_of sends posts m
+origin_in sends posts s = None
+
+abbrev pub point_of : ℕ → Timeline → Point
+point_of t h = record { who = t; interval = interval h; incarnation = h.last }
+
+abbrev pub taker : Step → Point → ℕ → Option Point
+taker (Set t v) own u = Some own
+taker (New t b n v) own u = Some (first_point u)
+taker s own u = None
