@@ -1,3 +1,4 @@
 pub mod Known
+pub mod Turning
 pub mod Safety
 pub mod Expected
