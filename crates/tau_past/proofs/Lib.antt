@@ -1,4 +1,5 @@
 pub mod Known
 pub mod Turning
+pub mod NextTables
 pub mod Safety
 pub mod Expected

@@ -7,7 +7,7 @@ use Rattle.tau_trace.specs.declared.step.Step.TheVariants.{Take, Set, New}
 use Rattle.tau_trace.specs.Steps.{ends_turn, is_new}
 use Rattle.tau_past.specs.declared.carrying.Carrying.{Carrying}
 use Rattle.tau_past.specs.Carried.{touches, first_point}
-use Rattle.tau_past.specs.Tables.{nothing}
+use Rattle.tau_past.specs.Tables.{nothing, same_point}
 
 -- what the turn of a transactor carries
 abbrev pub carrying_of : Option (Option Carrying) → Carrying
@@ -40,3 +40,13 @@ abbrev pub taker : Step → Point → ℕ → Option Point
 taker (Set t v) own u = Some own
 taker (New t b n v) own u = Some (first_point u)
 taker s own u = None
+
+-- the last place at which the point, if there is one, takes
+abbrev pub latest_for : (Point → Option ℕ) → Option Point → Option ℕ
+latest_for latest None = None
+latest_for latest (Some p) = latest p
+
+-- the last places at which points take, after the point, if there is one, takes at place k
+abbrev pub latest_after : (Point → Option ℕ) → Option Point → ℕ → Point → Option ℕ
+latest_after latest None k q = latest q
+latest_after latest (Some p) k q = if same_point p q then Some k else latest q

@@ -10,6 +10,7 @@ use Rattle.tau_trace.specs.Numbering.{born, sent, IsNew, IsOrigin}
 use Rattle.tau_trace.specs.Histories.{history, Falls}
 use Rattle.tau_trace.specs.Points.{point_at}
 use Rattle.tau_trace.specs.Turns.{IsOpenTurn}
+use Rattle.tau_trace.specs.Known.{WellFormed}
 use Rattle.tau_past.specs.declared.carrying.Carrying.{Carrying}
 use Rattle.tau_past.specs.declared.made.Made.{Made}
 use Rattle.tau_past.specs.Carried.{Pending, Carried, is_set, first_point}
@@ -82,3 +83,25 @@ same_point p q = nat_eq p.who q.who && (nat_eq p.interval q.interval && nat_eq p
 -- the closing point of the interval before p's
 abbrev pub ClosesBefore : Run → Point → Point → Type 0
 ClosesBefore T p q = (i : ℕ) × (p.interval ≡ suc i) × ClosesAt T Everywhere p.who i q
+
+-- the places of the Sends before place k, in order: of the messages after the posts
+pub record ListsSends (T : Run) (k : ℕ) (places : List ℕ) : Type 0 where
+  pub count : length places + length T.opening.targets ≡ sent T k
+  pub each : (i j : ℕ) → slice_get places i ≡ Some j → TellsOrigin T (i + length T.opening.targets) (Some j)
+
+-- for each point the last place before k at which it takes
+abbrev pub TellsLatest : Run → ℕ → (Point → Option ℕ) → Type 0
+TellsLatest T k latest = (p : Point) → IsLast (TakesAt T p) k (latest p)
+
+-- the number of transactors that are told of: all that ever exist
+abbrev pub all_born : Run → ℕ
+all_born T = born T (len T)
+
+-- the tables tell of the whole trace
+pub record IsIndex (T : Run) (hs : List Stored) (cs : List Carrying) (ms : List (Option Made)) (last : Point → Option ℕ) (es : List (Option ℕ)) : Type 0 where
+  pub well_formed : WellFormed T
+  pub histories : Lists (all_born T) (TellsHistory T (len T)) hs
+  pub carried : Lists (len T) (TellsCarried T) cs
+  pub made : Lists (len T) (TellsMade T) ms
+  pub latest : TellsLatest T (len T) last
+  pub earlier : Lists (len T) (TellsEarlier T) es

@@ -4,6 +4,7 @@
 mod carrying;
 mod laws;
 mod made;
+mod noting;
 
 pub use laws::{
     nothing_heard_at_first, opening_points_stand_alone, posts_carry_nothing, rules_make_safe,
