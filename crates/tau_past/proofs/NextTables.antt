@@ -35,7 +35,7 @@ use Rattle.tau_trace.proofs.Indexing.{born-next}
 use Rattle.tau_trace.proofs.Sequences.{cases_last}
 use Rattle.tau_points.proofs.PointOrder.{point_eq-Decides}
 use Rattle.tau_past.specs.Carried.{is_set, first_point}
-use Rattle.tau_past.specs.TableSteps.{taker, latest_for, latest_after}
+use Rattle.tau_past.specs.TableSteps.{taker, latest_for, latest_after, opening_history}
 use Rattle.tau_past.specs.Tables.{TakesAt, by_set, by_new, IsLast, TellsEarlier, TellsLatest, same_point, IsIndex, HasTurn}
 use Rattle.tau_past.specs.Tables.{Lists, Tells, TellsTurn, TellsHistory, TellsOrigin, TellsCarried, TellsMade, ListsSends, all_born}
 use Rattle.tau_past.specs.TableSteps.{turn_after, carrying_of, carried_by, origin_of, origin_in, point_of}
@@ -310,12 +310,8 @@ born_next T k b made is at = next_place (λ n. (if made then b + 1 else b) ≡ b
 pub lists_none : {A : Type 0} (P : ℕ → A → Type 0) (xs : List A) → xs ≡ [] → Lists 0 P xs
 lists_none P xs e = subst (Lists 0 P) (sym e) (record { count = refl; each = λ k x f. absurd (cc) })
 
-pub history_opening : (T : Run) (t : ℕ) (h : Timeline) → t < starts T → h ≡ opening → TellsHistory T 0 t (record { history = h; spare = 0 })
-history_opening T t h lt e = e ∙ sym (at_start lt) ∙ sym (history-zero T t) where
-  at_start : t < starts T → opened T t ≡ opening
-  at_start l = search arith
+pub history_told : (T : Run) (t n : ℕ) (h : Timeline) → n ≡ starts T → h ≡ opening_history n t → h ≡ history T t 0
+history_told T t n h few e = e ∙ ap (λ m. opening_history m t) few ∙ sym (history-zero T t)
 
-pub history_newborn : (T : Run) (t : ℕ) (h : Timeline) → starts T ≤ t → h ≡ newborn → TellsHistory T 0 t (record { history = h; spare = 0 })
-history_newborn T t h le e = e ∙ sym (at_new le) ∙ sym (history-zero T t) where
-  at_new : starts T ≤ t → opened T t ≡ newborn
-  at_new l = search arith
+pub idle_told : (T : Run) (t : ℕ) → TellsTurn T 0 t None
+idle_told T t = λ place m u. omega (arith, u.before)

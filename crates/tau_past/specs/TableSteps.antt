@@ -1,6 +1,6 @@
 -- How a step goes on with the tables, by its kind.
-use Rattle.std.specs.Prelude.{◌≡◌, ℕ, ◌-◌, Bool, Option, None, Some, List, slice_get, length, nat_le, option_map, if◌then◌else◌}
-use Rattle.tau_history.specs.Timeline.{Timeline, interval}
+use Rattle.std.specs.Prelude.{◌≡◌, ℕ, ◌-◌, Bool, Option, None, Some, List, slice_get, length, nat_le, nat_lt, option_map, if◌then◌else◌, ◌||◌, ◌==◌}
+use Rattle.tau_history.specs.Timeline.{Timeline, interval, numbers, opening, newborn}
 use Rattle.tau_points.specs.declared.point.Point.{Point}
 use Rattle.tau_trace.specs.declared.step.Step.{Step}
 use Rattle.tau_trace.specs.declared.step.Step.TheVariants.{Take, Set, New}
@@ -50,3 +50,13 @@ latest_for latest (Some p) = latest p
 abbrev pub latest_after : (Point → Option ℕ) → Option Point → ℕ → Point → Option ℕ
 latest_after latest None k q = latest q
 latest_after latest (Some p) k q = if same_point p q then Some k else latest q
+
+-- the point at which the interval before the point's was closed, by the history of its transactor
+abbrev pub closing_in : Timeline → Point → Option Point
+closing_in h p =
+    if (p.interval == 0 || nat_lt (interval h) p.interval) then None
+    else option_map (λ n. record { who = p.who; interval = p.interval - 1; incarnation = n }) (slice_get (numbers h) (p.interval - 1))
+
+-- the history with which a transactor opens
+abbrev pub opening_history : ℕ → ℕ → Timeline
+opening_history starts t = if nat_lt t starts then opening else newborn

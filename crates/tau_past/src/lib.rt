@@ -2,6 +2,7 @@
 #![tactic(auto)]
 
 mod carrying;
+mod index;
 mod laws;
 mod made;
 mod noting;

@@ -176,7 +176,7 @@ pub(crate) fn note_made(
 }
 
 /// The point that takes by the step at a place; `None` where none does.
-fn taker_at(histories: &[History], born: u32, trace: &Trace, place: u32) -> Option<Point>
+pub(crate) fn taker_at(histories: &[History], born: u32, trace: &Trace, place: u32) -> Option<Point>
     requires well_formed { WellFormed trace.now.run }
     requires place { place < len trace.now.run }
     requires histories { Lists (all_born trace.now.run) (TellsHistory trace.now.run place) histories.now }
