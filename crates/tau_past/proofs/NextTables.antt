@@ -17,7 +17,7 @@ use Rattle.tau_trace.specs.Histories.{history, opened, move_at, move_of, is_fall
 use Rattle.tau_trace.specs.Points.{point_at}
 use Rattle.tau_trace.specs.Known.{WellFormed}
 use Rattle.tau_trace.proofs.Agreement.{born-grows, sent-grows}
-use Rattle.tau_trace.proofs.Counts.{count-suc}
+use Rattle.tau_trace.proofs.Counts.{count-suc, count-zero}
 use Rattle.tau_trace.proofs.Counted.{history-zero, history-suc, move_at-own}
 use Rattle.tau_trace.proofs.Indexing.{sent-next}
 use Rattle.tau_trace.proofs.Lists.{same_some, slice_get-set_same, slice_get-set_other, slice_get-push_cases}
@@ -315,3 +315,15 @@ history_told T t n h few e = e ∙ ap (λ m. opening_history m t) few ∙ sym (h
 
 pub idle_told : (T : Run) (t : ℕ) → TellsTurn T 0 t None
 idle_told T t = λ place m u. omega (arith, u.before)
+
+pub born_zero : (T : Run) (n : ℕ) → n ≡ starts T → n ≡ born T 0
+born_zero T n e = omega (arith, e, count-zero (λ j. option_map_or is_new (step_at T j) false))
+
+pub sends_zero : (T : Run) (xs : List ℕ) → xs ≡ [] → ListsSends T 0 xs
+sends_zero T xs e = subst (ListsSends T 0) (sym e) (record {
+  count = omega (arith, count-zero (λ j. option_map_or is_send (step_at T j) false));
+  each = λ i j f. absurd (cc);
+})
+
+pub latest_zero : (T : Run) (latest : Point → Option ℕ) → ((p : Point) → latest p ≡ None) → TellsLatest T 0 latest
+latest_zero T latest none p = subst (IsLast (TakesAt T p) 0) (sym (none p)) (λ j l. absurd (omega (arith, l)))

@@ -1,5 +1,5 @@
 //! The index of a trace, by which pasts are searched.
-ghost use Rattle.std.specs.Prelude.{◌≡◌, ◌<◌, ◌↔◌, IsTrue, IfOk, Option, Some, slice_get};
+ghost use Rattle.std.specs.Prelude.{◌≡◌, ◌<◌, ◌↔◌, IsTrue, IfOk, Option, Some, slice_get, option_copied};
 ghost use Rattle.std.specs.HashMap.{get};
 ghost use Rattle.tau_points.specs.declared.point.Point.{Point};
 ghost use Rattle.tau_trace.specs.Run.{Run, len};
@@ -125,19 +125,28 @@ impl<'a> Index<'a> {
     pub(crate) fn closing_before(&self, point: &Point) -> Option<Point>
         ensures { (q : Point) → ClosesBefore self.now point.now q ↔ (result ≡ Some q) }
     {
-        let history = self.histories.get(point.who as usize)?;
-        closing_in(history, point)
+        match history_of(&self.histories, point.who) {
+            Some(history) => closing_in(history, point),
+            None => None,
+        }
     }
 
     /// Whether the point is rolled back.
     pub(crate) fn is_rolled_back(&self, point: &Point) -> bool
         ensures { IsTrue result ↔ RolledBack self.now point.now }
     {
-        match self.histories.get(point.who as usize) {
+        match history_of(&self.histories, point.who) {
             Some(history) => is_fallen(history.fate(point.interval, point.incarnation)),
             None => false,
         }
     }
+}
+
+/// The history of a transactor.
+fn history_of(histories: &[History], who: u32) -> Option<&History>
+    ensures { option_copied result ≡ slice_get histories.now who }
+{
+    histories.get(who as usize)
 }
 
 /// The point at which the interval before the point's was closed, by the history of its transactor.
