@@ -2,5 +2,6 @@ pub mod Known
 pub mod Turning
 pub mod NextTables
 pub mod Endings
+pub mod Listings
 pub mod Safety
 pub mod Expected

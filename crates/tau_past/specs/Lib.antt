@@ -7,3 +7,4 @@ pub mod Safety
 pub mod Laws
 pub mod Tables
 pub mod TableSteps
+pub mod Searching

@@ -2,8 +2,10 @@
 #![tactic(auto)]
 
 mod carrying;
+mod found;
 mod index;
 mod laws;
+mod listing;
 mod made;
 mod noting;
 
