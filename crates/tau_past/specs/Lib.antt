@@ -8,3 +8,4 @@ pub mod Laws
 pub mod Tables
 pub mod TableSteps
 pub mod Searching
+pub mod Audits

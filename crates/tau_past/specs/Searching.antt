@@ -1,6 +1,7 @@
 -- What a search for pasts goes through: points found and points left, and places whose carried points were listed.
-use Rattle.std.specs.Prelude.{◌≡◌, ◌⊎◌, ℕ, ◌<◌, ◌≤◌, Bool, true, List, Option, Some, IsTrue, slice_get, Contains}
+use Rattle.std.specs.Prelude.{◌≡◌, ◌⊎◌, ℕ, ◌<◌, ◌≤◌, Bool, true, List, Option, Some, IsTrue, slice_get, Contains, length, ◌+◌}
 use Rattle.tau_points.specs.declared.point.Point.{Point}
+use Rattle.tau_points.specs.Members as members
 use Rattle.tau_trace.specs.Run.{Run, len}
 use Rattle.tau_past.specs.Carried.{Carried}
 use Rattle.tau_past.specs.Pasts.{Link, Past, Everywhere}
@@ -64,3 +65,8 @@ pub record PastHasFallen (T : Run) (p : Point) : Type 0 where
 -- each rolled-back point that was found was found before
 abbrev pub FoundNoFallen : Run → List Point → List Point → Type 0
 FoundNoFallen T found0 found = (q : Point) → Contains found q → RolledBack T q → Contains found0 q
+
+-- one point of a search: it was found before, and nothing changes; or it is found now, and all that it leads to is left
+pub data Visits (T : Run) (p : Point) (found0 found : List Point) (passed0 passed : List Bool) (left0 left : List Point) : Type 0 where
+  known : Contains found0 p → found ≡ found0 → passed ≡ passed0 → left ≡ left0 → Visits T p found0 found passed0 passed left0 left
+  fresh : (¬ Contains found0 p) → members.Adds found0 found p → length found ≡ length found0 + 1 → AddsFollowing T p passed0 passed left0 left → Visits T p found0 found passed0 passed left0 left

@@ -1,11 +1,12 @@
 -- How a step goes on with the tables, by its kind.
-use Rattle.std.specs.Prelude.{◌≡◌, ℕ, ◌-◌, Bool, Option, None, Some, List, slice_get, length, nat_le, nat_lt, option_map, if◌then◌else◌, ◌||◌, ◌==◌}
+use Rattle.std.specs.Prelude.{◌≡◌, ℕ, ◌-◌, Bool, true, false, Option, None, Some, List, slice_get, length, nat_le, nat_lt, option_map, if◌then◌else◌, ◌||◌, ◌==◌}
 use Rattle.tau_history.specs.Timeline.{Timeline, interval, numbers, opening, newborn}
 use Rattle.tau_points.specs.declared.point.Point.{Point}
 use Rattle.tau_trace.specs.declared.step.Step.{Step}
 use Rattle.tau_trace.specs.declared.step.Step.TheVariants.{Take, Set, New}
 use Rattle.tau_trace.specs.Steps.{ends_turn, is_new}
 use Rattle.tau_past.specs.declared.carrying.Carrying.{Carrying}
+use Rattle.tau_past.specs.declared.made.Made.{Made}
 use Rattle.tau_past.specs.Carried.{touches, first_point}
 use Rattle.tau_past.specs.Tables.{nothing, same_point}
 
@@ -60,3 +61,9 @@ closing_in h p =
 -- the history with which a transactor opens
 abbrev pub opening_history : ℕ → ℕ → Timeline
 opening_history starts t = if nat_lt t starts then opening else newborn
+
+-- the point at which a step was made, where it is a Checkpoint
+abbrev pub checked_point : Bool → Option Made → Option Point
+checked_point true (Some m) = Some m.point
+checked_point true None = None
+checked_point false m = None

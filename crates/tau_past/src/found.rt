@@ -36,6 +36,7 @@ impl Found {
     pub(crate) fn insert(&mut self, point: Point) -> Result<bool, AllocError>
         ensures members { OnOk result (Adds self.old self.new point) }
         ensures more { IfOk result (λ added. OnTrue added (length self.new ≡ length self.old + 1)) }
+        ensures fresh { IfOk result (λ added. OnTrue added (¬ Contains self.old point)) }
         ensures known { IfOk result (λ added. OnFalse added (Contains self.old point)) }
         ensures unchanged { IfOk result (λ added. OnFalse added (self.new ≡ self.old)) }
         ensures small { OnOk result (length self.new < 2 ^ 63) }

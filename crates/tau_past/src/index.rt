@@ -1,11 +1,14 @@
 //! The index of a trace, by which pasts are searched.
-ghost use Rattle.std.specs.Prelude.{◌≡◌, ◌<◌, ◌↔◌, IsTrue, IfOk, Option, Some, slice_get, option_copied};
+ghost use Rattle.std.specs.Prelude.{◌≡◌, ◌<◌, ◌↔◌, IsTrue, IfOk, Option, Some, slice_get, option_copied, false};
 ghost use Rattle.std.specs.HashMap.{get};
 ghost use Rattle.tau_points.specs.declared.point.Point.{Point};
-ghost use Rattle.tau_trace.specs.Run.{Run, len};
+ghost use Rattle.std.specs.Option.{option_map_or};
+ghost use Rattle.tau_trace.specs.Steps.{is_checkpoint};
+ghost use Rattle.tau_trace.specs.Run.{Run, len, step_at};
 ghost use Rattle.tau_trace.specs.Known.{WellFormed};
 ghost use Rattle.tau_past.specs.Safety.{RolledBack};
-ghost use Rattle.tau_past.specs.TableSteps.{closing_in, opening_history};
+ghost use Rattle.tau_past.specs.Audits.{ChecksAt};
+ghost use Rattle.tau_past.specs.TableSteps.{closing_in, opening_history, checked_point};
 ghost use Rattle.tau_past.specs.Tables.{Lists, TellsHistory, TellsTurn, TellsCarried, TellsMade, TellsEarlier, TakesAt, IsLast, ClosesBefore, all_born, same_point};
 
 use crate::carrying::Carrying;
@@ -18,7 +21,7 @@ use std::collections::HashMap;
 use std::marker::Model;
 use tau_history::{Fate, History};
 use tau_points::Point;
-use tau_trace::Trace;
+use tau_trace::{Step, Trace};
 
 /// What the steps of a trace carry and which points take it, each step by an earlier one, so that the index is linear
 /// in the trace; and the histories of all transactors after the trace. Contracts see the run.
@@ -35,7 +38,8 @@ pub(crate) struct Index<'a> {
 impl<'a> Model for Index<'a> {
     ghost use Rattle.std.specs.HashMap.{get};
     ghost use Rattle.tau_trace.specs.Run.{Run};
-    ghost use Rattle.tau_past.specs.TableSteps.{closing_in, opening_history};
+    ghost use Rattle.tau_past.specs.Audits.{ChecksAt};
+ghost use Rattle.tau_past.specs.TableSteps.{closing_in, opening_history, checked_point};
 ghost use Rattle.tau_past.specs.Tables.{IsIndex, same_point};
 
     ghost use Rattle.std.specs.Coded.{codes};
@@ -106,6 +110,24 @@ impl<'a> Index<'a> {
         self.made[place as usize]
     }
 
+    /// The point at which a Checkpoint was made at a place; `None` where no Checkpoint stands there.
+    pub(crate) fn checkpoint_at(&self, place: u32) -> Option<Point>
+        requires { place < len self.now }
+        ensures { (p : Point) → ChecksAt self.now place p ↔ (result ≡ Some p) }
+    {
+        checked_point(self.is_checkpoint_at(place), self.made_at(place))
+    }
+
+    /// Whether a Checkpoint stands at a place.
+    fn is_checkpoint_at(&self, place: u32) -> bool
+        ensures { result ≡ option_map_or is_checkpoint (step_at self.now place) false }
+    {
+        match self.trace.step(place) {
+            Some(Step::Checkpoint { .. }) => true,
+            _ => false,
+        }
+    }
+
     /// The last place at which a point takes.
     pub(crate) fn latest_of(&self, point: &Point) -> Option<u32>
         ensures { IsLast (TakesAt self.now point.now) (len self.now) result }
@@ -139,6 +161,16 @@ impl<'a> Index<'a> {
             Some(history) => is_fallen(history.fate(point.interval, point.incarnation)),
             None => false,
         }
+    }
+}
+
+/// The point at which a step was made, where it is a Checkpoint.
+fn checked_point(is_checkpoint: bool, made: Option<Made>) -> Option<Point>
+    ensures { result ≡ checked_point is_checkpoint made }
+{
+    match made {
+        Some(made) if is_checkpoint => Some(made.point),
+        _ => None,
     }
 }
 
