@@ -4,5 +4,6 @@ pub mod NextTables
 pub mod Endings
 pub mod Listings
 pub mod PastSearch
+pub mod Breaches
 pub mod Safety
 pub mod Expected
