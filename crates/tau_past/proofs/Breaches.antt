@@ -1,11 +1,12 @@
 -- What an audit keeps and finds.
-use Rattle.std.proofs.Common.{◌≡◌, ◌≢◌, ◌⊎◌, ◌↔◌, inl, inr, ⊎_elim, ℕ, zero, suc, ◌+◌, ◌<◌, ◌≤◌, Bool, true, false, ◌&&◌, IsTrue, List, [], ◌∷◌, ◌++◌, Option, Some, None, length, get_or, refl, sym, ap, ◌∙◌, subst, arith}
+use Rattle.std.proofs.Common.{◌≡◌, ◌≢◌, ◌⊎◌, ◌↔◌, inl, inr, ⊎_elim, ℕ, zero, suc, ◌+◌, ◌<◌, ◌≤◌, Bool, true, false, ◌&&◌, IsTrue, List, [], ◌∷◌, ◌++◌, Option, Some, None, length, get_or, take, drop, append-nil, refl, sym, ap, ◌∙◌, subst, arith}
 use Rattle.std.specs.Prelude.{option_and_then, slice_get, Contains, if◌then◌else◌}
-use Rattle.std.specs.Bool.{OnTrue, OnFalse, Decides}
+use Rattle.std.specs.Bool.{OnTrue, OnFalse, Decides, then_some}
 use Rattle.std.specs.Option.{option_map_or}
 use Rattle.std.specs.declared.cmp.Ordering.TheVariants.{Less}
 use Rattle.std.proofs.lemmas.Bool.{and_parts, cases_lt}
-use Rattle.std.proofs.lemmas.List.{get_or_default}
+use Rattle.std.proofs.lemmas.List.{get_or_default, take_all}
+use Rattle.std.proofs.Math.ListN.{drop_of_length-le}
 use Rattle.std.proofs.lemmas.Map.Keys.{Less-from_sorted}
 use Rattle.std.proofs.lemmas.Option.{slice_get_within}
 use Rattle.tau_points.specs.declared.point.Point.{Point}
@@ -77,7 +78,7 @@ checkpoint_told T k test made o is told e p = by test made (sym is) told e where
 
 -- one Checkpoint after the other
 
-pub checked_some : (T : Run) (k : ℕ) (point : Point) (o : Option Point) (found0 found : List Point) (fallen : Bool) → ((p : Point) → ChecksAt T k p ↔ (o ≡ Some p)) → o ≡ Some point → AddsPast T point found0 found → OnTrue fallen (PastHasFallen T point) → OnFalse fallen (FoundNoFallen T found0 found) → (r : Option Point) → r ≡ (if fallen then Some point else None) → Checked T k found0 found r
+pub checked_some : (T : Run) (k : ℕ) (point : Point) (o : Option Point) (found0 found : List Point) (fallen : Bool) → ((p : Point) → ChecksAt T k p ↔ (o ≡ Some p)) → o ≡ Some point → AddsPast T point found0 found → OnTrue fallen (PastHasFallen T point) → OnFalse fallen (FoundNoFallen T found0 found) → (r : Option Point) → r ≡ then_some fallen point → Checked T k found0 found r
 checked_some T k point o found0 found true told e adds f s r is = subst (Checked T k found0 found) (sym is) ((told point).1 e, f)
 checked_some T k point o found0 found false told e adds f s r is = subst (Checked T k found0 found) (sym is) (record {
   kept = λ q h. (adds q).1 (inl h);
@@ -198,3 +199,11 @@ safe_iff T (audits.Broken c q f) b = (λ e. absurd (cc), λ s. absurd (not_safe 
 pub audit_of : (T : Run) (a : Audit) → IsUnsafe T a → IsAudit T a
 audit_of T audits.Safe h = absurd h
 audit_of T (audits.Broken c q f) b = b
+
+-- a vector after a call that wrote to the slice of its items
+pub slice_back : (xs ys : List Bool) (n : ℕ) → n ≡ length ys → length xs ≡ length ys → take n (xs ++ drop (length xs) ys) ≡ xs
+slice_back xs ys n e f =
+    ap (λ zs. take n (xs ++ zs)) (drop_of_length-le ys {i = length xs} (omega (arith, f))) ∙ ap (take n) (append-nil xs) ∙ take_all n xs (omega (arith, e, f))
+
+pub checking_first : (T : Run) (k : ℕ) (o : Option Point) (found0 found : List Point) → o ≡ None → Checked T k found0 found o → Checking T k found0 → Checking T (k + 1) found
+checking_first T k o found0 found e a c = checking_on T k found0 found (subst (Checked T k found0 found) e a) c
