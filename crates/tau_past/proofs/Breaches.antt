@@ -127,9 +127,9 @@ least_found T points i p up lt is back none = ((i, lt, sym is), back, least) whe
   least q c r = ⊎_elim
       (λ (low : c.0 < i). absurd (none c.0 q low (subst (RolledBack T) (sym c.2) r)))
       (λ (high : i ≤ c.0). ⊎_elim
-        (λ (less : i < c.0). inr (subst (λ (x : Point). point_cmp p x ≡ Less) c.2 (subst (λ (x : Point). point_cmp x (get_or points c.0 q) ≡ Less) (get_or_default points i q p lt ∙ sym is) (Less-from_sorted point_cmp points i c.0 q up less c.1))))
-        (λ (le : c.0 ≤ i). let same : i ≡ c.0 = omega arith in inl (is ∙ ap (λ n. get_or points n p) same ∙ get_or_default points c.0 p q c.1 ∙ c.2))
-        (cases_lt i c.0))
+      (λ (less : i < c.0). inr (subst (λ (x : Point). point_cmp p x ≡ Less) c.2 (subst (λ (x : Point). point_cmp x (get_or points c.0 q) ≡ Less) (get_or_default points i q p lt ∙ sym is) (Less-from_sorted point_cmp points i c.0 q up less c.1))))
+      (λ (le : c.0 ≤ i). let same : i ≡ c.0 = omega arith in inl (is ∙ ap (λ n. get_or points n p) same ∙ get_or_default points c.0 p q c.1 ∙ c.2))
+      (cases_lt i c.0))
       (cases_lt c.0 i)
 
 pub least_none : (T : Run) (points : List Point) (i : ℕ) → length points ≤ i → ((k : ℕ) (d : Point) → k < i → ¬ RolledBack T (get_or points k d)) → IsLeastFallen T points None

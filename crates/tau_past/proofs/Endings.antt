@@ -133,11 +133,14 @@ closing_iff T p q = (forth, back) where
   back : closing_in (history T p.who (len T)) p ≡ Some q → ClosesBefore T p q
   back e =
       let b = is_found (history T p.who (len T)) p q e in
-      let c = fates.closed.0 (subst (λ t. IsClosed (history T t (len T)) q.interval q.incarnation) (sym b.who_is) b.closed) in
-      (q.interval, b.interval_is, ⊎_elim
-        (λ o. opening b.who_is o.interval_is o)
-        (λ m. checkpoint {j = m.place} tt (subst (λ t. Closes T t m.place) b.who_is m.holds) (m.at_point ∙ ap (λ t. point_at T t m.place) b.who_is) refl)
-        c)
+      let c = fates.closed.0 (subst (λ t. IsClosed (history T t (len T)) q.interval q.incarnation) (sym b.who_is) b.closed) in (
+        q.interval,
+        b.interval_is,
+        ⊎_elim
+            (λ o. opening b.who_is o.interval_is o)
+            (λ m. checkpoint {j = m.place} tt (subst (λ t. Closes T t m.place) b.who_is m.holds) (m.at_point ∙ ap (λ t. point_at T t m.place) b.who_is) refl)
+            c,
+      )
 
 -- as the calls of the index have them
 

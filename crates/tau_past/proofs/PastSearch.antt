@@ -38,10 +38,13 @@ searched_start T p found passed left e c = subst (Searched T p found found passe
 pub searched_end : (T : Run) (p : Point) (found0 found : List Point) (passed : List Bool) (left : List Point) → left ≡ [] → Searched T p found0 found passed left → IsComplete T found passed × AddsPast T p found0 found
 searched_end T p found0 found passed left e s = (
   record { follows = λ x y h l. here y (s.follows x y h l); listed = λ q h. here q (s.listed q h) },
-  λ q. (λ h. s.sound q (inl h), λ c. ⊎_elim (λ h. s.kept q h) (λ r. least (Link T Everywhere) (Is p) (Contains found) (record {
-    starts = λ x f. subst (Contains found) (sym f) (here p s.begins);
-    follows = λ x y h l. here y (s.follows x y h l);
-  }) q r) c),
+  λ q. (
+    λ h. s.sound q (inl h),
+    λ c. ⊎_elim (λ h. s.kept q h) (λ r. least (Link T Everywhere) (Is p) (Contains found) (record {
+      starts = λ x f. subst (Contains found) (sym f) (here p s.begins);
+      follows = λ x y h l. here y (s.follows x y h l);
+    }) q r) c,
+  ),
 ) where
   here : (q : Point) → Contains found q ⊎ Contains left q → Contains found q
   here q c = ⊎_elim (λ h. h) (λ h. absurd (Contains-none q (subst (λ (l : List Point). Contains l q) e h))) c

@@ -39,9 +39,8 @@ impl<'a> Model for Index<'a> {
     ghost use Rattle.std.specs.HashMap.{get};
     ghost use Rattle.tau_trace.specs.Run.{Run};
     ghost use Rattle.tau_past.specs.Audits.{ChecksAt};
-ghost use Rattle.tau_past.specs.TableSteps.{closing_in, opening_history, checked_point};
-ghost use Rattle.tau_past.specs.Tables.{IsIndex, same_point};
-
+    ghost use Rattle.tau_past.specs.TableSteps.{closing_in, opening_history, checked_point};
+    ghost use Rattle.tau_past.specs.Tables.{IsIndex, same_point};
     ghost use Rattle.std.specs.Coded.{codes};
     ghost use Rattle.tau_value.specs.Val.{val_code};
 

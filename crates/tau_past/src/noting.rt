@@ -109,11 +109,7 @@ pub(crate) fn note_turn(
 }
 
 /// Notes a Send.
-pub(crate) fn note_send(
-    sends: &mut Vec<u32>,
-    trace: &Trace,
-    place: u32,
-) -> Result<(), AllocError>
+pub(crate) fn note_send(sends: &mut Vec<u32>, trace: &Trace, place: u32) -> Result<(), AllocError>
     requires well_formed { WellFormed trace.now.run }
     requires place { place < len trace.now.run }
     requires told { ListsSends trace.now.run place sends.old.items }
@@ -244,5 +240,9 @@ pub(crate) fn born_after(born: u32, trace: &Trace, place: u32) -> u32
     requires born { born ≡ numbering.born trace.now.run place }
     ensures { result ≡ numbering.born trace.now.run (place + 1) }
 {
-    if is_new_at(trace, place) { born + 1 } else { born }
+    if is_new_at(trace, place) {
+        born + 1
+    } else {
+        born
+    }
 }
