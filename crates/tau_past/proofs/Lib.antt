@@ -1,3 +1,4 @@
 pub mod Known
 pub mod Safety
 pub mod Expected
+pub mod Agreement

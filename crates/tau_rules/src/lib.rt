@@ -1,0 +1,6 @@
+//! The rules of a run: which step fits after the steps before it (docs/rules.md, "Steps").
+#![tactic(auto)]
+
+mod laws;
+
+pub use laws::fitting_traces_are_safe;
