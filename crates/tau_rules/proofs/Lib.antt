@@ -1,1 +1,2 @@
 pub mod SafetyLemmas
+pub mod LocalLemmas

@@ -1,10 +1,17 @@
 -- Laws of fitting traces, each the contract of a function of the crate.
 use Rattle.tau_tree.specs.declared.programs.Program.{Program}
-use Rattle.tau_trace.specs.Run.{Run}
-use Rattle.tau_trace.specs.Known.{WellFormed}
+use Rattle.std.specs.Prelude.{ℕ}
+use Rattle.tau_trace.specs.declared.step.Step.{Step}
+use Rattle.tau_trace.specs.Run.{Run, Agree}
+use Rattle.tau_trace.specs.Known.{WellFormed, IsKnownAt}
 use Rattle.tau_past.specs.Safety.{Safe}
+use Rattle.tau_rules.specs.Fits.{Fits}
 use Rattle.tau_rules.specs.Traces.{Fitting}
 
 -- whatever the program, a fitting trace is safe
 abbrev pub FittingTracesAreSafe : Type 0
 FittingTracesAreSafe = (P : Program) (T : Run) → WellFormed T → Fitting P T → Safe T
+
+-- which step fits at a place reads the opening and the steps before it alone
+abbrev pub FittingIsLocal : Type 0
+FittingIsLocal = (P : Program) (T U : Run) (k : ℕ) (s : Step) → WellFormed T → WellFormed U → Agree T U k → IsKnownAt T k s → Fits P T k s → Fits P U k s
