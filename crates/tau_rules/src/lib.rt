@@ -3,4 +3,4 @@
 
 mod laws;
 
-pub use laws::{fitting_is_local, fitting_traces_are_safe};
+pub use laws::{fitting_is_local, fitting_traces_are_safe, fitting_traces_grow};
