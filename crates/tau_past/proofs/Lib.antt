@@ -1,3 +1,5 @@
 pub mod Known
 pub mod Safety
 pub mod Expected
+pub mod PendingLemmas
+pub mod HeardLemmas

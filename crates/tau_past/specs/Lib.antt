@@ -5,3 +5,4 @@ pub mod Decisions
 pub mod States
 pub mod Safety
 pub mod Laws
+pub mod KnownLaws

@@ -1,0 +1,74 @@
+//! Laws of what is pending, heard and fixed, each the contract of a function that does nothing.
+ghost use Rattle.std.specs.Prelude.{ℕ};
+ghost use Rattle.tau_past.specs.KnownLaws.{TurnsStepByStep, PendingStepByStep, PendingNeedsATurn, PendingPointsWereTouched, CarriedPointsWereTouched, SentPointsWereTouched, WhatIsHeardIsClosed, UnionsAreClosed, ClosedSetsHoldWhatWasHeard, WhatIsHeardStandsBefore, HeardStepByStep, MessagesHearWithTheirSender, HeardGrows};
+
+/// Any set of places, for the laws of closed sets.
+pub trait AnyPlaces {
+    ghost holds: { ℕ → Type 0 };
+}
+
+/// Which turns are open after a step, by its kind (docs/definitions.md, "Open turn").
+pub fn turns_step_by_step()
+    ensures { TurnsStepByStep }
+{}
+
+/// What the next step would carry after a step, by its kind (docs/definitions.md, "Carried").
+pub fn pending_step_by_step()
+    ensures { PendingStepByStep }
+{}
+
+/// Between turns nothing would be carried (docs/definitions.md, "Carried").
+pub fn pending_needs_a_turn()
+    ensures { PendingNeedsATurn }
+{}
+
+/// What a step would carry was the point of a touching step that its transactor has heard of (docs/definitions.md,
+/// "Carried", "Heard").
+pub fn pending_points_were_touched()
+    ensures { PendingPointsWereTouched }
+{}
+
+/// What a place of a closed set carries was the point of a touching step in the set (docs/definitions.md, "Carried").
+pub fn carried_points_were_touched<H: AnyPlaces>()
+    ensures { CarriedPointsWereTouched H.holds }
+{}
+
+/// What a message carries was the point of a touching step that it has heard of (docs/definitions.md, "Carried").
+pub fn sent_points_were_touched()
+    ensures { SentPointsWereTouched }
+{}
+
+/// What transactors and messages have heard is closed (docs/definitions.md, "Heard").
+pub fn what_is_heard_is_closed()
+    ensures { WhatIsHeardIsClosed }
+{}
+
+/// The union of two closed sets is closed (docs/definitions.md, "Heard").
+pub fn unions_are_closed<H: AnyPlaces, G: AnyPlaces>()
+    ensures { UnionsAreClosed H.holds G.holds }
+{}
+
+/// With a step a closed set contains all that was heard there (docs/definitions.md, "Heard").
+pub fn closed_sets_hold_what_was_heard<H: AnyPlaces>()
+    ensures { ClosedSetsHoldWhatWasHeard H.holds }
+{}
+
+/// What is heard stands before the place where it is heard (docs/definitions.md, "Heard").
+pub fn what_is_heard_stands_before()
+    ensures { WhatIsHeardStandsBefore }
+{}
+
+/// What a transactor has heard after a step, by its kind (docs/definitions.md, "Heard").
+pub fn heard_step_by_step()
+    ensures { HeardStepByStep }
+{}
+
+/// A message has heard what its sender had heard, and its Send (docs/definitions.md, "Heard").
+pub fn messages_hear_with_their_sender()
+    ensures { MessagesHearWithTheirSender }
+{}
+
+/// What was heard stays heard (docs/definitions.md, "Heard").
+pub fn heard_grows()
+    ensures { HeardGrows }
+{}
