@@ -3,3 +3,5 @@ pub mod Safety
 pub mod Expected
 pub mod PendingLemmas
 pub mod HeardLemmas
+pub mod BoundLemmas
+pub mod FixedLemmas

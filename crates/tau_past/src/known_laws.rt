@@ -1,6 +1,6 @@
 //! Laws of what is pending, heard and fixed, each the contract of a function that does nothing.
 ghost use Rattle.std.specs.Prelude.{ℕ};
-ghost use Rattle.tau_past.specs.KnownLaws.{TurnsStepByStep, PendingStepByStep, PendingNeedsATurn, PendingPointsWereTouched, CarriedPointsWereTouched, SentPointsWereTouched, WhatIsHeardIsClosed, UnionsAreClosed, ClosedSetsHoldWhatWasHeard, WhatIsHeardStandsBefore, HeardStepByStep, MessagesHearWithTheirSender, HeardGrows};
+ghost use Rattle.tau_past.specs.KnownLaws.{TurnsStepByStep, PendingStepByStep, PendingNeedsATurn, PendingPointsWereTouched, CarriedPointsWereTouched, SentPointsWereTouched, WhatIsHeardIsClosed, UnionsAreClosed, ClosedSetsHoldWhatWasHeard, WhatIsHeardStandsBefore, HeardStepByStep, MessagesHearWithTheirSender, HeardGrows, ClosedSetsHoldEarlierSteps, BoundsAreUnique, UnionsHaveTheGreaterBound, WhatIsHeardHasBounds, CheckpointsFixTheirPast};
 
 /// Any set of places, for the laws of closed sets.
 pub trait AnyPlaces {
@@ -71,4 +71,30 @@ pub fn messages_hear_with_their_sender()
 /// What was heard stays heard (docs/definitions.md, "Heard").
 pub fn heard_grows()
     ensures { HeardGrows }
+{}
+
+/// With a step a closed set contains each earlier step of its actor (docs/definitions.md, "Heard").
+pub fn closed_sets_hold_earlier_steps<H: AnyPlaces>()
+    ensures { ClosedSetsHoldEarlierSteps H.holds }
+{}
+
+/// The steps of a transactor in a set are those before one bound at most (docs/definitions.md, "Heard").
+pub fn bounds_are_unique<H: AnyPlaces>()
+    ensures { BoundsAreUnique H.holds }
+{}
+
+/// The bound of a union is the greater of the two bounds (docs/definitions.md, "Heard").
+pub fn unions_have_the_greater_bound<H: AnyPlaces, G: AnyPlaces>()
+    ensures { UnionsHaveTheGreaterBound H.holds G.holds }
+{}
+
+/// What transactors and messages have heard has a bound for each transactor (docs/definitions.md, "Heard").
+pub fn what_is_heard_has_bounds()
+    ensures { WhatIsHeardHasBounds }
+{}
+
+/// The past of a Checkpoint's point is what its transactor knew of it there, settled and never rolled back
+/// (docs/definitions.md, "Past", "Known in a set", "Safe").
+pub fn checkpoints_fix_their_past()
+    ensures { CheckpointsFixTheirPast }
 {}
