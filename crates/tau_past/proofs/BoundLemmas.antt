@@ -2,26 +2,33 @@
 use Rattle.std.proofs.Common.{◌≡◌, ◌≢◌, ◌⊎◌, ◌↔◌, inl, inr, ⊎_elim, ℕ, zero, suc, ◌+◌, ◌<◌, ◌≤◌, max, false, cond, Option, Some, None, refl, sym, ap, ◌∙◌, subst, arith}
 use Rattle.std.specs.Prelude.{option_and_then}
 use Rattle.std.specs.Option.{option_map_or}
+use Rattle.tau_history.specs.Timeline.{keep, moved}
 use Rattle.tau_points.specs.Reach.{start}
 use Rattle.tau_trace.specs.declared.step.Step.{Step}
 use Rattle.tau_trace.specs.declared.step.Step.TheVariants.{Send, New}
 use Rattle.tau_trace.specs.Steps.{actor, is_new, is_send}
 use Rattle.tau_trace.specs.Run.{Run, step_at, ActsAt}
 use Rattle.tau_trace.specs.Numbering.{born, sent, IsNew, IsOrigin}
+use Rattle.tau_trace.specs.Histories.{history, move_at}
 use Rattle.tau_trace.specs.Known.{WellFormed}
+use Rattle.tau_trace.proofs.Counted.{history-suc}
 use Rattle.tau_trace.proofs.Counts.{count-suc}
 use Rattle.tau_trace.proofs.Lists.{same_some}
 use Rattle.tau_trace.proofs.LivingLemmas.{equal_or_not}
+use Rattle.tau_trace.proofs.Moves.{move_by-other}
+use Rattle.tau_trace.proofs.Quiet.{acts}
+use Rattle.tau_trace.proofs.Sequences.{cases_last}
 use Rattle.tau_past.specs.Heard.{heard_by, earlier, IsClosed, own_step, Heard, HeardBy, HeardTogether}
-use Rattle.tau_past.specs.KnownLaws.{HearsOf, HearsOfNone, IsSame, Union, With, Bound, HasBounds}
+use Rattle.tau_past.specs.KnownLaws.{HearsOf, HearsOfNone, IsSame, Union, With, HoldsStepsBefore, Bound, BoundsWithStep, HasBounds}
 use Rattle.tau_past.proofs.Known.{acts_known, hears_known, heard_before, heard_by_before}
 use Rattle.tau_past.proofs.HeardLemmas.{origin_acts, new_acts, heard_after_step, heard_with_sender}
 
+equal_or_less : (i n : ℕ) → i ≤ n → (i ≡ n) ⊎ (i < n)
+equal_or_less i n l = grind arith
+
 -- a closed set holds earlier steps
 pub holds_earlier : (H : ℕ → Type 0) (T : Run) (u j k : ℕ) → IsClosed T H → H k → ActsAt T u k → ActsAt T u j → j ≤ k → H j
-holds_earlier H T u j k c h a b le = ⊎_elim (λ e. subst H (sym e) h) (λ l. c.closed k j h (earlier a b l)) (equal_or_less j k le) where
-  equal_or_less : (i n : ℕ) → i ≤ n → (i ≡ n) ⊎ (i < n)
-  equal_or_less i n l = grind arith
+holds_earlier H T u j k c h a b le = ⊎_elim (λ e. subst H (sym e) h) (λ l. c.closed k j h (earlier a b l)) (equal_or_less j k le)
 
 -- no bound is above another
 up_to : (H : ℕ → Type 0) (T : Run) (u a b : ℕ) → Bound T H u a → Bound T H u b → b ≤ a
@@ -51,34 +58,57 @@ union_bound H G T u a b x y = record { steps = steps; last = last } where
       (either a b)
 
 -- bounds of the same set
-bound_same : (T : Run) (H G : ℕ → Type 0) (u : ℕ) → IsSame H G → (a : ℕ) × Bound T G u a → (a : ℕ) × Bound T H u a
-bound_same T H G u same x = (x.0, record {
-  steps = λ j acts. (λ h. (x.1.steps j acts).0 ((same j).0 h), λ l. (same j).1 ((x.1.steps j acts).1 l));
-  last = ⊎_elim (λ z. inl z) (λ s. inr (s.0, s.1, s.2, (same s.0).1 s.3)) x.1.last;
-})
+pub bound_same : (T : Run) (H G : ℕ → Type 0) (u : ℕ) → IsSame H G → (a : ℕ) × Bound T G u a → (a : ℕ) × Bound T H u a
+bound_same T H G u same x = (
+  x.0,
+  record {
+    steps = λ j acts. (λ h. (x.1.steps j acts).0 ((same j).0 h), λ l. (same j).1 ((x.1.steps j acts).1 l));
+    last = ⊎_elim (λ z. inl z) (λ s. inr (s.0, s.1, s.2, (same s.0).1 s.3)) x.1.last;
+  },
+)
 
--- one more place, of a transactor all of whose earlier steps are there
-bound_with : (T : Run) (H : ℕ → Type 0) (t k u : ℕ) → ActsAt T t k → ((j : ℕ) → H j → j < k) → ((j : ℕ) → ActsAt T t j → j < k → H j) → (a : ℕ) × Bound T H u a → (a : ℕ) × Bound T (With H k) u a
-bound_with T H t k u at before own x = ⊎_elim same other (equal_or_not t u) where
-  same : t ≡ u → (a : ℕ) × Bound T (With H k) u a
-  same e = subst (λ w. (a : ℕ) × Bound T (With H k) w a) e (suc k, record {
-    steps = λ j acts. (
-      λ h. ⊎_elim (λ p. omega (arith, before j p)) (λ p. omega (arith, p)) h,
-      λ l. ⊎_elim (λ p. inr p) (λ p. inl (own j acts p)) (equal_or_less j k l),
-    );
-    last = inr (k, refl, at, inr refl);
-  }) where
-    equal_or_less : (i n : ℕ) → i < suc n → (i ≡ n) ⊎ (i < n)
-    equal_or_less i n l = grind arith
+-- one more place, that of a step of t which joins t's earlier steps
+own_bound : (H : ℕ → Type 0) (T : Run) (t k : ℕ) → ActsAt T t k → HoldsStepsBefore T H t k → Bound T (With H k) t (suc k)
+own_bound H T t k at before = record {
+  steps = λ j acts. (
+    λ h. ⊎_elim (λ p. omega (arith, (before j acts).0 p)) (λ p. omega (arith, p)) h,
+    λ l. ⊎_elim (λ p. inr p) (λ p. inl ((before j acts).1 p)) (cases_last j k l),
+  );
+  last = inr (k, refl, at, inr refl);
+}
 
-  other : t ≢ u → (a : ℕ) × Bound T (With H k) u a
-  other ne = (x.0, record {
-    steps = λ j acts. (
-      λ h. ⊎_elim (λ p. (x.1.steps j acts).0 p) (λ p. absurd (ne (same_some (sym at ∙ subst (ActsAt T u) p acts)))) h,
-      λ l. inl ((x.1.steps j acts).1 l),
-    );
-    last = ⊎_elim (λ z. inl z) (λ s. inr (s.0, s.1, s.2, inl s.3)) x.1.last;
-  })
+other_bound : (H : ℕ → Type 0) (T : Run) (t k u a : ℕ) → ActsAt T t k → u ≢ t → Bound T H u a → Bound T (With H k) u a
+other_bound H T t k u a at ne x = record {
+  steps = λ j acts. (
+    λ h. ⊎_elim (λ p. (x.steps j acts).0 p) (λ p. absurd (ne (same_some (sym (subst (ActsAt T u) p acts) ∙ at)))) h,
+    λ l. inl ((x.steps j acts).1 l),
+  );
+  last = ⊎_elim (λ z. inl z) (λ s. inr (s.0, s.1, s.2, inl s.3)) x.last;
+}
+
+pub bounds_with_step : (H : ℕ → Type 0) (T : Run) (t k : ℕ) → ActsAt T t k → HoldsStepsBefore T H t k → BoundsWithStep T H t k
+bounds_with_step H T t k at before = record { own = own_bound H T t k at before; other = λ u a ne x. other_bound H T t k u a at ne x }
+
+bound_with : (T : Run) (H : ℕ → Type 0) (t k u : ℕ) → ActsAt T t k → HoldsStepsBefore T H t k → (a : ℕ) × Bound T H u a → (a : ℕ) × Bound T (With H k) u a
+bound_with T H t k u at before x = ⊎_elim
+    (λ (e : u ≡ t). subst (λ w. (a : ℕ) × Bound T (With H k) w a) (sym e) (suc k, own_bound H T t k at before))
+    (λ ne. (x.0, other_bound H T t k u x.0 at ne x.1))
+    (equal_or_not u t)
+
+-- where u makes no step from place a on and before n, its history stays
+quiet_from : (T : Run) (u a n : ℕ) → a ≤ n → ((j : ℕ) → a ≤ j → j < n → ¬ ActsAt T u j) → history T u a ≡ history T u n
+quiet_from T u a zero le quiet = let e : a ≡ 0 = omega arith in ap (history T u) e
+quiet_from T u a (suc n) le quiet = ⊎_elim
+    (λ (e : a ≡ suc n). ap (history T u) e)
+    (λ (l : a < suc n).
+    let move : move_at T u n ≡ keep = move_by-other u (history T u n).stable (step_at T n) (λ s e by. quiet n (omega arith) (omega arith) (acts T u n s e by)) in
+    quiet_from T u a n (omega arith) (λ j b c. quiet j b (omega arith)) ∙ sym (history-suc T u n ∙ ap (λ m. moved m (history T u n)) move))
+    (equal_or_less a (suc n) le)
+
+pub bound_history : (H : ℕ → Type 0) (T : Run) (u a k : ℕ) → HoldsStepsBefore T H u k → Bound T H u a → history T u a ≡ history T u k
+bound_history H T u a k before x = quiet_from T u a k within (λ j le lt act. omega (arith, le, (x.steps j act).0 ((before j act).1 lt))) where
+  within : a ≤ k
+  within = ⊎_elim (λ e. omega (arith, e)) (λ s. omega (arith, s.1, (before s.0 s.2).0 s.3)) x.last
 
 -- what a place of the trace is, decided
 acts_or_not : (T : Run) (t k : ℕ) → ActsAt T t k ⊎ ¬ ActsAt T t k
@@ -133,6 +163,16 @@ sent_or_origin T m k lt = by_step (step_at T k) refl where
 empty_bound : (T : Run) (H : ℕ → Type 0) (u : ℕ) → ((j : ℕ) → ¬ H j) → (a : ℕ) × Bound T H u a
 empty_bound T H u none = (0, record { steps = λ j acts. (λ h. absurd (none j h), λ l. absurd (omega (arith, l))); last = inl refl })
 
+-- its own steps that a transactor has heard
+own_steps : (T : Run) → WellFormed T → (t k : ℕ) → t < born T k → HoldsStepsBefore T (Heard T t k) t k
+own_steps T w t k there j a = (heard_before T t k j w there, λ l. start (own_step a l))
+
+own_steps_together : (T : Run) → WellFormed T → (t k m : ℕ) → t < born T k → m < sent T k → HoldsStepsBefore T (HeardTogether T t k m) t k
+own_steps_together T w t k m there exists j a = (
+  λ h. ⊎_elim (heard_before T t k j w there) (heard_by_before T m k j w exists) h,
+  λ l. inl (start (own_step a l)),
+)
+
 -- a bound at u for each transactor and each message of place k
 record BoundsAt (T : Run) (u k : ℕ) : Type 0 where
   transactor : (t : ℕ) → t < born T k → (a : ℕ) × Bound T (Heard T t k) u a
@@ -141,21 +181,18 @@ record BoundsAt (T : Run) (u k : ℕ) : Type 0 where
 module _ (T : Run) (w : WellFormed T) (u k : ℕ) (here : BoundsAt T u k) where
   -- after a step of t that hears of no message
   with_step : (t : ℕ) → ActsAt T t k → (a : ℕ) × Bound T (With (Heard T t k) k) u a
-  with_step t a = bound_with T (Heard T t k) t k u a (λ j h. heard_before T t k j w (acts_known T t k w a) h) (λ j b l. start (own_step b l)) (here.transactor t (acts_known T t k w a))
+  with_step t a =
+      let there = acts_known T t k w a in
+      bound_with T (Heard T t k) t k u a (own_steps T w t k there) (here.transactor t there)
 
   with_message : (t m : ℕ) → ActsAt T t k → HearsOf T k m → (a : ℕ) × Bound T (With (HeardTogether T t k m) k) u a
-  with_message t m a e = bound_with T (HeardTogether T t k m) t k u a before (λ j b l. inl (start (own_step b l))) union where
-    exists : m < sent T k
-    exists = hears_known T m k w e
-
-    before : (j : ℕ) → HeardTogether T t k m j → j < k
-    before j h = ⊎_elim (λ x. heard_before T t k j w (acts_known T t k w a) x) (λ x. heard_by_before T m k j w exists x) h
-
-    union : (b : ℕ) × Bound T (HeardTogether T t k m) u b
-    union =
-        let own = here.transactor t (acts_known T t k w a) in
-        let other = here.message m exists in
-        (max own.0 other.0, union_bound (Heard T t k) (HeardBy T m) T u own.0 other.0 own.1 other.1)
+  with_message t m a e =
+      let there = acts_known T t k w a in
+      let exists = hears_known T m k w e in
+      let own = here.transactor t there in
+      let other = here.message m exists in
+      bound_with T (HeardTogether T t k m) t k u a (own_steps_together T w t k m there exists)
+      (max own.0 other.0, union_bound (Heard T t k) (HeardBy T m) T u own.0 other.0 own.1 other.1)
 
   next_transactor : (t : ℕ) → t < born T (suc k) → (a : ℕ) × Bound T (Heard T t (suc k)) u a
   next_transactor t lt = ⊎_elim old new (born_or_new T t k lt) where
@@ -190,5 +227,6 @@ pub has_bounds : (T : Run) (k : ℕ) → WellFormed T → HasBounds T k
 has_bounds T k w = record {
   transactor = λ t u lt. (bounds_at T w u k).transactor t lt;
   message = λ m u lt. (bounds_at T w u k).message m lt;
-  own = λ t j lt a. (λ h. heard_before T t k j w lt h, λ l. start (own_step a l));
+  own = λ t lt. own_steps T w t k lt;
+  together = λ t m lt l. own_steps_together T w t k m lt l;
 }

@@ -1,12 +1,12 @@
 -- What is heard: closed sets, what was touched, and one step further.
-use Rattle.std.proofs.Common.{◌≡◌, ◌⊎◌, ◌↔◌, inl, inr, ⊎_elim, ℕ, zero, suc, ◌<◌, ◌≤◌, length, Option, Some, None, refl, sym, ap, ◌∙◌, subst, arith}
+use Rattle.std.proofs.Common.{◌≡◌, ◌⊎◌, inl, inr, ⊎_elim, ℕ, suc, ◌<◌, ◌≤◌, length, Some, None, refl, sym, ap, ◌∙◌, subst, arith}
 use Rattle.std.specs.Prelude.{option_and_then}
 use Rattle.tau_points.specs.declared.point.Point.{Point}
 use Rattle.tau_points.specs.Reach.{start, next, IsWithin}
 use Rattle.tau_points.proofs.Reach.{least, monotone}
 use Rattle.tau_trace.specs.declared.step.Step.TheVariants.{Take, Send, New}
-use Rattle.tau_trace.specs.Run.{Run, step_at, ActsAt, Does}
-use Rattle.tau_trace.specs.Numbering.{born, sent, IsNew, IsOrigin}
+use Rattle.tau_trace.specs.Run.{Run, ActsAt}
+use Rattle.tau_trace.specs.Numbering.{IsNew, IsOrigin}
 use Rattle.tau_trace.specs.Points.{point_at}
 use Rattle.tau_trace.specs.Known.{WellFormed}
 use Rattle.tau_trace.proofs.Agreement.{born-grows}
@@ -14,7 +14,7 @@ use Rattle.tau_trace.proofs.Lists.{same_some}
 use Rattle.tau_trace.proofs.Once.{new_once, origin_once}
 use Rattle.tau_trace.proofs.Quiet.{acts}
 use Rattle.tau_trace.proofs.Sequences.{cases_last}
-use Rattle.tau_past.specs.Carried.{touches, Pending, touched, came, Carried, SentWith}
+use Rattle.tau_past.specs.Carried.{Pending, touched, came, Carried, SentWith}
 use Rattle.tau_past.specs.Heard.{heard_by, Needs, earlier, message, birth, IsClosed, Own, own_step, own_birth, OriginOf, Heard, HeardBy, HeardTogether}
 use Rattle.tau_past.specs.KnownLaws.{TouchedIn, HearsOf, HearsOfNone, IsSame, Union, With, HeardSetsAreClosed, HoldsHeardAt, HeardStandsBefore, HeardAfterStep}
 use Rattle.tau_past.proofs.Known.{acts_known, needs_before, heard_before, heard_by_before, heard_closed}

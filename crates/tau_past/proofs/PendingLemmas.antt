@@ -1,19 +1,19 @@
 -- Turns and pending points, one step further.
-use Rattle.std.proofs.Common.{◌≡◌, ◌⊎◌, ◌↔◌, inl, inr, ⊎_elim, ℕ, zero, suc, ◌<◌, ◌≤◌, Bool, true, false, IsTrue, IsFalse, Some, None, refl, sym, ap, ◌∙◌, subst, arith}
+use Rattle.std.proofs.Common.{◌≡◌, ◌⊎◌, ◌↔◌, inl, inr, ⊎_elim, ℕ, suc, ◌<◌, Bool, true, false, IsTrue, IsFalse, Some, refl, sym, ap, ◌∙◌, subst, arith}
 use Rattle.std.specs.Prelude.{◌||◌}
 use Rattle.tau_points.specs.declared.point.Point.{Point}
 use Rattle.tau_trace.specs.declared.step.Step.{Step}
-use Rattle.tau_trace.specs.declared.step.Step.TheVariants.{Take, Drop, Fall, Void, Get, Set, Skip, Send, New, Stabilize, Ask, Checkpoint, Hold, Rollback, Stay, Done, Trap, Fail, Lose}
+use Rattle.tau_trace.specs.declared.step.Step.TheVariants.{Take, Drop, Void, Get, Set, Skip, Send, New, Stabilize, Ask}
 use Rattle.tau_trace.specs.Steps.{ends_turn, is_take}
 use Rattle.tau_trace.specs.Run.{Run, step_at, ActsAt, Does}
 use Rattle.tau_trace.specs.Numbering.{IsOrigin}
 use Rattle.tau_trace.specs.Points.{point_at}
-use Rattle.tau_trace.specs.Turns.{Turn, IsOpenTurn}
+use Rattle.tau_trace.specs.Turns.{Turn}
 use Rattle.tau_trace.proofs.Lists.{same_some}
 use Rattle.tau_trace.proofs.Quiet.{acts}
 use Rattle.tau_trace.proofs.Sequences.{cases_last}
 use Rattle.tau_past.specs.Carried.{touches, Pending, touched, came, SentWith}
-use Rattle.tau_past.specs.KnownLaws.{HasOpenTurn, KeepsTurns, KeepsPending, leaves_pending, TurnsAfterStep, PendingAfterStep}
+use Rattle.tau_past.specs.KnownLaws.{HasOpenTurn, KeepsTurns, KeepsPending, keeps_pending, TurnsAfterStep, PendingAfterStep}
 
 -- the kinds that begin or end a turn
 abbrev bounds : Step → Bool
@@ -27,19 +27,19 @@ touching_bounds_none (Stabilize t) h = refl
 touching_bounds_none (Ask t a) h = refl
 touching_bounds_none s h = absurd (cc)
 
-leaving_bounds_none : (s : Step) → IsTrue (leaves_pending s) → IsFalse (bounds s)
-leaving_bounds_none (Send t u v) h = refl
-leaving_bounds_none (New t b n v) h = refl
-leaving_bounds_none (Drop t m) h = refl
-leaving_bounds_none (Void t m) h = refl
-leaving_bounds_none s h = absurd (cc)
+keeping_bounds_none : (s : Step) → IsTrue (keeps_pending s) → IsFalse (bounds s)
+keeping_bounds_none (Send t u v) h = refl
+keeping_bounds_none (New t b n v) h = refl
+keeping_bounds_none (Drop t m) h = refl
+keeping_bounds_none (Void t m) h = refl
+keeping_bounds_none s h = absurd (cc)
 
-leaving_touches_none : (s : Step) → IsTrue (leaves_pending s) → IsFalse (touches s)
-leaving_touches_none (Send t u v) h = refl
-leaving_touches_none (New t b n v) h = refl
-leaving_touches_none (Drop t m) h = refl
-leaving_touches_none (Void t m) h = refl
-leaving_touches_none s h = absurd (cc)
+keeping_touches_none : (s : Step) → IsTrue (keeps_pending s) → IsFalse (touches s)
+keeping_touches_none (Send t u v) h = refl
+keeping_touches_none (New t b n v) h = refl
+keeping_touches_none (Drop t m) h = refl
+keeping_touches_none (Void t m) h = refl
+keeping_touches_none s h = absurd (cc)
 
 does_not : (T : Run) (t k : ℕ) (test other : Step → Bool) → ((s : Step) → IsTrue (test s) → IsFalse (other s)) → Does test T t k → ¬ Does other T t k
 does_not T t k test other none d e =
@@ -94,7 +94,7 @@ turns_after_step T t k = record {
   take = λ m e place n. (taken T t k m place n e, λ is. subst (λ i. Turn T t (suc k) i n) (sym is.0) (subst (Turn T t (suc k) k) (sym is.1) (begun T t k m e)));
   ending = λ d place n. ended T t k place n d;
   touching = λ d. keeps_turns T t k (does_not T t k touches bounds touching_bounds_none d);
-  leaving = λ d. keeps_turns T t k (does_not T t k leaves_pending bounds leaving_bounds_none d);
+  keeping = λ d. keeps_turns T t k (does_not T t k keeps_pending bounds keeping_bounds_none d);
 }
 
 -- without an open turn nothing is pending
@@ -114,8 +114,8 @@ pending_back T t k q none (touched {take = b} {m = m} {j = j} u l h d e) = ⊎_e
     (cases_last j k h)
 pending_back T t k q none (came {take = b} {m = m} u o p) = inl (came (turn_back T t k b m none u) o p)
 
-keeps_pending : (T : Run) (t k : ℕ) → ¬ Does bounds T t k → ¬ Does touches T t k → KeepsPending T t k
-keeps_pending T t k none quiet q = (λ p. ⊎_elim (λ r. r) (λ d. absurd (quiet d.0)) (pending_back T t k q none p), pending_on T t k q none)
+kept_pending : (T : Run) (t k : ℕ) → ¬ Does bounds T t k → ¬ Does touches T t k → KeepsPending T t k
+kept_pending T t k none quiet q = (λ p. ⊎_elim (λ r. r) (λ d. absurd (quiet d.0)) (pending_back T t k q none p), pending_on T t k q none)
 
 pending_touching : (T : Run) (t k : ℕ) (q : Point) → ¬ Does bounds T t k → Does touches T t k → Pending T t (suc k) q ↔ (Pending T t k q ⊎ (HasOpenTurn T t k × (q ≡ point_at T t k)))
 pending_touching T t k q none d = (
@@ -140,9 +140,9 @@ pending_taken T t k m q e = (forth, back) where
 
 pub pending_after_step : (T : Run) (t k : ℕ) → PendingAfterStep T t k
 pending_after_step T t k = record {
-  other = λ none. keeps_pending T t k (idle T t k bounds none) (idle T t k touches none);
+  other = λ none. kept_pending T t k (idle T t k bounds none) (idle T t k touches none);
   take = λ m e q. pending_taken T t k m q e;
   ending = λ d q p. let open_turn = pending_turn T t (suc k) q p in ended T t k open_turn.0 open_turn.1.0 d open_turn.1.1;
   touching = λ d q. pending_touching T t k q (does_not T t k touches bounds touching_bounds_none d) d;
-  leaving = λ d. keeps_pending T t k (does_not T t k leaves_pending bounds leaving_bounds_none d) (does_not T t k leaves_pending touches leaving_touches_none d);
+  keeping = λ d. kept_pending T t k (does_not T t k keeps_pending bounds keeping_bounds_none d) (does_not T t k keeps_pending touches keeping_touches_none d);
 }

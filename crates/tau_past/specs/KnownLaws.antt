@@ -1,5 +1,5 @@
 -- Laws of what is pending, of what is heard and of what a Checkpoint fixes, each the contract of a function of the crate.
-use Rattle.std.specs.Prelude.{◌≡◌, ◌⊎◌, ◌↔◌, ℕ, suc, ◌<◌, ◌≤◌, max, Bool, true, false, Option, Some, None, option_and_then, length}
+use Rattle.std.specs.Prelude.{◌≡◌, ◌≢◌, ◌⊎◌, ◌↔◌, ℕ, suc, ◌<◌, ◌≤◌, max, Bool, true, false, Some, None, option_and_then, length}
 use Rattle.tau_points.specs.declared.point.Point.{Point}
 use Rattle.tau_points.specs.Reach.{IsWithin}
 use Rattle.tau_trace.specs.declared.step.Step.{Step}
@@ -7,7 +7,7 @@ use Rattle.tau_trace.specs.declared.step.Step.TheVariants.{Take, Drop, Void, Sen
 use Rattle.tau_trace.specs.Steps.{ends_turn}
 use Rattle.tau_trace.specs.Run.{Run, step_at, ActsAt, Does}
 use Rattle.tau_trace.specs.Numbering.{born, sent, IsNew, IsOrigin}
-use Rattle.tau_trace.specs.Histories.{Closes}
+use Rattle.tau_trace.specs.Histories.{history, Closes}
 use Rattle.tau_trace.specs.Points.{point_at, IsOpeningPoint}
 use Rattle.tau_trace.specs.Turns.{Turn, IsOpenTurn}
 use Rattle.tau_trace.specs.Known.{WellFormed}
@@ -31,12 +31,12 @@ abbrev pub KeepsPending : Run → ℕ → ℕ → Type 0
 KeepsPending T t k = (q : Point) → Pending T t (suc k) q ↔ Pending T t k q
 
 -- the kinds that neither begin nor end a turn nor touch
-abbrev pub leaves_pending : Step → Bool
-leaves_pending (Send t u v) = true
-leaves_pending (New t b n v) = true
-leaves_pending (Drop t m) = true
-leaves_pending (Void t m) = true
-leaves_pending s = false
+abbrev pub keeps_pending : Step → Bool
+keeps_pending (Send t u v) = true
+keeps_pending (New t b n v) = true
+keeps_pending (Drop t m) = true
+keeps_pending (Void t m) = true
+keeps_pending s = false
 
 -- the turns that are open for t after the step at place k: that of a Take alone, none after a step of an ending kind, and
 -- otherwise those that were open before it
@@ -45,7 +45,7 @@ pub record TurnsAfterStep (T : Run) (t k : ℕ) : Type 0 where
   pub take : (m : ℕ) → step_at T k ≡ Some (Take t m) → (place n : ℕ) → Turn T t (suc k) place n ↔ ((place ≡ k) × (n ≡ m))
   pub ending : Does ends_turn T t k → (place n : ℕ) → ¬ Turn T t (suc k) place n
   pub touching : Does touches T t k → KeepsTurns T t k
-  pub leaving : Does leaves_pending T t k → KeepsTurns T t k
+  pub keeping : Does keeps_pending T t k → KeepsTurns T t k
 
 abbrev pub TurnsStepByStep : Type 0
 TurnsStepByStep = (T : Run) (t k : ℕ) → TurnsAfterStep T t k
@@ -57,7 +57,7 @@ pub record PendingAfterStep (T : Run) (t k : ℕ) : Type 0 where
   pub take : (m : ℕ) → step_at T k ≡ Some (Take t m) → (q : Point) → Pending T t (suc k) q ↔ SentWith T m q
   pub ending : Does ends_turn T t k → (q : Point) → ¬ Pending T t (suc k) q
   pub touching : Does touches T t k → (q : Point) → Pending T t (suc k) q ↔ (Pending T t k q ⊎ (HasOpenTurn T t k × (q ≡ point_at T t k)))
-  pub leaving : Does leaves_pending T t k → KeepsPending T t k
+  pub keeping : Does keeps_pending T t k → KeepsPending T t k
 
 abbrev pub PendingStepByStep : Type 0
 PendingStepByStep = (T : Run) (t k : ℕ) → PendingAfterStep T t k
@@ -165,9 +165,13 @@ HeardGrows = (T : Run) (t j k : ℕ) → j ≤ k → IsWithin (Heard T t j) (Hea
 abbrev pub ClosedSetsHoldEarlierSteps : (ℕ → Type 0) → Type 0
 ClosedSetsHoldEarlierSteps H = (T : Run) (u j k : ℕ) → IsClosed T H → H k → ActsAt T u k → ActsAt T u j → j ≤ k → H j
 
+-- the steps of u in H are those before place a
+abbrev pub HoldsStepsBefore : Run → (ℕ → Type 0) → ℕ → ℕ → Type 0
+HoldsStepsBefore T H u a = (j : ℕ) → ActsAt T u j → H j ↔ (j < a)
+
 -- a is the bound of H at u: the steps of u in H are those before a, and a is 0 or follows the last of them
 pub record Bound (T : Run) (H : ℕ → Type 0) (u a : ℕ) : Type 0 where
-  pub steps : (j : ℕ) → ActsAt T u j → H j ↔ (j < a)
+  pub steps : HoldsStepsBefore T H u a
   pub last : (a ≡ 0) ⊎ ((j : ℕ) × (a ≡ suc j) × ActsAt T u j × H j)
 
 -- H has at most one bound at u
@@ -178,11 +182,26 @@ BoundsAreUnique H = (T : Run) (u a b : ℕ) → Bound T H u a → Bound T H u b 
 abbrev pub UnionsHaveTheGreaterBound : (ℕ → Type 0) → (ℕ → Type 0) → Type 0
 UnionsHaveTheGreaterBound H G = (T : Run) (u a b : ℕ) → Bound T H u a → Bound T G u b → Bound T (Union H G) u (max a b)
 
--- what a transactor or a message has heard at place k has a bound at each u; a transactor has heard just its steps before k
+-- with its step at place k, t has the bound k+1, and the bounds of others stay
+pub record BoundsWithStep (T : Run) (H : ℕ → Type 0) (t k : ℕ) : Type 0 where
+  pub own : Bound T (With H k) t (suc k)
+  pub other : (u a : ℕ) → u ≢ t → Bound T H u a → Bound T (With H k) u a
+
+-- a step that joins the earlier steps of its actor changes the actor's bound alone
+abbrev pub StepsChangeTheirBoundAlone : (ℕ → Type 0) → Type 0
+StepsChangeTheirBoundAlone H = (T : Run) (t k : ℕ) → ActsAt T t k → HoldsStepsBefore T H t k → BoundsWithStep T H t k
+
+-- where H has just the steps of u before place k, the history of u at its bound is that at k
+abbrev pub BoundsTellHistories : (ℕ → Type 0) → Type 0
+BoundsTellHistories H = (T : Run) (u a k : ℕ) → HoldsStepsBefore T H u k → Bound T H u a → history T u a ≡ history T u k
+
+-- what a transactor or a message has heard at place k has a bound at each u; of its own steps a transactor has heard just
+-- those before k, also together with a message that exists there
 pub record HasBounds (T : Run) (k : ℕ) : Type 0 where
   pub transactor : (t u : ℕ) → t < born T k → (a : ℕ) × Bound T (Heard T t k) u a
   pub message : (m u : ℕ) → m < sent T k → (a : ℕ) × Bound T (HeardBy T m) u a
-  pub own : (t j : ℕ) → t < born T k → ActsAt T t j → Heard T t k j ↔ (j < k)
+  pub own : (t : ℕ) → t < born T k → HoldsStepsBefore T (Heard T t k) t k
+  pub together : (t m : ℕ) → t < born T k → m < sent T k → HoldsStepsBefore T (HeardTogether T t k m) t k
 
 abbrev pub WhatIsHeardHasBounds : Type 0
 WhatIsHeardHasBounds = (T : Run) (k : ℕ) → WellFormed T → HasBounds T k
@@ -199,3 +218,7 @@ pub record FixesPast (T : Run) (t c : ℕ) : Type 0 where
 -- in a trace that keeps the rules each Checkpoint fixes the past of its point
 abbrev pub CheckpointsFixTheirPast : Type 0
 CheckpointsFixTheirPast = (T : Run) (t c : ℕ) → WellFormed T → KeepsRules T → Closes T t c → FixesPast T t c
+
+-- in such a trace each Checkpoint was made at a point at which its transactor had stabilized
+abbrev pub CheckpointsWereStabilized : Type 0
+CheckpointsWereStabilized = (T : Run) (t c : ℕ) → WellFormed T → KeepsRules T → Closes T t c → StabilizedIn T (Heard T t c) (point_at T t c)

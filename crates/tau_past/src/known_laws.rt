@@ -1,6 +1,6 @@
 //! Laws of what is pending, heard and fixed, each the contract of a function that does nothing.
 ghost use Rattle.std.specs.Prelude.{ℕ};
-ghost use Rattle.tau_past.specs.KnownLaws.{TurnsStepByStep, PendingStepByStep, PendingNeedsATurn, PendingPointsWereTouched, CarriedPointsWereTouched, SentPointsWereTouched, WhatIsHeardIsClosed, UnionsAreClosed, ClosedSetsHoldWhatWasHeard, WhatIsHeardStandsBefore, HeardStepByStep, MessagesHearWithTheirSender, HeardGrows, ClosedSetsHoldEarlierSteps, BoundsAreUnique, UnionsHaveTheGreaterBound, WhatIsHeardHasBounds, CheckpointsFixTheirPast};
+ghost use Rattle.tau_past.specs.KnownLaws.{TurnsStepByStep, PendingStepByStep, PendingNeedsATurn, PendingPointsWereTouched, CarriedPointsWereTouched, SentPointsWereTouched, WhatIsHeardIsClosed, UnionsAreClosed, ClosedSetsHoldWhatWasHeard, WhatIsHeardStandsBefore, HeardStepByStep, MessagesHearWithTheirSender, HeardGrows, ClosedSetsHoldEarlierSteps, BoundsAreUnique, UnionsHaveTheGreaterBound, StepsChangeTheirBoundAlone, BoundsTellHistories, WhatIsHeardHasBounds, CheckpointsFixTheirPast, CheckpointsWereStabilized};
 
 /// Any set of places, for the laws of closed sets.
 pub trait AnyPlaces {
@@ -88,6 +88,17 @@ pub fn unions_have_the_greater_bound<H: AnyPlaces, G: AnyPlaces>()
     ensures { UnionsHaveTheGreaterBound H.holds G.holds }
 {}
 
+/// A step that joins the earlier steps of its actor changes the actor's bound alone (docs/definitions.md, "Heard").
+pub fn steps_change_their_bound_alone<H: AnyPlaces>()
+    ensures { StepsChangeTheirBoundAlone H.holds }
+{}
+
+/// The history of a transactor at the bound of its steps before a place is its history at that place
+/// (docs/definitions.md, "History").
+pub fn bounds_tell_histories<H: AnyPlaces>()
+    ensures { BoundsTellHistories H.holds }
+{}
+
 /// What transactors and messages have heard has a bound for each transactor (docs/definitions.md, "Heard").
 pub fn what_is_heard_has_bounds()
     ensures { WhatIsHeardHasBounds }
@@ -98,3 +109,49 @@ pub fn what_is_heard_has_bounds()
 pub fn checkpoints_fix_their_past()
     ensures { CheckpointsFixTheirPast }
 {}
+
+/// A Checkpoint was made where its transactor had stabilized, at the same point (docs/definitions.md, "Free").
+pub fn checkpoints_were_stabilized()
+    ensures { CheckpointsWereStabilized }
+{}
+
+#[cfg(test)]
+mod tests {
+    use super::*;
+
+    /// All places.
+    struct Everywhere;
+
+    impl AnyPlaces for Everywhere {
+        ghost holds = { λ j. Unit {0} };
+    }
+
+    #[test]
+    fn laws_of_steps_are_called() {
+        turns_step_by_step();
+        pending_step_by_step();
+        pending_needs_a_turn();
+        pending_points_were_touched();
+        sent_points_were_touched();
+        what_is_heard_is_closed();
+        what_is_heard_stands_before();
+        heard_step_by_step();
+        messages_hear_with_their_sender();
+        heard_grows();
+        what_is_heard_has_bounds();
+        checkpoints_fix_their_past();
+        checkpoints_were_stabilized();
+    }
+
+    #[test]
+    fn laws_of_sets_are_called() {
+        carried_points_were_touched::<Everywhere>();
+        unions_are_closed::<Everywhere, Everywhere>();
+        closed_sets_hold_what_was_heard::<Everywhere>();
+        closed_sets_hold_earlier_steps::<Everywhere>();
+        bounds_are_unique::<Everywhere>();
+        unions_have_the_greater_bound::<Everywhere, Everywhere>();
+        steps_change_their_bound_alone::<Everywhere>();
+        bounds_tell_histories::<Everywhere>();
+    }
+}
