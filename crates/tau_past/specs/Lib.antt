@@ -6,3 +6,4 @@ pub mod States
 pub mod Safety
 pub mod Laws
 pub mod LocalLaws
+pub mod KnownLaws
