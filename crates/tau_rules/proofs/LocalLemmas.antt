@@ -22,8 +22,9 @@ use Rattle.tau_past.specs.Decisions.{Judgement, Verdict, Free}
 use Rattle.tau_past.specs.States.{StateAt}
 use Rattle.tau_past.specs.LocalLaws.{SameDecisionsAt}
 use Rattle.tau_past.proofs.Agreement.{decisions_local, point-same}
+use Rattle.tau_states.specs.Opening.{opening_states}
 use Rattle.tau_eval.specs.Eff.{Eff}
-use Rattle.tau_rules.specs.Turns.{HasBehaviour, start, created, HasBody, HasValue, post, message, Replies, RepliesOf, before, another, reply, TurnHas, opening_states}
+use Rattle.tau_rules.specs.Turns.{HasBehaviour, start, created, HasBody, HasValue, post, message, Replies, RepliesOf, before, another, reply, TurnHas}
 use Rattle.tau_rules.specs.Fits.{Arrives, ArrivesLate, LacksNumber, Fits, IsStable, IsVolatile}
 
 module _ {T U : Run} where
@@ -87,7 +88,7 @@ module _ {T U : Run} where
         turn = ((same_at T U k a).turn t h.place h.message).0 h.turn;
         body_is = body-same P t h.place h.body within known.0 h.body_is;
         value_is = value-same P h.message h.place h.value within known.1 h.value_is;
-        replies_are = replies_of-same (opening_states P) t (suc h.place) k h.replies v w a h.replies_are;
+        replies_are = replies_of-same (opening_states P.starts) t (suc h.place) k h.replies v w a h.replies_are;
         effect_is = h.effect_is;
       }
 

@@ -1,5 +1,5 @@
 -- What the program gives a turn: its body, its message, the replies so far, and so its next effect.
-use Rattle.std.specs.Prelude.{◌≡◌, ℕ, zero, suc, ◌≤◌, List, [], ◌∷◌, ◌++◌, Some, map, slice_get}
+use Rattle.std.specs.Prelude.{◌≡◌, ℕ, zero, suc, ◌≤◌, List, [], ◌∷◌, ◌++◌, Some, slice_get}
 use Rattle.tau_value.specs.declared.shared.Value.{Value}
 use Rattle.tau_value.specs.Val as val
 use Rattle.tau_value.specs.Val.{Val}
@@ -16,12 +16,9 @@ use Rattle.tau_trace.specs.Numbering.{born, IsNew, IsOrigin}
 use Rattle.tau_trace.specs.Points.{point_at}
 use Rattle.tau_trace.specs.Turns.{Turn}
 use Rattle.tau_past.specs.States.{StateAt}
+use Rattle.tau_states.specs.Opening.{opening_states}
 use Rattle.tau_eval.specs.Eff.{Eff}
 use Rattle.tau_eval.specs.Meaning.{next}
-
--- the opening states of the start transactors
-abbrev pub opening_states : Program → List Value
-opening_states P = map (λ s. s.state) P.starts
 
 -- transactor t has behaviour b: a start by the program, another one by its New
 pub data HasBehaviour (P : Program) (T : Run) (t b : ℕ) : Type 0 where
@@ -69,5 +66,5 @@ pub record TurnHas (P : Program) (T : Run) (t k : ℕ) (e : Eff) : Type 0 where
   pub turn : Turn T t k place message
   pub body_is : HasBody P T t body
   pub value_is : HasValue P T message value
-  pub replies_are : RepliesOf T (opening_states P) t (suc place) k replies
+  pub replies_are : RepliesOf T (opening_states P.starts) t (suc place) k replies
   pub effect_is : next body (record { nodes = P.nodes; own = t; message = value }) replies ≡ e
