@@ -1,0 +1,4 @@
+pub mod Passing
+pub mod Same
+pub mod Determined
+pub mod SoundOpenings
