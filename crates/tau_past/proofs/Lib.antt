@@ -7,3 +7,8 @@ pub mod PastSearch
 pub mod Breaches
 pub mod Safety
 pub mod Expected
+pub mod Agreement
+pub mod PendingLemmas
+pub mod HeardLemmas
+pub mod BoundLemmas
+pub mod FixedLemmas

@@ -9,3 +9,5 @@ pub mod Tables
 pub mod TableSteps
 pub mod Searching
 pub mod Audits
+pub mod LocalLaws
+pub mod KnownLaws

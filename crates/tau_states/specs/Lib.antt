@@ -1,0 +1,5 @@
+pub mod Opening
+pub mod Effects
+pub mod Table
+pub mod Answers
+pub mod Laws
