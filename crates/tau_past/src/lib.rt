@@ -7,8 +7,10 @@ mod carrying;
 mod findings;
 mod found;
 mod index;
+mod known_laws;
 mod laws;
 mod listing;
+mod local_laws;
 mod made;
 mod noting;
 mod search;
@@ -16,10 +18,6 @@ mod search;
 pub use auditing::audit;
 pub use calls::{carried, past};
 pub use findings::Audit;
-mod known_laws;
-mod laws;
-mod local_laws;
-
 pub use known_laws::{
     AnyPlaces, bounds_are_unique, bounds_tell_histories, carried_points_were_touched,
     checkpoints_fix_their_past, checkpoints_were_stabilized, closed_sets_hold_earlier_steps,
