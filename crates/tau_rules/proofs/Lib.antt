@@ -1,3 +1,4 @@
 pub mod SafetyLemmas
 pub mod LocalLemmas
 pub mod TraceLemmas
+pub mod TurnLemmas

@@ -2,6 +2,7 @@
 #![tactic(auto)]
 
 mod laws;
+mod records;
 
 pub use laws::{
     empty_traces_are_complete, fitting_is_local, fitting_traces_are_safe, fitting_traces_grow,
