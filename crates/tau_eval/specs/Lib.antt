@@ -2,5 +2,9 @@ pub mod Eff
 pub mod Effect
 pub mod Same
 pub mod Operations
+pub mod Answered
 pub mod Outcome
+pub mod Arguments
 pub mod Meaning
+pub mod Frames
+pub mod Settings
