@@ -1,3 +1,4 @@
+pub mod FrameLemmas
 pub mod SameLemmas
 pub mod ScopeLemmas
 pub mod ValueRules

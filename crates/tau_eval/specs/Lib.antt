@@ -7,4 +7,5 @@ pub mod Outcome
 pub mod Arguments
 pub mod Meaning
 pub mod Frames
+pub mod Machine
 pub mod Settings

@@ -4,6 +4,7 @@
 mod arguments;
 mod effects;
 mod frames;
+mod machine;
 mod openings;
 mod operations;
 mod resumptions;

@@ -1,5 +1,5 @@
 //! The variables that are bound around an expression, with their values.
-ghost use Rattle.std.specs.Prelude.{map, ◌≡◌, List, [], ◌∷◌, ◌++◌, ℕ, IfErr, OnOk, option_map};
+ghost use Rattle.std.specs.Prelude.{take, length, map, ◌≡◌, List, [], ◌∷◌, ◌++◌, ℕ, IfErr, OnOk, option_map};
 ghost use Rattle.tau_value.specs.Val.{Val};
 ghost use Rattle.tau_value.specs.Value.{val_of};
 ghost use Rattle.tau_eval.specs.Meaning.{nearest};
@@ -22,7 +22,7 @@ pub struct Scope<'p> {
 }
 
 impl<'p> Model for Scope<'p> {
-    ghost use Rattle.std.specs.Prelude.{map, ℕ, List, map};
+    ghost use Rattle.std.specs.Prelude.{take, length, map, ℕ, List, map};
     ghost use Rattle.std.specs.Coded.{coded_list, coded×};
     ghost use Rattle.tau_value.specs.Val.{Val, val_code};
     ghost use Rattle.tau_value.specs.Value.{val_of};
@@ -56,11 +56,43 @@ impl<'p> Scope<'p> {
         }
     }
 
-    /// Takes back the variable that was bound last.
-    pub fn unbind(&mut self)
-        ensures { (before : List (List ℕ × Val)) (b : List ℕ × Val) → self.old ≡ before ++ b ∷ [] → self.new ≡ before }
+    /// Binds two variables, one after the other. Without memory the values come back, and the scope stays as it was.
+    pub fn bind_two(
+        &mut self,
+        one: (&'p Word, Value),
+        two: (&'p Word, Value),
+    ) -> Result<(), (Value, Value)>
+        ensures ok { OnOk result (self.new ≡ self.old ++ (one.entry.0.now, val_of one.entry.1) ∷ (two.entry.0.now, val_of two.entry.1) ∷ []) }
+        ensures err { IfErr result (λ e. (e.0 ≡ one.entry.1) × (e.1 ≡ two.entry.1) × (self.new ≡ self.old)) }
     {
-        self.bindings.pop();
+        let (first, sum) = one;
+        let (second, item) = two;
+        if self.bindings.reserve(2).is_err() {
+            return Err((sum, item));
+        }
+        self.bindings.push_reserved(Binding {
+            name: first,
+            value: sum,
+        });
+        self.bindings.push_reserved(Binding {
+            name: second,
+            value: item,
+        });
+        Ok(())
+    }
+
+    /// Takes back all variables but the first `height`.
+    pub fn cut(&mut self, height: usize)
+        ensures { self.new ≡ take height self.old }
+    {
+        self.bindings.truncate(height);
+    }
+
+    /// How many variables are bound.
+    pub fn len(&self) -> usize
+        ensures { result ≡ length self.now }
+    {
+        self.bindings.len()
     }
 
     /// The value of the nearest variable with a name; `None` where there is none. It compares names from the nearest on.
