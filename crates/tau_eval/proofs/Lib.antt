@@ -1,4 +1,5 @@
 pub mod FrameLemmas
+pub mod MachineLemmas
 pub mod SameLemmas
 pub mod ScopeLemmas
 pub mod ValueRules

@@ -17,8 +17,8 @@ use std::alloc::{AllocError, Global};
 use tau_tree::{Expr, Prim};
 use tau_value::{Value, Values};
 
-// The branch of an if that a truth takes.
-fn choose<'p>(value: Value, yes: &'p Expr, no: &'p Expr) -> Progress<'p>
+/// The branch of an if that a truth takes.
+pub fn choose<'p>(value: Value, yes: &'p Expr, no: &'p Expr) -> Progress<'p>
     ensures value { (s : Surrounding) (env : Variables) (n : ℕ) (rs : List Val) → chooses (val_of value) (meaning (code_of yes.entry.now) s env) (meaning (code_of no.entry.now) s env) n rs ≡ comes result s env n rs }
     ensures stays { StaysIn result }
 {
@@ -34,8 +34,8 @@ fn choose<'p>(value: Value, yes: &'p Expr, no: &'p Expr) -> Progress<'p>
     }
 }
 
-// Effect send to a name.
-fn send<'p>(to: Value, value: Value) -> Progress<'p>
+/// Effect send to a name.
+pub fn send<'p>(to: Value, value: Value) -> Progress<'p>
     ensures value { (s : Surrounding) (env : Variables) (n : ℕ) (rs : List Val) → sends (val_of to) (val_of value) n rs ≡ comes result s env n rs }
     ensures stays { StaysIn result }
 {
@@ -55,8 +55,8 @@ fn node_of(nodes: u32, integer: i64) -> Option<u32>
     }
 }
 
-// Effect new on a node.
-fn create<'p>(nodes: u32, behaviour: u32, node: Value, state: Value) -> Progress<'p>
+/// Effect new on a node.
+pub fn create<'p>(nodes: u32, behaviour: u32, node: Value, state: Value) -> Progress<'p>
     ensures value { (s : Surrounding) (env : Variables) (n : ℕ) (rs : List Val) → creates nodes behaviour (val_of node) (val_of state) n rs ≡ comes result s env n rs }
     ensures stays { StaysIn result }
 {
