@@ -30,3 +30,8 @@ stays_in p f e is stays = let h : StaysIn (progress.Part f e) = subst StaysIn is
 pub followed : (fs gs : List Frame) (p : Progress) (f : Frame) (e : Bor Expr) (s : Setting) (env : Scope) (n : ℕ) (rs : List Val) → p ≡ progress.Part f e → StaysIn p → gs ≡ fs ++ f ∷ [] → and_then (comes p s env n rs) (unwound fs whole s env) ≡ and_then (meaning_of e.now s env n rs) (unwound gs whole s env)
 followed fs gs p f e s env n rs is stays more =
     ap (λ (q : Progress). and_then (comes q s env n rs) (unwound fs whole s env)) is ∙ pushed fs f s env (meaning_of e.now s env n rs) (stays_in p f e is stays env) ∙ ap (λ (hs : List Frame). and_then (meaning_of e.now s env n rs) (unwound hs whole s env)) (sym more)
+
+-- the last frame takes the value
+pub popped : (fs gs : List Frame) (f : Frame) (s : Setting) (env : Scope) (v : Val) (n : ℕ) (rs : List Val) → fs ≡ gs ++ f ∷ [] → unwound fs whole s env v n rs ≡ and_then (made_of f s (scope_under f env) v n rs) (unwound gs whole s (scope_under f env))
+popped fs gs f s env v n rs is =
+    ap (λ (hs : List Frame). unwound hs whole s env v n rs) is ∙ ap (λ (k : Scope → Val → After). k env v n rs) (unwound-push gs f whole s)

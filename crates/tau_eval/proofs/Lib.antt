@@ -1,3 +1,4 @@
+pub mod CourseLemmas
 pub mod FrameLemmas
 pub mod MachineLemmas
 pub mod SameLemmas

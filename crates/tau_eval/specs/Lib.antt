@@ -8,4 +8,6 @@ pub mod Arguments
 pub mod Meaning
 pub mod Frames
 pub mod Machine
+pub mod Turn
+pub mod Course
 pub mod Settings

@@ -2,8 +2,10 @@
 #![tactic(auto)]
 
 mod arguments;
+mod course;
 mod effects;
 mod frames;
+mod job;
 mod machine;
 mod openings;
 mod operations;
@@ -12,3 +14,7 @@ mod scopes;
 mod settings;
 
 pub use effects::Effect;
+pub use job::{Job, Pending, again, begin};
+
+#[cfg(test)]
+mod tests;
