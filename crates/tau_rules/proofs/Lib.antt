@@ -2,3 +2,4 @@ pub mod SafetyLemmas
 pub mod LocalLemmas
 pub mod TraceLemmas
 pub mod TurnLemmas
+pub mod ValueLemmas
