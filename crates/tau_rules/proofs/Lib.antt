@@ -3,3 +3,4 @@ pub mod LocalLemmas
 pub mod TraceLemmas
 pub mod TurnLemmas
 pub mod ValueLemmas
+pub mod SystemLemmas

@@ -1,7 +1,9 @@
 -- What the record of a transactor says.
-use Rattle.std.specs.Prelude.{◌≡◌, ℕ, suc, Some, slice_get, length, List}
+use Rattle.std.specs.Prelude.{◌≡◌, ℕ, suc, Some, slice_get, length, map, List}
 use Rattle.tau_value.specs.declared.shared.Value.{Value}
 use Rattle.tau_value.specs.Value.{val_of}
+use Rattle.tau_tree.specs.declared.posts.Post.{Post}
+use Rattle.tau_tree.specs.declared.starts.Start.{Start}
 use Rattle.tau_tree.specs.declared.programs.Program.{Program}
 use Rattle.tau_trace.specs.Run.{Run, len}
 use Rattle.tau_trace.specs.Numbering.{born, sent}
@@ -29,3 +31,11 @@ pub record AreRecords (P : Program) (T : Run) (rs : List Record) : Type 0 where
 pub record AreValues (P : Program) (T : Run) (vs : List Value) : Type 0 where
   pub count : length vs ≡ sent T (len T)
   pub each : (m : ℕ) (v : Value) → slice_get vs m ≡ Some v → HasValue P T m (val_of v)
+
+-- the records at the opening: each has the behaviour of its start
+abbrev pub HasStarts : List Start → List Record → Type 0
+HasStarts ss rs = map (λ r. r.behaviour) rs ≡ map (λ s. s.behaviour) ss
+
+-- the values at the opening: those of the posts
+abbrev pub HasPosts : List Post → List Value → Type 0
+HasPosts qs vs = map val_of vs ≡ map (λ q. val_of q.value) qs
