@@ -14,7 +14,7 @@ use Rattle.tau_trace.specs.Steps.{actor, ends_turn, is_new, is_send}
 use Rattle.tau_trace.specs.Places.{count_below}
 use Rattle.tau_trace.specs.Run.{Run, step_at, len, appended}
 use Rattle.tau_trace.specs.Numbering.{born, sent}
-use Rattle.tau_trace.specs.Known.{WellFormed, MayFollow}
+use Rattle.tau_trace.specs.Known.{WellFormed, MayFollow, IsSound}
 use Rattle.tau_trace.proofs.Lists.{slice_get-push_cases, slice_get-set_same, slice_get-set_other}
 use Rattle.tau_trace.proofs.Counts.{count-zero}
 use Rattle.tau_trace.proofs.Indexing.{well_formed_appended, len-appended}
@@ -67,9 +67,10 @@ abbrev opened : Program → Run
 opened P = opened_run (program_opening P)
 
 -- a system opens
-pub opens : (P : Program) (states : List StateRecord) (records : List Record) (values : List Value) → Sound P → Holds (opened P) (opening_states P.starts) states → HasStarts P.starts records → HasPosts P.posts values → IsSystem P (opened P) states records values
-opens P states records values sound holds starts posts = record {
+pub opens : (P : Program) (states : List StateRecord) (records : List Record) (values : List Value) → Sound P → IsSound (program_opening P) → Holds (opened P) (opening_states P.starts) states → HasStarts P.starts records → HasPosts P.posts values → IsSystem P (opened P) states records values
+opens P states records values sound opening holds starts posts = record {
   sound = sound;
+  well_formed = record { opening = opening; known = λ k s e. absurd (cc); few_steps = omega arith };
   fitting = record { opening = refl; steps = λ k s e. absurd (cc) };
   plain = λ k s e. absurd (cc);
   states_hold = holds;
@@ -96,13 +97,14 @@ opens P states records values sound holds starts posts = record {
 
 -- and goes on by one step
 pub goes_on : (P : Program) (T : Run) (s : Step) (old new : List StateRecord) (records records_after : List Record) (values values_after : List Value)
-    → WellFormed T → MayFollow T s → Fits P T (len T) s → IsTrue (is_plain s) → IsSystem P T old records values → Advances s old new
+    → MayFollow T s → Fits P T (len T) s → IsTrue (is_plain s) → IsSystem P T old records values → Advances s old new
     → AreRecords P (appended T s) records_after → AreValues P (appended T s) values_after → IsSystem P (appended T s) new records_after values_after
-goes_on P T s old new records records_after values values_after w may fits plain system advances are_records are_values = record {
+goes_on P T s old new records records_after values values_after may fits plain system advances are_records are_values = record {
   sound = system.sound;
-  fitting = fitting_grows P T s w (well_formed_appended T s w may) system.fitting fits;
+  well_formed = well_formed_appended T s system.well_formed may;
+  fitting = fitting_grows P T s system.well_formed (well_formed_appended T s system.well_formed may) system.fitting fits;
   plain = λ k r e. by k r (slice_get-push_cases T.steps s r k e);
-  states_hold = advances T (opening_states P.starts) w may system.states_hold;
+  states_hold = advances T (opening_states P.starts) system.well_formed may system.states_hold;
   records_are = are_records;
   values_are = are_values;
 } where
@@ -229,3 +231,17 @@ module _ (P : Program) (T : Run) (s : Step) (v : WellFormed T) (w : WellFormed (
     by (Trap t c) is = unsent (Trap t c) is refl
     by (Fail t) is = unsent (Fail t) is refl
     by (Lose m) is = unsent (Lose m) is refl
+
+-- a step is appended: the run, the states, the record of its transactor and the values after it
+pub made : (P : Program) (T V : Run) (s : Step) (t : ℕ) (c : RecordChange) (old new : List StateRecord) (records records_after : List Record) (r q : Record) (values values_after : List Value)
+    → MayFollow T s → Fits P T (len T) s → IsTrue (is_plain s) → t < born T (len T) → actor s ≡ Some t → Changes P T t s c → IsSystem P T old records values
+    → V ≡ appended T s → Advances s old new → slice_get records t ≡ Some r → IsChanged c r q → records_after ≡ slice_set records t q → values_after ≡ with_sent values (sent_value s)
+    → IsSystem P V new records_after values_after
+made P T V s t c old new records records_after r q values values_after may fits plain lt by changes system run advances at is after sent =
+    let w = well_formed_appended T s system.well_formed may in
+    let are_records = records_change P T s system.well_formed w t c records r q plain lt by changes at is system.records_are in
+    let are_values = values_change P T s system.well_formed w values system.values_are in
+    let whole = goes_on P T s old new records (slice_set records t q) values (with_sent values (sent_value s)) may fits plain system advances are_records are_values in
+    subst (λ (R : Run). IsSystem P R new records_after values_after) (sym run)
+        (subst (λ (rs : List Record). IsSystem P (appended T s) new rs values_after) (sym after)
+            (subst (λ (vs : List Value). IsSystem P (appended T s) new (slice_set records t q) vs) (sym sent) whole))

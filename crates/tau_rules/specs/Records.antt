@@ -1,5 +1,5 @@
 -- What the record of a transactor says.
-use Rattle.std.specs.Prelude.{◌≡◌, ℕ, suc, ◌<◌, Bool, ◌||◌, IsTrue, Option, Some, None, slice_get, length, map, List, [], ◌∷◌, ◌++◌}
+use Rattle.std.specs.Prelude.{◌≡◌, ℕ, suc, ◌<◌, Bool, ◌||◌, IsTrue, Option, Some, None, slice_get, slice_set, length, map, List, [], ◌∷◌, ◌++◌}
 use Rattle.tau_value.specs.declared.shared.Value.{Value}
 use Rattle.tau_value.specs.Value.{val_of}
 use Rattle.tau_tree.specs.declared.posts.Post.{Post}
@@ -71,3 +71,11 @@ sent_value s = None
 abbrev pub with_sent : List Value → Option Value → List Value
 with_sent vs None = vs
 with_sent vs (Some v) = vs ++ v ∷ []
+
+-- the record of t has changed, and no other
+pub record HasChanged (c : RecordChange) (t : ℕ) (old new : List Record) : Type 0 where
+  pub before : Record
+  pub after : Record
+  pub stood : slice_get old t ≡ Some before
+  pub changed : IsChanged c before after
+  pub is : new ≡ slice_set old t after

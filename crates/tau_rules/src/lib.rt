@@ -1,6 +1,7 @@
 //! The rules of a run: which step fits, and which is legal, after the steps before it (docs/rules.md, "Steps").
 #![tactic(auto)]
 
+mod appending;
 mod errors;
 mod laws;
 mod records;

@@ -1,6 +1,6 @@
 //! What the system keeps of each transactor's turns.
-ghost use Rattle.std.specs.Prelude.{◌≡◌, OnOk, OnErr};
-ghost use Rattle.tau_rules.specs.Records.{IsChanged};
+ghost use Rattle.std.specs.Prelude.{◌≡◌, ◌<◌, length, OnOk, OnErr};
+ghost use Rattle.tau_rules.specs.Records.{IsChanged, HasChanged};
 
 use std::alloc::{AllocError, Global};
 use tau_value::{Value, Values};
@@ -44,4 +44,18 @@ impl Record {
             RecordChange::Ended => Ok(()),
         }
     }
+}
+
+/// Changes the record of a transactor. Without memory the records stay as they were.
+pub(crate) fn change_record(
+    alloc: Global,
+    records: &mut Vec<Record>,
+    who: u32,
+    change: RecordChange,
+) -> Result<(), AllocError>
+    requires { who < length records.old.items }
+    ensures ok { OnOk result (HasChanged change who records.old.items records.new.items) }
+    ensures err { OnErr result (records.new.items ≡ records.old.items) }
+{
+    records[who as usize].take(alloc, change)
 }
