@@ -4,3 +4,4 @@ pub mod TraceLemmas
 pub mod TurnLemmas
 pub mod ValueLemmas
 pub mod SystemLemmas
+pub mod DeliverLemmas

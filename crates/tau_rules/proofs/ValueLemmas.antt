@@ -37,7 +37,7 @@ use Rattle.tau_rules.proofs.TraceLemmas.{below_length}
 use Rattle.tau_rules.specs.Turns.{HasBehaviour, start, created, HasBody, HasValue, post, message, Replies, RepliesOf, before, another, reply, TurnHas}
 
 -- an item of a list has what all items have
-at_all : {A : Type 0} (P : A → Type 0) (xs : List A) (k : ℕ) (x : A) → All P xs → slice_get xs k ≡ Some x → P x
+pub at_all : {A : Type 0} (P : A → Type 0) (xs : List A) (k : ℕ) (x : A) → All P xs → slice_get xs k ≡ Some x → P x
 at_all P [] k x h e = absurd (cc)
 at_all P (y ∷ ys) zero x h e =
     let same : y ≡ x = cc in

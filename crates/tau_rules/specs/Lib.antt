@@ -4,3 +4,4 @@ pub mod Traces
 pub mod Laws
 pub mod Records
 pub mod System
+pub mod Answers

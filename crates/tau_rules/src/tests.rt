@@ -1,0 +1,31 @@
+
+/// A program of one node and nothing else.
+fn nobody(alloc: Global) -> Program {
+    Program {
+        nodes: 1,
+        behaviours: Behaviours::new(alloc),
+        starts: Starts::new(alloc),
+        posts: Posts::new(alloc),
+        script: Script::new(alloc),
+    }
+}
+
+fn opens(alloc: Global) -> Option<u32> {
+    let program = nobody(alloc);
+    if !program.sound(alloc).ok()? {
+        return None;
+    }
+    let system = System::open(alloc, &program).ok()?;
+    if system.state_of(0).is_some() || system.saved_of(0).is_some() {
+        return None;
+    }
+    if system.program().nodes != 1 {
+        return None;
+    }
+    Some(system.trace().len())
+}
+
+#[test]
+fn a_system_opens(rt: impl Abort) {
+    assert!(&rt, opens(rt.alloc()) == Some(0));
+}
