@@ -1,0 +1,5 @@
+pub mod OpeningOf
+pub mod Report
+pub mod Counted
+pub mod Rows
+pub mod Laws
