@@ -1,4 +1,3 @@
-pub mod OpeningOf
 pub mod Report
 pub mod Counted
 pub mod Rows

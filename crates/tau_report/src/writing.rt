@@ -3,7 +3,7 @@ ghost use Rattle.std.specs.Prelude.{◌≡◌, ◌≤◌, All, IfOk};
 ghost use Rattle.tau_sexpr.specs.Form.{tree_of};
 ghost use Rattle.tau_sexpr.specs.Tree.{depths, HasWords};
 ghost use Rattle.tau_tree.specs.Sound.{Sound};
-ghost use Rattle.tau_report.specs.OpeningOf.{IsOpeningOf};
+ghost use Rattle.tau_script.specs.Openings.{program_opening};
 ghost use Rattle.tau_report.specs.Report.{IsReport, IsReportText};
 ghost use Rattle.tau_report.specs.Rows.{counts_tree};
 
@@ -19,7 +19,7 @@ use tau_tree::Program;
 /// The text of the report of a program and a trace (docs/formats.md, "Report"): the saved states, by transactor, and
 /// the counts, one form a line. It passes over the trace once. The error is want of memory.
 pub fn report(alloc: Global, program: &Program, trace: &Trace) -> Result<Vec<u8>, AllocError>
-    requires opening { IsOpeningOf program.now trace.now.run.opening }
+    requires opening { trace.now.run.opening ≡ program_opening program.now }
     requires sound { Sound program.now }
     ensures { IfOk result (λ v. IsReportText program.now trace.now.run v.items) }
 {
@@ -30,7 +30,7 @@ pub fn report(alloc: Global, program: &Program, trace: &Trace) -> Result<Vec<u8>
 /// The forms of the report of a program and a trace (docs/formats.md, "Report"). Their lists stand at most 65 deep, and
 /// none of their words is empty. The error is want of memory.
 pub fn report_forms(alloc: Global, program: &Program, trace: &Trace) -> Result<Forms, AllocError>
-    requires opening { IsOpeningOf program.now trace.now.run.opening }
+    requires opening { trace.now.run.opening ≡ program_opening program.now }
     requires sound { Sound program.now }
     ensures report { IfOk result (λ f. IsReport program.now trace.now.run f) }
     ensures depth { IfOk result (λ f. depths f ≤ 65) }

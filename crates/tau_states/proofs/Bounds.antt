@@ -1,5 +1,5 @@
 -- States and saved states are in bounds, where the opening states are.
-use Rattle.std.proofs.Common.{◌≡◌, ℕ, ◌<◌, List, subst, Some, All}
+use Rattle.std.proofs.Common.{ℕ, List, subst, All}
 use Rattle.std.proofs.lemmas.Option.{slice_get_within, get_or_from_slice_get}
 use Rattle.tau_value.specs.declared.shared.Value.{Value}
 use Rattle.tau_value.specs.Value.{val_of}
