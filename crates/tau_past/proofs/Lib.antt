@@ -1,3 +1,14 @@
 pub mod Known
+pub mod Turning
+pub mod NextTables
+pub mod Endings
+pub mod Listings
+pub mod PastSearch
+pub mod Breaches
 pub mod Safety
 pub mod Expected
+pub mod Agreement
+pub mod PendingLemmas
+pub mod HeardLemmas
+pub mod BoundLemmas
+pub mod FixedLemmas

@@ -104,7 +104,7 @@ brings_closing T H c q r i st e (checkpoint {j = j} h k a b) =
         later lt = ⊎_elim (λ l. omega (arith, at_place, at_close, l)) (λ s. omega (arith, at_place, at_close, s.0)) ((points_grow T q.who j).grows st.place (omega (arith, lt)))
 
 -- where every point of a known past is known firm, it is the whole past
-whole_past : (T : Run) → KeepsRules T → (H : ℕ → Type 0) → IsClosed T H → (p : Point) → ((x : Point) → PastIn T H (Is p) x → FirmIn T H x) → (x : Point) → Past T p x → PastIn T H (Is p) x
+pub whole_past : (T : Run) → KeepsRules T → (H : ℕ → Type 0) → IsClosed T H → (p : Point) → ((x : Point) → PastIn T H (Is p) x → FirmIn T H x) → (x : Point) → Past T p x → PastIn T H (Is p) x
 whole_past T rules H c p firm =
     least (Link T Everywhere) (Is p) (PastIn T H (Is p)) (record { starts = λ x e. start e; follows = λ x y r l. next r (known x y (firm x r) l) }) where
       known : (x y : Point) → FirmIn T H x → Link T Everywhere x y → Link T H x y
@@ -120,7 +120,7 @@ record Root (T : Run) (p : Point) : Type 0 where
   rolled_back : RolledBack T root
   never : ¬ StabilizedIn T Everywhere root
 
-known_in_past : (T : Run) (H : ℕ → Type 0) (p x : Point) → PastIn T H (Is p) x → Past T p x
+pub known_in_past : (T : Run) (H : ℕ → Type 0) (p x : Point) → PastIn T H (Is p) x → Past T p x
 known_in_past T H p = monotone (Link T H) (Link T Everywhere) (Is p) (Is p) links (λ x e. e) where
   links : (x y : Point) → Link T H x y → Link T Everywhere x y
   links x y (takes h t) = takes tt t

@@ -5,3 +5,9 @@ pub mod Decisions
 pub mod States
 pub mod Safety
 pub mod Laws
+pub mod Tables
+pub mod TableSteps
+pub mod Searching
+pub mod Audits
+pub mod LocalLaws
+pub mod KnownLaws

@@ -1,4 +1,9 @@
-//! Each law once.
+//! Each law once, and runs that are pushed step by step.
+mod building;
+mod chain;
+mod failing_node;
+mod newborn;
+
 use crate::laws;
 
 #[test]

@@ -1,0 +1,14 @@
+use Rattle.std.proofs.Common.{◌≡◌, ℕ, ◌<◌, length}
+use Rattle.std.specs.Prelude.{Contains}
+use Rattle.tau_points.specs.declared.point.Point.{Point}
+use Rattle.tau_trace.specs.Run.{len}
+use Rattle.tau_past.specs.Searching.{IsComplete}
+use Rattle.tau_past.proofs.Breaches.{Checking}
+use Rattle.tau_past.proofs.auditing.first_breach.Given as goal
+
+abbrev pub invariant-loop-place : goal.invariant-loop-place
+invariant-loop-place l = record {
+  complete : IsComplete l.index l.found l.passed.items;
+  checking : Checking l.index l.place l.found;
+  length : length l.passed.items ≡ len l.index;
+}

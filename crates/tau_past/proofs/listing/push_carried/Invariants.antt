@@ -1,0 +1,10 @@
+use Rattle.std.proofs.Common.{suc}
+use Rattle.std.specs.Option.{option_map_or}
+use Rattle.tau_past.proofs.Listings.{Passes}
+use Rattle.tau_past.proofs.listing.push_carried.Given as goal
+
+abbrev pub invariant-loop-next : goal.invariant-loop-next
+invariant-loop-next l = Passes l.index l.place l.fn.passed l.passed l.fn.points.items l.points.items l.next
+
+abbrev pub decreases-loop-next : goal.decreases-loop-next
+decreases-loop-next l = option_map_or suc l.next 0

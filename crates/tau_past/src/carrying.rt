@@ -1,0 +1,80 @@
+//! What steps carry, each step by an earlier one.
+ghost use Rattle.std.specs.Prelude.{◌≡◌, Option, slice_get, option_map};
+ghost use Rattle.tau_past.specs.TableSteps.{carried_by, turn_after, origin_in};
+
+use tau_points::Point;
+use tau_trace::Step;
+
+/// What a step carries: the point that was touched last, if one was, and all that the step at an earlier place carries,
+/// if one is named (docs/definitions.md, "Carried").
+#[derive(Clone, Copy)]
+pub(crate) struct Carrying {
+    pub(crate) touched: Option<Point>,
+    pub(crate) rest: Option<u32>,
+}
+
+/// What a step of a transactor, or of nobody, carries, by what each transactor's turn does.
+pub(crate) fn carried_by(turns: &[Option<Carrying>], who: Option<u32>) -> Carrying
+    ensures { result ≡ carried_by turns.now who }
+{
+    if let Some(who) = who {
+        if let Some(Some(carrying)) = turns.get(who as usize).copied() {
+            return carrying;
+        }
+    }
+    Carrying {
+        touched: None,
+        rest: None,
+    }
+}
+
+/// What a turn carries after a step of its transactor at this place and point.
+pub(crate) fn turn_after(
+    step: &Step,
+    place: u32,
+    own: Point,
+    origin: Option<u32>,
+    turn: Option<Carrying>,
+) -> Option<Carrying>
+    ensures { result ≡ turn_after step.now place own origin turn }
+{
+    match step {
+        Step::Take { .. } => Some(Carrying {
+            touched: None,
+            rest: origin,
+        }),
+        Step::Get { .. }
+        | Step::Set { .. }
+        | Step::Skip { .. }
+        | Step::Stabilize { .. }
+        | Step::Ask { .. } => turn.map(|_| Carrying {
+            touched: Some(own),
+            rest: Some(place),
+        }),
+        Step::Fall { .. }
+        | Step::Done { .. }
+        | Step::Checkpoint { .. }
+        | Step::Hold { .. }
+        | Step::Rollback { .. }
+        | Step::Stay { .. }
+        | Step::Trap { .. }
+        | Step::Fail { .. } => None,
+        Step::Drop { .. }
+        | Step::Void { .. }
+        | Step::Send { .. }
+        | Step::New { .. }
+        | Step::Lose { .. } => turn,
+    }
+}
+
+/// The place of the Send of the message that the step takes; `None` for a post, and for other steps.
+pub(crate) fn origin_in(sends: &[u32], posts: u32, step: &Step) -> Option<u32>
+    ensures { result ≡ origin_in sends.now posts step.now }
+{
+    match step {
+        Step::Take { message, .. } if *message >= posts => {
+            sends.get((*message - posts) as usize).copied()
+        }
+        _ => None,
+    }
+}

@@ -1,0 +1,143 @@
+-- Which step fits at a place reads the opening and the steps before it alone.
+use Rattle.std.proofs.Common.{◌≡◌, ◌⊎◌, ◌↔◌, inl, inr, ⊎_elim, ℕ, zero, suc, ◌+◌, ◌<◌, ◌≤◌, Bool, Option, Some, None, List, length, refl, sym, ap, ◌∙◌, subst, arith}
+use Rattle.std.specs.Prelude.{slice_get, option_and_then}
+use Rattle.tau_value.specs.declared.shared.Value.{Value}
+use Rattle.tau_value.specs.Val as val
+use Rattle.tau_value.specs.Val.{Val}
+use Rattle.tau_value.specs.Value.{val_of}
+use Rattle.tau_history.specs.Timeline.{interval}
+use Rattle.tau_tree.specs.declared.programs.Program.{Program}
+use Rattle.tau_tree.specs.Code.{Code}
+use Rattle.tau_trace.specs.declared.step.Step.{Step}
+use Rattle.tau_trace.specs.declared.step.Step.TheVariants.{Take, Drop, Fall, Void, Get, Set, Skip, Send, New, Stabilize, Ask, Checkpoint, Hold, Rollback, Stay, Done, Trap, Fail, Lose}
+use Rattle.tau_trace.specs.Steps.{actor}
+use Rattle.tau_trace.specs.Run.{Run, Agree, step_at, ActsAt, len, appended}
+use Rattle.tau_trace.specs.Numbering.{born, sent, IsNew, IsOrigin, Receives, InFlight}
+use Rattle.tau_trace.specs.Histories.{history, Ended, EndsAt, IsLiving}
+use Rattle.tau_trace.specs.Points.{point_at}
+use Rattle.tau_trace.specs.Turns.{Turn, IsOpenTurn}
+use Rattle.tau_trace.specs.Known.{WellFormed, IsKnownAt}
+use Rattle.tau_trace.proofs.Agreement.{agree_sym, agree_below, agree_appended, step_at-appended, born-same, sent-same, history-same, origin_before, new_before, same_at, born-grows}
+use Rattle.tau_past.specs.Decisions.{Judgement, Verdict, Free}
+use Rattle.tau_past.specs.States.{StateAt}
+use Rattle.tau_past.specs.LocalLaws.{SameDecisionsAt}
+use Rattle.tau_past.proofs.Agreement.{decisions_local, point-same}
+use Rattle.tau_states.specs.Opening.{opening_states}
+use Rattle.tau_eval.specs.Eff.{Eff}
+use Rattle.tau_rules.specs.Turns.{HasBehaviour, start, created, HasBody, HasValue, post, message, Replies, RepliesOf, before, another, reply, TurnHas}
+use Rattle.tau_rules.specs.Fits.{Arrives, ArrivesLate, LacksNumber, Fits, IsStable, IsVolatile}
+
+module _ {T U : Run} where
+  behaviour-same : (P : Program) (t k b : ℕ) → Agree T U k → t < born T k → HasBehaviour P T t b → HasBehaviour P U t b
+  behaviour-same P t k b a lt (start {s = s} e f) = start e f
+  behaviour-same P t k b a lt (created {j = j} {by = by} n e) =
+      let earlier = new_before T j by t k n lt in
+      created (record { behaviour = n.behaviour; node = n.node; state = n.state; stands = sym (a.steps j earlier) ∙ n.stands; made = n.made ∙ born-same j (agree_below j (omega arith) a) }) e
+
+  body-same : (P : Program) (t k : ℕ) (body : Code) → Agree T U k → t < born T k → HasBody P T t body → HasBody P U t body
+  body-same P t k body a lt h = record { number = h.number; behaviour = h.behaviour; has = behaviour-same P t k h.number a lt h.has; stands = h.stands; is = h.is }
+
+  value-same : (P : Program) (m k : ℕ) (v : Val) → Agree T U k → m < sent T k → HasValue P T m v → HasValue P U m v
+  value-same P m k v a lt (post {q = q} e f) = post e f
+  value-same P m k v a lt (message {j = j} {by = by} o e) =
+      let earlier = origin_before T j by m k o lt in
+      message (record { to = o.to; value = o.value; stands = sym (a.steps j earlier) ∙ o.stands; made = o.made ∙ sent-same j (agree_below j (omega arith) a) }) e
+
+  replies-same : (opening : List Value) (j : ℕ) (s : Step) (r : Val) → WellFormed T → WellFormed U → Agree T U j → IsKnownAt T j s → Replies T opening j s r → Replies U opening j s r
+  replies-same opening j (Get t) r v w a known h =
+      let same : point_at T t j ≡ point_at U t j = point-same t j a in
+      (h.0, subst (λ p. StateAt U opening p j h.0) same (((decisions_local T U j v w a).state opening (point_at T t j) h.0 known (omega arith)).0 h.1), h.2)
+  replies-same opening j (Ask t answer) r v w a known h = h
+  replies-same opening j (New t b n x) r v w a known h = h ∙ ap val.name (born-same j a)
+  replies-same opening j (Set t x) r v w a known h = h
+  replies-same opening j (Skip t) r v w a known h = h
+  replies-same opening j (Send t u x) r v w a known h = h
+  replies-same opening j (Stabilize t) r v w a known h = h
+  replies-same opening j (Take t m) r v w a known h = absurd h
+  replies-same opening j (Drop t m) r v w a known h = absurd h
+  replies-same opening j (Fall t m) r v w a known h = absurd h
+  replies-same opening j (Void t m) r v w a known h = absurd h
+  replies-same opening j (Checkpoint t) r v w a known h = absurd h
+  replies-same opening j (Hold t) r v w a known h = absurd h
+  replies-same opening j (Rollback t) r v w a known h = absurd h
+  replies-same opening j (Stay t) r v w a known h = absurd h
+  replies-same opening j (Done t) r v w a known h = absurd h
+  replies-same opening j (Trap t c) r v w a known h = absurd h
+  replies-same opening j (Fail t) r v w a known h = absurd h
+  replies-same opening j (Lose m) r v w a known h = absurd h
+
+  pub replies_of-same : (opening : List Value) (t a k : ℕ) (rs : List Val) → WellFormed T → WellFormed U → Agree T U k → RepliesOf T opening t a k rs → RepliesOf U opening t a k rs
+  replies_of-same opening t a k rs v w g (before le) = before le
+  replies_of-same opening t a (suc k) rs v w g (another le n r) =
+      another le (λ acts. n (ap (option_and_then actor) (g.steps k (omega arith)) ∙ acts)) (replies_of-same opening t a k rs v w (agree_below k (omega arith) g) r)
+  replies_of-same opening t a (suc k) rs v w g (reply {s = s} {rs = qs} r le acts stands gives so_far) =
+      let below = agree_below k (omega arith) g in
+      let here = g.steps k (omega arith) in
+      reply r le (ap (option_and_then actor) (sym here) ∙ acts) (sym here ∙ stands) (replies-same opening k s r v w below (v.known k s stands) gives) (replies_of-same opening t a k qs v w below so_far)
+
+  pub turn_has-same : (P : Program) (t k : ℕ) (e : Eff) → WellFormed T → WellFormed U → Agree T U k → TurnHas P T t k e → TurnHas P U t k e
+  turn_has-same P t k e v w a h =
+      let known = v.known h.place (Take t h.message) h.turn.takes in
+      let within = agree_below h.place (omega (arith, h.turn.before)) a in
+      record {
+        place = h.place;
+        message = h.message;
+        body = h.body;
+        value = h.value;
+        replies = h.replies;
+        turn = ((same_at T U k a).turn t h.place h.message).0 h.turn;
+        body_is = body-same P t h.place h.body within known.0 h.body_is;
+        value_is = value-same P h.message h.place h.value within known.1 h.value_is;
+        replies_are = replies_of-same (opening_states P.starts) t (suc h.place) k h.replies v w a h.replies_are;
+        effect_is = h.effect_is;
+      }
+
+  living-same : (t k : ℕ) → Agree T U k → IsLiving T t k → IsLiving U t k
+  living-same t k a l j lt e =
+      let ended = ((same_at T U k a).ended t).1 (record { place = j; before = lt; ends = e }) in
+      l ended.place ended.before ended.ends
+
+  idle-same : (t k : ℕ) → Agree T U k → IsOpenTurn T t k None → IsOpenTurn U t k None
+  idle-same t k a i place m u = i place m (((same_at T U k a).turn t place m).1 u)
+
+  arrives-same : (t m k : ℕ) → Agree T U k → m < sent T k → Arrives T t m k → Arrives U t m k
+  arrives-same t m k a lt h =
+      let same = same_at T U k a in
+      record { in_flight = (same.in_flight m).0 h.in_flight; receiver = (same.receives m t lt).0 h.receiver; living = living-same t k a h.living; idle = idle-same t k a h.idle }
+
+  late-same : (t m k : ℕ) → Agree T U k → m < sent T k → ArrivesLate T t m k → ArrivesLate U t m k
+  late-same t m k a lt h =
+      let same = same_at T U k a in
+      record { in_flight = (same.in_flight m).0 h.in_flight; receiver = (same.receives m t lt).0 h.receiver; ended = (same.ended t).0 h.ended }
+
+  lacks-same : (P : Program) (t k : ℕ) → WellFormed T → WellFormed U → Agree T U k → LacksNumber P T t k → LacksNumber P U t k
+  lacks-same P t k v w a h = record { behaviour = h.behaviour; node = h.node; state = h.state; effect = turn_has-same P t k _ v w a h.effect; full = omega (arith, h.full, born-same k a) }
+
+  stable-same : (t k : ℕ) → Agree T U k → (b : Bool) → (history T t k).stable ≡ b → (history U t k).stable ≡ b
+  stable-same t k a b e = ap (λ h. h.stable) (sym (history-same t k a)) ∙ e
+
+not_free-same : (T U : Run) (t k : ℕ) → SameDecisionsAt T U k → t < born T k → (¬ Free T t k) ↔ (¬ Free U t k)
+not_free-same T U t k d lt = (λ n f. n ((d.free t lt).1 f), λ n f. n ((d.free t lt).0 f))
+
+pub fits_same : (P : Program) (T U : Run) (k : ℕ) (s : Step) → WellFormed T → WellFormed U → Agree T U k → IsKnownAt T k s → Fits P T k s → Fits P U k s
+fits_same P T U k (Take t m) v w a known f = (arrives-same t m k a known.1 f.0, ((decisions_local T U k v w a).verdict t m _ known.0 known.1).0 f.1)
+fits_same P T U k (Drop t m) v w a known f = (arrives-same t m k a known.1 f.0, ((decisions_local T U k v w a).verdict t m _ known.0 known.1).0 f.1)
+fits_same P T U k (Fall t m) v w a known f = (arrives-same t m k a known.1 f.0, ((decisions_local T U k v w a).verdict t m _ known.0 known.1).0 f.1)
+fits_same P T U k (Void t m) v w a known f = late-same t m k a known.1 f
+fits_same P T U k (Get t) v w a known f = turn_has-same P t k _ v w a f
+fits_same P T U k (Set t x) v w a known f = (turn_has-same P t k _ v w a f.0, stable-same t k a _ f.1)
+fits_same P T U k (Skip t) v w a known f = (f.0, turn_has-same P t k _ v w a f.1, stable-same t k a _ f.2)
+fits_same P T U k (Send t u x) v w a known f = turn_has-same P t k _ v w a f
+fits_same P T U k (New t b n x) v w a known f = (turn_has-same P t k _ v w a f.0, omega (arith, f.1, born-same k a))
+fits_same P T U k (Stabilize t) v w a known f = turn_has-same P t k _ v w a f
+fits_same P T U k (Ask t x) v w a known f =
+    let same = not_free-same T U t k (decisions_local T U k v w a) known in
+    (turn_has-same P t k _ v w a f.0, (λ h. same.0 (f.1.0 h), λ h. f.1.1 (same.1 h)))
+fits_same P T U k (Checkpoint t) v w a known f = (turn_has-same P t k _ v w a f.0, ((decisions_local T U k v w a).free t known).0 f.1)
+fits_same P T U k (Hold t) v w a known f = (turn_has-same P t k _ v w a f.0, (not_free-same T U t k (decisions_local T U k v w a) known).0 f.1)
+fits_same P T U k (Rollback t) v w a known f = (turn_has-same P t k _ v w a f.0, stable-same t k a _ f.1)
+fits_same P T U k (Stay t) v w a known f = (turn_has-same P t k _ v w a f.0, stable-same t k a _ f.1)
+fits_same P T U k (Done t) v w a known f = turn_has-same P t k _ v w a f
+fits_same P T U k (Trap t c) v w a known f = ⊎_elim (λ h. inl (turn_has-same P t k _ v w a h)) (λ h. inr (h.0, lacks-same P t k v w a h.1)) f
+fits_same P T U k (Fail t) v w a known f = (omega (arith, f.0, born-same k a), living-same t k a f.1)
+fits_same P T U k (Lose m) v w a known f = ((same_at T U k a).in_flight m).0 f

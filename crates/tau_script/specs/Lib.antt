@@ -1,0 +1,4 @@
+pub mod Cursors
+pub mod Scripts
+pub mod Openings
+pub mod Laws
