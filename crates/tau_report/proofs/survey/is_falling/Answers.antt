@@ -12,7 +12,7 @@ returns-in-Some c T opening h may =
     let s = c.args.step.now in
     let by : actor s ≡ Some c.in-Some.who = sym c.in-Some.ensures in
     let below : c.in-Some.who < born T (len T) = known_actor T.opening (born T (len T)) (sent T (len T)) c.in-Some.who s may.known by in
-    c.falls.ensures ∙ ap (λ b. is_fall (move_of b s)) (c.is_stable.ensures T opening h below) ∙ falls_by T s c.in-Some.who by
+    c.falls.ensures ∙ ap (λ b. is_fall (move_of b s)) (c.is_stable.ensures.stable T opening h below) ∙ falls_by T s c.in-Some.who by
 
 pub returns-in-None : goal.returns-in-None
 returns-in-None c T opening h may = falls_by_none T c.args.step.now (sym c.in-None.ensures)
