@@ -1,12 +1,11 @@
 -- The forms of saved states, transactor by transactor.
-use Rattle.std.proofs.Common.{◌≡◌, ◌≢◌, ◌⊎◌, inl, inr, ⊎_elim, ℕ, zero, suc, ◌+◌, ◌^◌, ◌<◌, ◌≤◌, max, IsTrue, Bool, true, false, cond, ltb, eqb, List, [], ◌∷◌, ◌++◌, length, append-nil, get_or, All, Option, Some, None, unwrap_or, refl, sym, ap, ◌∙◌, subst, arith, eqb-true, eq-eqb}
-use Rattle.std.specs.Prelude.{slice_get, codes, ◌||◌, ◌==◌, IsFalse}
+use Rattle.std.proofs.Common.{◌≡◌, ◌≢◌, ⊎_elim, ℕ, suc, ◌^◌, ◌<◌, ◌≤◌, Bool, true, false, cond, ltb, List, [], ◌∷◌, ◌++◌, length, append-nil, get_or, All, Some, None, unwrap_or, refl, sym, ap, ◌∙◌, subst, arith, eqb-true, eq-eqb}
+use Rattle.std.specs.Prelude.{slice_get, codes, ◌||◌, ◌==◌}
 use Rattle.std.specs.Fmt.{decimal}
 use Rattle.std.proofs.lemmas.Fmt.{decimal_nonempty}
 use Rattle.std.proofs.lemmas.Option.{slice_get_cases}
 use Rattle.std.proofs.lemmas.List.Elements.{All-nil, All-cons, All-append, All-map}
-use Rattle.tau_sexpr.specs.Tree.{Tree, Trees, word, list, inside, depth_of, depth_of_all, depths, depths-append, HasWords, AllHaveWords}
-use Rattle.tau_value.specs.declared.shared.Value.{Value}
+use Rattle.tau_sexpr.specs.Tree.{Tree, depths-append, HasWords}
 use Rattle.tau_value.specs.Value.{val_of}
 use Rattle.tau_value.specs.Names.{IsName, AreNames}
 use Rattle.tau_value.specs.Sizes.{IsInBounds}
@@ -19,21 +18,20 @@ use Rattle.tau_trace.specs.Run.{Run, len, starts}
 use Rattle.tau_trace.specs.Numbering.{born}
 use Rattle.tau_trace.specs.Histories.{history, move_at, is_close}
 use Rattle.tau_trace.specs.Known.{WellFormed}
-use Rattle.tau_trace.specs.StepForms.{who_form, count_form, value_form, IsWritten}
+use Rattle.tau_trace.specs.StepForms.{IsWritten}
 use Rattle.tau_trace.proofs.Counts.{count-le}
 use Rattle.tau_trace.proofs.Counted.{counted}
 use Rattle.tau_trace.proofs.Indexing.{born-le}
-use Rattle.tau_past.specs.States.{SavedWith}
 use Rattle.tau_states.specs.declared.state_record.StateRecord.{StateRecord}
 use Rattle.tau_states.specs.Opening.{opening_states}
 use Rattle.tau_states.specs.Table.{Holds}
-use Rattle.tau_states.specs.Answers.{IsPresent, HasClosed, IsSavedAfter}
+use Rattle.tau_states.specs.Answers.{IsSavedAfter}
 use Rattle.tau_states.proofs.Reading as reading
 use Rattle.tau_states.proofs.Bounds.{saved_bounded}
 use Rattle.tau_report.specs.declared.counts.Counts.{Counts}
-use Rattle.tau_report.specs.Report.{HasSaved, IsSavedForm, SavedForms, none, without, with_one, headed, count_of, IsReport}
+use Rattle.tau_report.specs.Report.{HasSaved, IsSavedForm, SavedForms, none, without, with_one, count_of, IsReport}
 use Rattle.tau_report.specs.Rows.{saved_form, is_unlisted, saved_row, IsRowWritten, counts_tree, ArePrintable, AreRows}
-use Rattle.tau_report.specs.Counted.{counts_in, IsSurvey}
+use Rattle.tau_report.specs.Counted.{IsSurvey}
 use Rattle.tau_report.proofs.Counting.{counts_fit}
 
 -- words

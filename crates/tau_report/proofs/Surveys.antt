@@ -1,5 +1,5 @@
 -- The states and the counts of the first steps of a run.
-use Rattle.std.proofs.Common.{◌≡◌, ℕ, zero, suc, ◌<◌, ◌≤◌, Bool, List, [], Option, Some, refl, sym, ap, ◌∙◌, subst, arith, take}
+use Rattle.std.proofs.Common.{◌≡◌, ℕ, suc, ◌<◌, Bool, List, Some, sym, ap, ◌∙◌, subst, arith}
 use Rattle.std.proofs.lemmas.Option.{slice_get_within}
 use Rattle.tau_value.specs.declared.shared.Value.{Value}
 use Rattle.tau_trace.specs.declared.step.Step.{Step}
@@ -10,7 +10,7 @@ use Rattle.tau_states.specs.declared.state_record.StateRecord.{StateRecord}
 use Rattle.tau_states.specs.Table.{Holds, Advances, opened_run}
 use Rattle.tau_report.specs.declared.counts.Counts.{Counts}
 use Rattle.tau_report.specs.Report.{falls_at}
-use Rattle.tau_report.specs.Counted.{counts_in, no_counts, counts_after, AreFew, IsSurvey, AdvancesSurvey}
+use Rattle.tau_report.specs.Counted.{no_counts, counts_after, AreFew, IsSurvey, AdvancesSurvey}
 use Rattle.tau_report.proofs.Prefixes.{prefix_next, prefix_whole, well_formed_prefix}
 use Rattle.tau_report.proofs.Counting.{counts_next, counts_opened, are_few}
 

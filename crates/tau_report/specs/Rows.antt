@@ -1,5 +1,5 @@
 -- The forms that are written from the records of transactors and from counts.
-use Rattle.std.specs.Prelude.{◌≡◌, ℕ, ◌≤◌, Bool, true, false, ◌||◌, ◌==◌, List, [], ◌∷◌, if◌then◌else◌, IsFalse, All, codes}
+use Rattle.std.specs.Prelude.{◌≡◌, ℕ, ◌≤◌, Bool, ◌||◌, ◌==◌, List, [], ◌∷◌, if◌then◌else◌, IsFalse, All, codes}
 use Rattle.tau_sexpr.specs.Tree.{Tree, depths, HasWords}
 use Rattle.tau_value.specs.declared.shared.Value.{Value}
 use Rattle.tau_value.specs.Sizes.{IsInBounds}

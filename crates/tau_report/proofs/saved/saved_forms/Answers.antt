@@ -1,4 +1,4 @@
-use Rattle.std.proofs.Common.{◌≡◌, ◌+◌, ◌<◌, sym, subst, refl, length, Some, arith, add-one}
+use Rattle.std.proofs.Common.{◌≡◌, ◌+◌, sym, subst, refl, length, Some, arith, add-one}
 use Rattle.std.specs.Prelude.{slice_get}
 use Rattle.std.proofs.lemmas.Option.{slice_get_read}
 use Rattle.tau_report.specs.Rows.{AreRows}

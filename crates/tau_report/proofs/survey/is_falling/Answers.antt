@@ -1,4 +1,4 @@
-use Rattle.std.proofs.Common.{◌≡◌, ◌<◌, ◌∙◌, ap, sym, Some, None}
+use Rattle.std.proofs.Common.{◌≡◌, ◌<◌, ◌∙◌, ap, sym, Some}
 use Rattle.tau_trace.specs.Run.{len}
 use Rattle.tau_trace.specs.Steps.{actor}
 use Rattle.tau_trace.specs.Numbering.{born, sent}

@@ -1,6 +1,6 @@
-use Rattle.std.proofs.Common.{◌≡◌, ◌<◌, ◌≤◌, ◌∙◌, ap, sym, subst, Some, None, arith, add-one}
+use Rattle.std.proofs.Common.{◌≡◌, ◌∙◌, ap, sym, subst, Some, None, arith, add-one}
 use Rattle.std.specs.Option.{option_copied}
-use Rattle.tau_trace.specs.Run.{Run, len, step_at}
+use Rattle.tau_trace.specs.Run.{step_at}
 use Rattle.tau_trace.proofs.Prefix.{prefix}
 use Rattle.tau_states.specs.Opening.{opening_states}
 use Rattle.tau_report.specs.Counted.{IsSurvey}

@@ -1,7 +1,4 @@
-use Rattle.std.proofs.Common.{◌≡◌, sym}
 use Rattle.tau_sexpr.specs.Form.{tree_of}
-use Rattle.tau_report.specs.Report.{IsReport}
-use Rattle.tau_report.specs.Rows.{ArePrintable}
 use Rattle.tau_report.proofs.SavedRows.{report_is, few_records}
 use Rattle.tau_report.proofs.writing.report_forms.Goals as goal
 

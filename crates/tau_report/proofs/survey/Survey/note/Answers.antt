@@ -1,4 +1,4 @@
-use Rattle.std.specs.Prelude.{Result, Ok, Err, OnOk, List, Bool}
+use Rattle.std.specs.Prelude.{Result, Ok, Err, OnOk}
 use Rattle.tau_states.specs.Table.{Advances}
 use Rattle.tau_report.specs.Counted.{AdvancesSurvey}
 use Rattle.tau_report.proofs.Surveys.{advances_survey}
