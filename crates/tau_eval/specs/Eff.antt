@@ -1,5 +1,5 @@
 -- Effects as plain data, which contracts see in place of the program's own type.
-use Rattle.std.specs.Prelude.{ℕ}
+use Rattle.std.specs.Prelude.{ℕ, Bool, true, false, IsTrue}
 use Rattle.tau_value.specs.Val.{Val}
 
 -- what the evaluation of a body stops at; transactors, behaviours and nodes by their numbers
@@ -19,12 +19,15 @@ pub data Eff : Type 0 where
   -- the code
   trap : ℕ → Eff
 
--- the effects that have a reply; after the others the turn ends
+-- whether an effect has a reply; after one that has none the turn ends
+abbrev pub has_reply : Eff → Bool
+has_reply get = true
+has_reply (set v) = true
+has_reply (send to v) = true
+has_reply (new b n state) = true
+has_reply stabilize = true
+has_reply ask = true
+has_reply e = false
+
 abbrev pub HasReply : Eff → Type 0
-HasReply get = Unit {0}
-HasReply (set v) = Unit {0}
-HasReply (send to v) = Unit {0}
-HasReply (new b n state) = Unit {0}
-HasReply stabilize = Unit {0}
-HasReply ask = Unit {0}
-HasReply e = ⊥
+HasReply e = IsTrue (has_reply e)

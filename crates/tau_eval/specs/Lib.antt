@@ -2,5 +2,12 @@ pub mod Eff
 pub mod Effect
 pub mod Same
 pub mod Operations
+pub mod Answered
 pub mod Outcome
+pub mod Arguments
 pub mod Meaning
+pub mod Frames
+pub mod Machine
+pub mod Turn
+pub mod Course
+pub mod Settings

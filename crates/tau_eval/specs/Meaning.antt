@@ -4,6 +4,7 @@ use Rattle.std.specs.Option.{option_or}
 use Rattle.std.specs.Str.{bytes_eq}
 use Rattle.tau_value.specs.Val as val
 use Rattle.tau_value.specs.Val.{Val, Vals}
+use Rattle.tau_tree.specs.declared.expressions.Operation.{Operation}
 use Rattle.tau_tree.specs.Code.{Code, unit, truth, int, text, msg, own, var, start, list, let_in, if_else, seq, fold, apply, get, set, send, new, stabilize, checkpoint, rollback, dependent, Codes, none, more}
 use Rattle.tau_eval.specs.Eff as eff
 use Rattle.tau_eval.specs.Eff.{Eff}
@@ -35,11 +36,19 @@ abbrev pub sends : Val → Val → After
 sends (val.name to) v n rs = asks (eff.send to v) n rs
 sends w v n rs = stops (eff.trap 1)
 
--- effect new on a node, which is an integer, where there are so many nodes: trap 1 for another kind, trap 8 for no node
+-- the node of an integer, where there are so many nodes
+abbrev pub node_at : ℕ → ℤ → Option ℕ
+node_at nodes (pos k) = if nat_lt k nodes then Some k else None
+node_at nodes (negsuc k) = None
+
+-- effect new of a behaviour on a node; trap 8 where there is no such node
+abbrev pub creates_on : Option ℕ → ℕ → Val → After
+creates_on (Some node) b state n rs = asks (eff.new b node state) n rs
+creates_on None b state n rs = stops (eff.trap 8)
+
+-- the same on the node of an integer, where there are so many nodes; trap 1 for another kind
 abbrev pub creates : ℕ → ℕ → Val → Val → After
-creates nodes b (val.int (pos k)) state n rs =
-    if nat_lt k nodes then asks (eff.new b k state) n rs else stops (eff.trap 8)
-creates nodes b (val.int (negsuc k)) state n rs = stops (eff.trap 8)
+creates nodes b (val.int z) state n rs = creates_on (node_at nodes z) b state n rs
 creates nodes b w state n rs = stops (eff.trap 1)
 
 -- the sum becomes, for each item in order, the value that the body gives for the sum and the item
@@ -73,12 +82,7 @@ abbrev mutual
   meaning (seq cs) s env n rs = begun n (λ m. last cs s env val.unit m rs)
   meaning (fold l first sum item body) s env n rs =
       begun n (λ m. and_then (meaning l s env m rs) (λ v k ss. and_then (meaning first s env k ss) (λ w. folds v w (λ a b. meaning body s (env ++ (sum, a) ∷ (item, b) ∷ [])))))
-  meaning (apply p (more c none)) s env n rs =
-      begun n (λ m. and_then (meaning c s env m rs) (λ v. finished (of_one p v)))
-  meaning (apply p (more c (more d none))) s env n rs =
-      begun n (λ m. and_then (meaning c s env m rs) (λ v k ss. and_then (meaning d s env k ss) (λ w. finished (of_two p v w))))
-  -- an operation on another number of values, which no sound program has, is trap 1
-  meaning (apply p cs) s env n rs = begun n (λ m. stops (eff.trap 1))
+  meaning (apply p cs) s env n rs = begun n (λ m. operation p cs s env m rs)
   meaning get s env n rs = begun n (λ m. asks eff.get m rs)
   meaning (set c) s env n rs = begun n (λ m. and_then (meaning c s env m rs) (λ v. asks (eff.set v)))
   meaning (send c d) s env n rs =
@@ -90,6 +94,13 @@ abbrev mutual
   meaning checkpoint s env n rs = begun n (λ m. stops eff.checkpoint)
   meaning rollback s env n rs = begun n (λ m. stops eff.rollback)
   meaning dependent s env n rs = begun n (λ m. asks eff.ask m rs)
+
+  -- an operation on the values of one or two expressions; trap 1 for another number, which no sound program has
+  pub operation : Operation → Codes → Setting → Scope → After
+  operation p (more c none) s env n rs = and_then (meaning c s env n rs) (λ v. finished (of_one p v))
+  operation p (more c (more d none)) s env n rs =
+      and_then (meaning c s env n rs) (λ v k ss. and_then (meaning d s env k ss) (λ w. finished (of_two p v w)))
+  operation p cs s env n rs = stops (eff.trap 1)
 
   -- the list of these values and of those of the expressions
   pub items : Codes → Setting → Scope → List Val → After

@@ -50,17 +50,41 @@ of_one prims.Len (list vs) = integer (pos (length (items_of vs)))
 of_one prims.Len (text t) = integer (pos (length t))
 of_one p v = Err 1
 
+-- an operation on two integers
+abbrev pub of_integers : Operation → ℤ → ℤ → Answer
+of_integers prims.Add x y = integer (x +ℤ y)
+of_integers prims.Sub x y = integer (x -ℤ y)
+of_integers prims.Mul x y = integer (x *ℤ y)
+of_integers prims.Div x y = quotient x y
+of_integers prims.Rem x y = remainder x y
+of_integers prims.Less x y = Ok (truth (int_lt x y))
+of_integers p x y = Err 1
+
+-- the item of a list at an integer
+abbrev pub item : Val → Val → Answer
+item (list vs) (int z) = item_at (items_of vs) z
+item v w = Err 1
+
+-- the list with one value more, which comes last
+abbrev pub pushed : Val → Val → Answer
+pushed (list vs) w = bounded (list (inside (items_of vs ++ w ∷ [])))
+pushed v w = Err 1
+
+-- two texts or two lists, joined
+abbrev pub joined : Val → Val → Answer
+joined (text s) (text t) = bounded (text (s ++ t))
+joined (list vs) (list ws) = bounded (list (inside (items_of vs ++ items_of ws)))
+joined v w = Err 1
+
+-- an operation on two integers as one on values
+abbrev pub integers : Operation → Val → Val → Answer
+integers p (int x) (int y) = of_integers p x y
+integers p v w = Err 1
+
 -- an operation on two values; trap 1 where a kind is wrong
 abbrev pub of_two : Operation → Val → Val → Answer
-of_two prims.Add (int x) (int y) = integer (x +ℤ y)
-of_two prims.Sub (int x) (int y) = integer (x -ℤ y)
-of_two prims.Mul (int x) (int y) = integer (x *ℤ y)
-of_two prims.Div (int x) (int y) = quotient x y
-of_two prims.Rem (int x) (int y) = remainder x y
-of_two prims.Less (int x) (int y) = Ok (truth (int_lt x y))
 of_two prims.Same v w = Ok (truth (same_values v w))
-of_two prims.Item (list vs) (int z) = item_at (items_of vs) z
-of_two prims.Push (list vs) w = bounded (list (inside (items_of vs ++ w ∷ [])))
-of_two prims.Cat (text s) (text t) = bounded (text (s ++ t))
-of_two prims.Cat (list vs) (list ws) = bounded (list (inside (items_of vs ++ items_of ws)))
-of_two p v w = Err 1
+of_two prims.Item v w = item v w
+of_two prims.Push v w = pushed v w
+of_two prims.Cat v w = joined v w
+of_two p v w = integers p v w

@@ -1,5 +1,7 @@
 //! Effects: what the evaluation of a behaviour stops at.
 ghost use Rattle.std.specs.Prelude.{◌≡◌, IfOk};
+ghost use Rattle.tau_eval.specs.Eff.{has_reply as has_reply_by};
+ghost use Rattle.tau_eval.specs.Effect.{eff_of};
 
 use std::alloc::AllocError;
 use tau_value::Value;
@@ -53,5 +55,20 @@ impl Effect {
             Effect::Done => Effect::Done,
             Effect::Trap(code) => Effect::Trap(*code),
         })
+    }
+
+    /// Whether the effect has a reply. After one that has none the turn ends.
+    pub fn has_reply(&self) -> bool
+        ensures { result ≡ has_reply_by (eff_of self.now) }
+    {
+        match self {
+            Effect::Get
+            | Effect::Set(_)
+            | Effect::Send(_, _)
+            | Effect::New { .. }
+            | Effect::Stabilize
+            | Effect::Ask => true,
+            Effect::Checkpoint | Effect::Rollback | Effect::Done | Effect::Trap(_) => false,
+        }
     }
 }

@@ -1,0 +1,6 @@
+pub mod CourseLemmas
+pub mod FrameLemmas
+pub mod MachineLemmas
+pub mod SameLemmas
+pub mod ScopeLemmas
+pub mod ValueRules
