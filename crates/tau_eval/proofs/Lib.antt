@@ -4,3 +4,4 @@ pub mod MachineLemmas
 pub mod SameLemmas
 pub mod ScopeLemmas
 pub mod ValueRules
+pub mod KnownLemmas

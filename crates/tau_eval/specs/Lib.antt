@@ -11,3 +11,4 @@ pub mod Machine
 pub mod Turn
 pub mod Course
 pub mod Settings
+pub mod Known

@@ -28,22 +28,22 @@ use Rattle.tau_rules.specs.Turns.{HasBehaviour, start, created, HasBody, HasValu
 use Rattle.tau_rules.specs.Fits.{Arrives, ArrivesLate, LacksNumber, Fits, IsStable, IsVolatile}
 
 module _ {T U : Run} where
-  behaviour-same : (P : Program) (t k b : ℕ) → Agree T U k → t < born T k → HasBehaviour P T t b → HasBehaviour P U t b
+  pub behaviour-same : (P : Program) (t k b : ℕ) → Agree T U k → t < born T k → HasBehaviour P T t b → HasBehaviour P U t b
   behaviour-same P t k b a lt (start {s = s} e f) = start e f
   behaviour-same P t k b a lt (created {j = j} {by = by} n e) =
       let earlier = new_before T j by t k n lt in
       created (record { behaviour = n.behaviour; node = n.node; state = n.state; stands = sym (a.steps j earlier) ∙ n.stands; made = n.made ∙ born-same j (agree_below j (omega arith) a) }) e
 
-  body-same : (P : Program) (t k : ℕ) (body : Code) → Agree T U k → t < born T k → HasBody P T t body → HasBody P U t body
+  pub body-same : (P : Program) (t k : ℕ) (body : Code) → Agree T U k → t < born T k → HasBody P T t body → HasBody P U t body
   body-same P t k body a lt h = record { number = h.number; behaviour = h.behaviour; has = behaviour-same P t k h.number a lt h.has; stands = h.stands; is = h.is }
 
-  value-same : (P : Program) (m k : ℕ) (v : Val) → Agree T U k → m < sent T k → HasValue P T m v → HasValue P U m v
+  pub value-same : (P : Program) (m k : ℕ) (v : Val) → Agree T U k → m < sent T k → HasValue P T m v → HasValue P U m v
   value-same P m k v a lt (post {q = q} e f) = post e f
   value-same P m k v a lt (message {j = j} {by = by} o e) =
       let earlier = origin_before T j by m k o lt in
       message (record { to = o.to; value = o.value; stands = sym (a.steps j earlier) ∙ o.stands; made = o.made ∙ sent-same j (agree_below j (omega arith) a) }) e
 
-  replies-same : (opening : List Value) (j : ℕ) (s : Step) (r : Val) → WellFormed T → WellFormed U → Agree T U j → IsKnownAt T j s → Replies T opening j s r → Replies U opening j s r
+  pub replies-same : (opening : List Value) (j : ℕ) (s : Step) (r : Val) → WellFormed T → WellFormed U → Agree T U j → IsKnownAt T j s → Replies T opening j s r → Replies U opening j s r
   replies-same opening j (Get t) r v w a known h =
       let same : point_at T t j ≡ point_at U t j = point-same t j a in
       (h.0, subst (λ p. StateAt U opening p j h.0) same (((decisions_local T U j v w a).state opening (point_at T t j) h.0 known (omega arith)).0 h.1), h.2)

@@ -2,3 +2,5 @@ pub mod Turns
 pub mod Fits
 pub mod Traces
 pub mod Laws
+pub mod Records
+pub mod System

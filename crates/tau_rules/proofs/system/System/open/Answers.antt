@@ -1,0 +1,21 @@
+use Rattle.std.proofs.Common.{◌≡◌, ◌∙◌, ap, sym, subst, length, List}
+use Rattle.tau_tree.specs.declared.programs.Program.{Program}
+use Rattle.tau_trace.specs.Run.{Run}
+use Rattle.tau_script.specs.Openings.{program_opening}
+use Rattle.tau_states.specs.Table.{opened_run}
+use Rattle.tau_tree.specs.declared.posts.Post.{Post}
+use Rattle.tau_tree.specs.declared.starts.Start.{Start}
+use Rattle.tau_rules.specs.Records.{HasStarts, HasPosts}
+use Rattle.tau_rules.specs.System.{IsSystem}
+use Rattle.tau_rules.proofs.SystemLemmas.{opens, length-map}
+use Rattle.tau_rules.proofs.system.System.open.Goals as goal
+
+pub invariant_of-result : goal.invariant_of-result
+invariant_of-result c =
+    let P : Program = c.args.program.now in
+    let is : c.in_ok-trace.trace.run ≡ opened_run (program_opening P) = c.in_ok-trace.ensures ∙ ap opened_run c.in_ok-opening_of.ensures.opening in
+    let holds = c.in_ok-open.ensures (program_opening P) (length-map (λ s. s.name) P.starts) in
+    let starts : HasStarts P.starts c.in_ok-opening_records.field-0.items = subst (λ (ss : List Start). HasStarts ss c.in_ok-opening_records.field-0.items) c.items.ensures c.in_ok-opening_records.ensures in
+    let posts : HasPosts P.posts c.in_ok-posted_values.field-0.items = subst (λ (qs : List Post). HasPosts qs c.in_ok-posted_values.field-0.items) c.items-2.ensures c.in_ok-posted_values.ensures in
+    subst (λ (T : Run). IsSystem P T c.in_ok-open.field-0.records c.in_ok-opening_records.field-0.items c.in_ok-posted_values.field-0.items) (sym is)
+        (opens P c.in_ok-open.field-0.records c.in_ok-opening_records.field-0.items c.in_ok-posted_values.field-0.items c.requires holds starts posts)
