@@ -1,0 +1,6 @@
+pub mod Keywords
+pub mod Tops
+pub mod Roles
+pub mod Faults
+pub mod Meaning
+pub mod Printed
