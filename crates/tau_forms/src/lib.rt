@@ -5,7 +5,9 @@ mod faults;
 mod keywords;
 mod printing;
 mod reading;
+mod scopes;
 mod tables;
+mod wanted;
 
 pub use faults::ProgramError;
 pub use printing::forms_of;
