@@ -6,3 +6,4 @@ pub mod Meaning
 pub mod Printed
 pub mod Scopes
 pub mod Wanted
+pub mod Passing

@@ -1,10 +1,12 @@
 //! Programs read from forms, and the forms that they are printed as (docs/formats.md, "Programs").
 #![tactic(auto)]
 
+mod checking;
 mod faults;
 mod keywords;
 mod printing;
 mod reading;
+mod rows;
 mod scopes;
 mod tables;
 mod wanted;

@@ -3,6 +3,7 @@ ghost use Rattle.std.specs.Prelude.{◌≡◌, ◌<◌, ◌^◌, None, Some, opt
 
 
 ghost use Rattle.tau_forms.specs.Faults.{is_constant as constant_test, word_fault, text_fault};
+ghost use Rattle.tau_forms.specs.Passing.{error_at};
 ghost use Rattle.tau_forms.specs.Tops.{is_count_in as count_test};
 ghost use Rattle.tau_value.specs.Names.{is_name as name_test};
 ghost use Rattle.tau_forms.specs.Wanted.{role_of, fault_in};
@@ -47,7 +48,9 @@ pub(crate) enum FaultKind {
 
 impl FaultKind {
     /// The error for this fault at a node.
-    pub(crate) fn at(self, node: u64) -> ProgramError {
+    pub(crate) fn at(self, node: u64) -> ProgramError
+        ensures { result ≡ error_at self node }
+    {
         match self {
             FaultKind::Shape => ProgramError::Shape { node },
             FaultKind::Unknown => ProgramError::Unknown { node },

@@ -1,0 +1,70 @@
+-- What the checks tell of a part of the forms: it has no fault, or its first fault.
+use Rattle.std.specs.Prelude.{◌≡◌, ◌≢◌, ℕ, ◌+◌, true, List, [], ◌∷◌, ◌++◌, map, Option, Some, None, option_map, Result, Ok, Err}
+use Rattle.tau_sexpr.specs.Form.{tree_of}
+use Rattle.tau_sexpr.specs.Tree.{Tree, Trees, word, list, none, more, inside}
+use Rattle.tau_forms.specs.declared.checking.Parts.{Parts}
+use Rattle.tau_forms.specs.declared.faults.ProgramError.{ProgramError}
+use Rattle.tau_forms.specs.declared.faults.ProgramError.TheVariants as errors
+use Rattle.tau_forms.specs.declared.keywords.Keyword.{Keyword}
+use Rattle.tau_forms.specs.declared.keywords.Keyword.TheVariants as keywords
+use Rattle.tau_forms.specs.declared.rows.Row.{Row}
+use Rattle.tau_forms.specs.declared.tables.Tables.{Tables}
+use Rattle.tau_forms.specs.declared.wanted.FaultKind.{FaultKind}
+use Rattle.tau_forms.specs.declared.wanted.FaultKind.TheVariants as kinds
+use Rattle.tau_forms.specs.declared.wanted.Wanted.{Wanted}
+use Rattle.tau_forms.specs.Faults.{Fault, shape, unknown, twice, IsClean, IsFirst}
+use Rattle.tau_forms.specs.Keywords.{keyword_in}
+use Rattle.tau_forms.specs.Roles.{Role, expression, row, count_of, has_items, word_of, names_in}
+use Rattle.tau_forms.specs.Wanted.{role_of}
+
+-- an error tells the first fault of a part whose own first node is `at`; want of memory tells nothing
+abbrev pub Tells : (ℕ → Fault → Type 0) → ℕ → ProgramError → Type 0
+Tells F at (errors.Shape node) = (n : ℕ) × (node ≡ at + n) × IsFirst F n shape
+Tells F at (errors.Unknown node) = (n : ℕ) × (node ≡ at + n) × IsFirst F n unknown
+Tells F at (errors.Twice node) = (n : ℕ) × (node ≡ at + n) × IsFirst F n twice
+Tells F at (errors.Limit which) = ⊥
+Tells F at errors.NoMemory = Unit {0}
+
+-- a part of so many nodes is passed from node `at` to node `next` and has no fault, or its first fault is told
+abbrev pub Passes : {A : Type 0} → (ℕ → Fault → Type 0) → ℕ → ℕ → ℕ → Result A ProgramError → Type 0
+Passes F size at next (Ok x) = IsClean F × (next ≡ at + size)
+Passes F size at next (Err e) = Tells F at e
+
+-- the error for a fault at a node
+abbrev pub error_at : FaultKind → ℕ → ProgramError
+error_at kinds.Shape n = errors.Shape n
+error_at kinds.Unknown n = errors.Unknown n
+error_at kinds.Twice n = errors.Twice n
+
+-- a single node is passed, unless it has a fault
+abbrev pub PassesNode : {A : Type 0} → Option FaultKind → ℕ → ℕ → Result A ProgramError → Type 0
+PassesNode None at next (Ok x) = next ≡ at + 1
+PassesNode None at next (Err e) = ⊥
+PassesNode (Some k) at next (Ok x) = ⊥
+PassesNode (Some k) at next (Err e) = e ≡ error_at k at
+
+-- the roles of forms: the first have these, and those after them all the same
+abbrev pub roles_along : List Wanted → Wanted → Trees → List Role
+roles_along ws rest none = []
+roles_along [] rest (more t ts) = role_of rest ∷ roles_along [] rest ts
+roles_along (w ∷ ws) rest (more t ts) = role_of w ∷ roles_along ws rest ts
+
+abbrev pub roles_of : Row → Trees → List Role
+roles_of w ts = roles_along w.leading w.rest ts
+
+-- what is wanted of the items of a list
+abbrev pub IsRow : Tables → Role → Trees → Option Row → Type 0
+IsRow tb r ts o = option_map (λ w. roles_of w ts) o ≡ row tb r ts
+
+-- the variables that an expression binds in its last item
+abbrev pub bound_by : Keyword → Trees → List (List ℕ)
+bound_by keywords.Let (more x ts) = word_of x
+bound_by keywords.Fold (more l (more f (more xs ts))) = names_in xs
+bound_by k ts = []
+
+-- what a list is as an expression: its keyword and its other items; none where no list is wanted that begins so or has as
+-- many items
+abbrev pub IsExpression : Trees → Option Parts → Type 0
+IsExpression ts None = (tb : Tables) (scope : List (List ℕ)) → row tb (expression scope) ts ≡ None
+IsExpression ts (Some p) =
+    (h : List ℕ) × (ts ≡ more (word h) (inside (map tree_of p.items.now))) × (p.keyword ≡ keyword_in h) × (has_items p.keyword (count_of (inside (map tree_of p.items.now))) ≡ true)
