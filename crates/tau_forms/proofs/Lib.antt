@@ -1,3 +1,5 @@
 pub mod ListLemmas
 pub mod WordLemmas
 pub mod PassLemmas
+pub mod RowLemmas
+pub mod LoopLemmas

@@ -1,5 +1,5 @@
 -- What the checks tell of a part of the forms: it has no fault, or its first fault.
-use Rattle.std.specs.Prelude.{◌≡◌, ◌≢◌, ℕ, ◌+◌, true, List, [], ◌∷◌, ◌++◌, map, Option, Some, None, option_map, Result, Ok, Err}
+use Rattle.std.specs.Prelude.{◌≡◌, ◌≢◌, ℕ, ◌+◌, Bool, true, false, List, [], ◌∷◌, ◌++◌, map, Option, Some, None, option_map, Result, Ok, Err}
 use Rattle.tau_sexpr.specs.Form.{tree_of}
 use Rattle.tau_sexpr.specs.Tree.{Tree, Trees, word, list, none, more, inside}
 use Rattle.tau_forms.specs.declared.checking.Parts.{Parts}
@@ -7,6 +7,7 @@ use Rattle.tau_forms.specs.declared.faults.ProgramError.{ProgramError}
 use Rattle.tau_forms.specs.declared.faults.ProgramError.TheVariants as errors
 use Rattle.tau_forms.specs.declared.keywords.Keyword.{Keyword}
 use Rattle.tau_forms.specs.declared.keywords.Keyword.TheVariants as keywords
+use Rattle.tau_forms.specs.declared.rows.Headed.{Headed}
 use Rattle.tau_forms.specs.declared.rows.Row.{Row}
 use Rattle.tau_forms.specs.declared.tables.Tables.{Tables}
 use Rattle.tau_forms.specs.declared.wanted.FaultKind.{FaultKind}
@@ -55,6 +56,16 @@ roles_of w ts = roles_along w.leading w.rest ts
 -- what is wanted of the items of a list
 abbrev pub IsRow : Tables → Role → Trees → Option Row → Type 0
 IsRow tb r ts o = option_map (λ w. roles_of w ts) o ≡ row tb r ts
+
+-- whether a list begins with a word
+abbrev pub is_headed : Trees → Bool
+is_headed (more (word h) ts) = true
+is_headed ts = false
+
+-- the first word of a list and its other items; none where it doesn't begin with a word
+abbrev pub IsHeaded : Trees → Option Headed → Type 0
+IsHeaded ts None = is_headed ts ≡ false
+IsHeaded ts (Some l) = ts ≡ more (word l.head.now) (inside (map tree_of l.rest.now))
 
 -- the variables that an expression binds in its last item
 abbrev pub bound_by : Keyword → Trees → List (List ℕ)

@@ -5,14 +5,15 @@ ghost use Rattle.tau_sexpr.specs.Tree.{inside, list as list_tree, size_of, size_
 ghost use Rattle.tau_forms.specs.Faults.{FaultAt};
 ghost use Rattle.tau_forms.specs.Keywords.{keyword_in};
 ghost use Rattle.tau_forms.specs.Passing.{Passes, PassesNode, IsRow, IsExpression, bound_by};
-ghost use Rattle.tau_forms.specs.Roles.{Role, value, expression, words_of};
+ghost use Rattle.tau_forms.specs.Roles.{Role, value, expression, names_in, words_of};
 ghost use Rattle.tau_forms.specs.Scopes.{names_of};
 ghost use Rattle.tau_forms.specs.Wanted.{role_of};
+ghost use Rattle.tau_forms.specs.declared.keywords.Keyword.TheVariants as keywords;
 ghost use Rattle.tau_forms.specs.declared.tables.Tables.{Tables};
 
 use crate::ProgramError;
 use crate::keywords::{Keyword, keyword_of};
-use crate::rows::{Row, expression_row, failure_row, has_items, two_names_row};
+use crate::rows::{Row, expression_row, failure_row, has_items, split_head, two_names_row};
 use crate::scopes::Scope;
 use crate::tables::Tables;
 use crate::wanted::{FaultKind, Wanted, fault_of_text, fault_of_word};
@@ -64,16 +65,14 @@ struct Parts<'f> {
 fn parts_of(items: &[Form]) -> Option<Parts<'_>>
     ensures { IsExpression (inside (map tree_of items.now)) result }
 {
-    let [Form::Word(head), rest @ ..] = items else {
-        return None;
-    };
-    let keyword = keyword_of(head);
-    if !has_items(keyword, rest.len()) {
+    let list = split_head(items)?;
+    let keyword = keyword_of(list.head);
+    if !has_items(keyword, list.rest.len()) {
         return None;
     }
     Some(Parts {
         keyword,
-        items: rest,
+        items: list.rest,
     })
 }
 
@@ -81,10 +80,39 @@ fn parts_of(items: &[Form]) -> Option<Parts<'_>>
 fn names_bound<'f>(parts: Parts<'f>) -> &'f [Form]
     ensures { words_of (inside (map tree_of result.now)) ≡ bound_by parts.entry.keyword (inside (map tree_of parts.entry.items.now)) }
 {
-    match (parts.keyword, parts.items) {
-        (Keyword::Let, [_, ..]) => &parts.items[..1],
-        (Keyword::Fold, [_, _, Form::List(names), ..]) => names.items(),
+    match parts.keyword {
+        Keyword::Let => first_of(parts.items),
+        Keyword::Fold => items_of_third(parts.items),
         _ => &[],
+    }
+}
+
+// The first form, if there is one.
+fn first_of(items: &[Form]) -> &[Form]
+    ensures { words_of (inside (map tree_of result.now)) ≡ bound_by keywords.Let (inside (map tree_of items.now)) }
+{
+    match items {
+        [] => &[],
+        [_, ..] => &items[..1],
+    }
+}
+
+// The items of the third form, if it is a list.
+fn items_of_third(items: &[Form]) -> &[Form]
+    ensures { words_of (inside (map tree_of result.now)) ≡ bound_by keywords.Fold (inside (map tree_of items.now)) }
+{
+    match items.get(2) {
+        Some(form) => items_of(form),
+        None => &[],
+    }
+}
+
+fn items_of(form: &Form) -> &[Form]
+    ensures { words_of (inside (map tree_of result.now)) ≡ names_in (tree_of form.now) }
+{
+    match form {
+        Form::List(items) => items.items(),
+        Form::Word(_) | Form::Text(_) => &[],
     }
 }
 
@@ -166,16 +194,16 @@ fn check_expression(
 pub(crate) fn check_items(
     alloc: Global,
     items: &[Form],
-    row: Option<Row<'_>>,
+    found: Option<Row<'_>>,
     tables: &Tables,
     node: &mut u64,
 ) -> Result<(), ProgramError>
     requires few { length tables.now.starts ≤ 1024 }
     requires range { node.old + 1 + size_of_all (inside (map tree_of items.now)) < 2 ^ 64 }
-    ensures { (r : Role) → r ≢ value → IsRow tables.now r (inside (map tree_of items.now)) row.entry
+    ensures { (r : Role) → r ≢ value → IsRow tables.now r (inside (map tree_of items.now)) found.entry
         → Passes (FaultAt tables.now r (list_tree (inside (map tree_of items.now)))) (1 + size_of_all (inside (map tree_of items.now))) node.old node.new result }
 {
-    let Some(row) = row else {
+    let Some(row) = found else {
         return Err(ProgramError::Shape { node: *node });
     };
     *node += 1;

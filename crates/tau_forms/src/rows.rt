@@ -1,10 +1,10 @@
 //! What is wanted of the items of lists.
-ghost use Rattle.std.specs.Prelude.{◌≡◌, ◌∷◌, true, ◌++◌, ℕ, List, map, slice_index_or};
+ghost use Rattle.std.specs.Prelude.{◌≡◌, [], ◌∷◌, true, ◌++◌, ℕ, List, map, slice_index_or};
 ghost use Rattle.tau_sexpr.specs.Form.{tree_of};
-ghost use Rattle.tau_sexpr.specs.Tree.{Tree, Trees, inside, more};
+ghost use Rattle.tau_sexpr.specs.Tree.{Tree, Trees, inside, none, more};
 ghost use Rattle.tau_tree.specs.Parts.{arity as arity_of};
-ghost use Rattle.tau_forms.specs.Passing.{IsRow, roles_of, bound_by};
-ghost use Rattle.tau_forms.specs.Roles.{failure, first, two_names, has_items as items_test, count_of, parts_of};
+ghost use Rattle.tau_forms.specs.Passing.{IsHeaded, IsRow, roles_of, bound_by};
+ghost use Rattle.tau_forms.specs.Roles.{failure, first, count, two_names, has_items as items_test, count_of, parts_of};
 ghost use Rattle.tau_forms.specs.Scopes.{names_of};
 ghost use Rattle.tau_forms.specs.Wanted.{role_of};
 
@@ -12,7 +12,7 @@ use crate::keywords::{FailureWord, Keyword, failure_of};
 use crate::scopes::Scope;
 use crate::tables::Tables;
 use crate::wanted::Wanted;
-use tau_sexpr::Form;
+use tau_sexpr::{Form, Word};
 use tau_tree::Prim;
 
 /// What is wanted of the items of a list: of the first four, and of each one after them.
@@ -34,39 +34,64 @@ impl<'s> Row<'s> {
     }
 }
 
+/// A list that begins with a word: this word, and the other items.
+#[derive(Clone, Copy, Drop)]
+pub(crate) struct Headed<'f> {
+    pub(crate) head: &'f Word,
+    pub(crate) rest: &'f [Form],
+}
+
+/// The first word of a list and its other items; `None` where a list doesn't begin with a word.
+pub(crate) fn split_head(items: &[Form]) -> Option<Headed<'_>>
+    ensures { IsHeaded (inside (map tree_of items.now)) result }
+{
+    let [first, rest @ ..] = items else {
+        return None;
+    };
+    match first {
+        Form::Word(head) => Some(Headed { head, rest }),
+        Form::Text(_) | Form::List(_) => None,
+    }
+}
+
 /// What is wanted of the items of a failure; `None` where no such list is one.
 pub(crate) fn failure_row<'s>(items: &[Form], tables: &Tables) -> Option<Row<'s>>
     ensures { IsRow tables.now failure (inside (map tree_of items.now)) result }
 {
-    let [Form::Word(head), _] = items else {
+    let list = split_head(items)?;
+    if list.rest.len() != 1 {
         return None;
-    };
-    let end = match failure_of(head) {
-        FailureWord::Fail => tables.nodes,
-        FailureWord::Lose => 1 << 32,
-        FailureWord::Other => return None,
-    };
+    }
+    match failure_of(list.head) {
+        FailureWord::Fail => Some(number_row(tables.nodes)),
+        FailureWord::Lose => Some(number_row(1 << 32)),
+        FailureWord::Other => None,
+    }
+}
+
+// A list of a word and counts below `end`.
+fn number_row<'s>(end: u64) -> Row<'s>
+    ensures { (t u : Tree) → roles_of result (more t (more u none)) ≡ first ∷ count 0 end ∷ [] }
+{
     let number = Wanted::Count { low: 0, end };
-    Some(Row {
+    Row {
         leading: [Wanted::First, number, number, number],
         rest: number,
-    })
+    }
 }
 
 /// What is wanted of the two names of a fold; `None` where a list has another number of items.
 pub(crate) fn two_names_row<'s>(items: &'s [Form], tables: &Tables) -> Option<Row<'s>>
     ensures { IsRow tables.now two_names (inside (map tree_of items.entry.now)) result }
 {
-    match items {
-        [_, _] => {
-            let second = Wanted::OtherThan(&items[..1]);
-            Some(Row {
-                leading: [Wanted::OtherThan(&[]), second, second, second],
-                rest: second,
-            })
-        }
-        _ => None,
+    if items.len() != 2 {
+        return None;
     }
+    let second = Wanted::OtherThan(&items[..1]);
+    Some(Row {
+        leading: [Wanted::OtherThan(&[]), second, second, second],
+        rest: second,
+    })
 }
 
 /// Whether an expression has this many items, its first word aside.
@@ -114,18 +139,29 @@ pub(crate) fn expression_row<'s>(
 {
     let part = Wanted::Expression(scope);
     let body = Wanted::Expression(inner);
-    let (leading, rest) = match keyword {
+    match keyword {
         Keyword::Name => {
             let start = Wanted::Known(&tables.starts);
-            ([Wanted::First, start, start, start], start)
+            Row {
+                leading: [Wanted::First, start, start, start],
+                rest: start,
+            }
         }
-        Keyword::New => {
-            let behaviour = Wanted::Known(&tables.behaviours);
-            ([Wanted::First, behaviour, part, part], part)
-        }
-        Keyword::Let => ([Wanted::First, Wanted::OtherThan(&[]), part, body], body),
-        Keyword::Fold => ([Wanted::First, part, part, Wanted::TwoNames], body),
-        _ => ([Wanted::First, part, part, part], part),
-    };
-    Row { leading, rest }
+        Keyword::New => Row {
+            leading: [Wanted::First, Wanted::Known(&tables.behaviours), part, part],
+            rest: part,
+        },
+        Keyword::Let => Row {
+            leading: [Wanted::First, Wanted::OtherThan(&[]), part, body],
+            rest: body,
+        },
+        Keyword::Fold => Row {
+            leading: [Wanted::First, part, part, Wanted::TwoNames],
+            rest: body,
+        },
+        _ => Row {
+            leading: [Wanted::First, part, part, part],
+            rest: part,
+        },
+    }
 }
