@@ -10,9 +10,10 @@ use Rattle.tau_forms.specs.declared.keywords.Keyword.{Keyword}
 use Rattle.tau_forms.specs.declared.keywords.Keyword.TheVariants as keywords
 use Rattle.tau_forms.specs.declared.tables.Tables.{Tables}
 use Rattle.tau_forms.specs.declared.wanted.Wanted.{Wanted}
+use Rattle.tau_forms.specs.declared.wanted.Wanted.TheVariants as wanteds
 use Rattle.tau_forms.specs.Keywords.{keyword_in, failure_in}
 use Rattle.tau_forms.specs.Passing.{is_headed, roles_along, bound_by}
-use Rattle.tau_forms.specs.Roles.{Role, top, first, known, fresh, count, failure, expression, two_names, row, every, count_of, word_of, words_of, names_in, with_first, failure_items, has_items, expression_items, parts_of}
+use Rattle.tau_forms.specs.Roles.{Role, top, first, known, fresh, count, failure, value, expression, two_names, row, every, count_of, word_of, words_of, names_in, with_first, failure_items, has_items, expression_items, parts_of}
 use Rattle.tau_forms.specs.Wanted.{role_of}
 
 pub count_of-inside : (fs : List Form) → count_of (inside (map tree_of fs)) ≡ length fs
@@ -157,3 +158,32 @@ roles_of_failure tb ts us h f rs end e n d items is =
     let one = one_item us n in
     let whole : ts ≡ more (word h) (more one.0 none) = e ∙ ap (more (word h)) one.1 in
     ap Some (is (word h) one.0 whole) ∙ sym (ap (row tb failure) whole ∙ ap (λ g. with_first first (failure_items tb g (more one.0 none))) (sym d) ∙ ap (with_first first) (items one.0))
+
+-- the rows of expressions by keyword
+pub row_of_name : (tb : Tables) (scope : List (List ℕ)) (k : Keyword) (p : Wanted) (ts : Trees) → k ≡ keywords.Name → role_of p ≡ known tb.starts → first ∷ roles_along (p ∷ p ∷ p ∷ []) p ts ≡ first ∷ parts_of tb scope k ts
+row_of_name tb scope k p ts e f = ap (λ rs. first ∷ rs) (roles_three p ts ∙ ap (λ r. every r ts) f) ∙ ap (λ j. first ∷ parts_of tb scope j ts) (sym e)
+
+pub row_of_new : (tb : Tables) (scope : List (List ℕ)) (k : Keyword) (b p : Wanted) (ts : Trees) → k ≡ keywords.New → role_of b ≡ known tb.behaviours → role_of p ≡ expression scope → has_items k (count_of ts) ≡ true → first ∷ roles_along (b ∷ p ∷ p ∷ []) p ts ≡ first ∷ parts_of tb scope k ts
+row_of_new tb scope k b p ts e f g h = ap (λ rs. first ∷ rs) (roles_of_new tb scope b p ts f g (ap (λ j. has_items j (count_of ts)) (sym e) ∙ h)) ∙ ap (λ j. first ∷ parts_of tb scope j ts) (sym e)
+
+pub row_of_let : (tb : Tables) (scope inner : List (List ℕ)) (k : Keyword) (x p q : Wanted) (ts : Trees) → k ≡ keywords.Let → role_of x ≡ fresh [] → role_of p ≡ expression scope → role_of q ≡ expression inner → inner ≡ scope ++ bound_by k ts → has_items k (count_of ts) ≡ true → first ∷ roles_along (x ∷ p ∷ q ∷ []) q ts ≡ first ∷ parts_of tb scope k ts
+row_of_let tb scope inner k x p q ts e f g i b h = ap (λ rs. first ∷ rs) (roles_of_let tb scope inner x p q ts f g i (b ∙ ap (λ j. scope ++ bound_by j ts) e) (ap (λ j. has_items j (count_of ts)) (sym e) ∙ h)) ∙ ap (λ j. first ∷ parts_of tb scope j ts) (sym e)
+
+pub row_of_fold : (tb : Tables) (scope inner : List (List ℕ)) (k : Keyword) (p x q : Wanted) (ts : Trees) → k ≡ keywords.Fold → role_of p ≡ expression scope → role_of x ≡ two_names → role_of q ≡ expression inner → inner ≡ scope ++ bound_by k ts → has_items k (count_of ts) ≡ true → first ∷ roles_along (p ∷ p ∷ x ∷ []) q ts ≡ first ∷ parts_of tb scope k ts
+row_of_fold tb scope inner k p x q ts e f g i b h = ap (λ rs. first ∷ rs) (roles_of_fold tb scope inner p x q ts f g i (b ∙ ap (λ j. scope ++ bound_by j ts) e) (ap (λ j. has_items j (count_of ts)) (sym e) ∙ h)) ∙ ap (λ j. first ∷ parts_of tb scope j ts) (sym e)
+
+pub row_of_plain : (tb : Tables) (scope : List (List ℕ)) (k : Keyword) (p : Wanted) (ts : Trees) → k ≢ keywords.Name → k ≢ keywords.New → k ≢ keywords.Let → k ≢ keywords.Fold → role_of p ≡ expression scope → first ∷ roles_along (p ∷ p ∷ p ∷ []) p ts ≡ first ∷ parts_of tb scope k ts
+row_of_plain tb scope k p ts a b c d e = ap (λ rs. first ∷ rs) (roles_three p ts ∙ ap (λ r. every r ts) e ∙ roles_of_plain tb scope k ts a b c d)
+
+-- what isn't a value
+pub not_value : (w : Wanted) → w ≢ wanteds.Value → role_of w ≢ value
+not_value wanteds.First h = λ e. cc
+not_value (wanteds.Mark again) h = λ e. cc
+not_value (wanteds.Known names) h = λ e. cc
+not_value (wanteds.Fresh names) h = λ e. cc
+not_value (wanteds.OtherThan fs) h = λ e. cc
+not_value (wanteds.Count low end) h = λ e. cc
+not_value wanteds.Failure h = λ e. cc
+not_value wanteds.Value h = absurd (h refl)
+not_value (wanteds.Expression s) h = λ e. cc
+not_value wanteds.TwoNames h = λ e. cc
