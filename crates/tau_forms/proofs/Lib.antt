@@ -3,3 +3,4 @@ pub mod WordLemmas
 pub mod PassLemmas
 pub mod RowLemmas
 pub mod LoopLemmas
+pub mod DefinedLemmas

@@ -7,3 +7,4 @@ pub mod Printed
 pub mod Scopes
 pub mod Wanted
 pub mod Passing
+pub mod Defined

@@ -4,6 +4,7 @@
 mod checking;
 mod faults;
 mod keywords;
+mod limits;
 mod printing;
 mod reading;
 mod rows;
