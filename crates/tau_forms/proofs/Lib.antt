@@ -4,3 +4,4 @@ pub mod PassLemmas
 pub mod RowLemmas
 pub mod LoopLemmas
 pub mod DefinedLemmas
+pub mod TopLemmas

@@ -1,5 +1,5 @@
 -- What the checks tell of a part of the forms: it has no fault, or its first fault.
-use Rattle.std.specs.Prelude.{◌≡◌, ◌≢◌, ℕ, ◌+◌, Bool, true, false, List, [], ◌∷◌, ◌++◌, map, Option, Some, None, option_map, Result, Ok, Err}
+use Rattle.std.specs.Prelude.{◌≡◌, ◌≢◌, ℕ, ◌+◌, ◌==◌, Bool, true, false, is_some, if◌then◌else◌, List, [], ◌∷◌, ◌++◌, map, Option, Some, None, option_map, Result, Ok, Err}
 use Rattle.tau_sexpr.specs.Form.{tree_of}
 use Rattle.tau_sexpr.specs.Tree.{Tree, Trees, word, list, none, more, inside}
 use Rattle.tau_forms.specs.declared.checking.Parts.{Parts}
@@ -7,15 +7,18 @@ use Rattle.tau_forms.specs.declared.faults.ProgramError.{ProgramError}
 use Rattle.tau_forms.specs.declared.faults.ProgramError.TheVariants as errors
 use Rattle.tau_forms.specs.declared.keywords.Keyword.{Keyword}
 use Rattle.tau_forms.specs.declared.keywords.Keyword.TheVariants as keywords
+use Rattle.tau_forms.specs.declared.keywords.Sort.{Sort}
+use Rattle.tau_forms.specs.declared.keywords.Sort.TheVariants as sorts
 use Rattle.tau_forms.specs.declared.rows.Headed.{Headed}
 use Rattle.tau_forms.specs.declared.rows.Row.{Row}
 use Rattle.tau_forms.specs.declared.tables.Tables.{Tables}
 use Rattle.tau_forms.specs.declared.wanted.FaultKind.{FaultKind}
 use Rattle.tau_forms.specs.declared.wanted.FaultKind.TheVariants as kinds
 use Rattle.tau_forms.specs.declared.wanted.Wanted.{Wanted}
-use Rattle.tau_forms.specs.Faults.{Fault, shape, unknown, twice, IsClean, IsFirst}
+use Rattle.tau_forms.specs.Faults.{Fault, shape, unknown, twice, IsClean, IsFirst, ProgramFaultAt}
 use Rattle.tau_forms.specs.Keywords.{keyword_in}
-use Rattle.tau_forms.specs.Roles.{Role, expression, row, count_of, has_items, word_of, names_in}
+use Rattle.tau_forms.specs.Roles.{Role, first, mark, expression, row, count_of, has_items, word_of, names_in}
+use Rattle.tau_forms.specs.Tops.{nodes_of}
 use Rattle.tau_forms.specs.Wanted.{role_of}
 
 -- an error tells the first fault of a part whose own first node is `at`; want of memory tells nothing
@@ -79,3 +82,21 @@ abbrev pub IsExpression : Trees → Option Parts → Type 0
 IsExpression ts None = (tb : Tables) (scope : List (List ℕ)) → row tb (expression scope) ts ≡ None
 IsExpression ts (Some p) =
     (h : List ℕ) × (ts ≡ more (word h) (inside (map tree_of p.items.now))) × (p.keyword ≡ keyword_in h) × (has_items p.keyword (count_of (inside (map tree_of p.items.now))) ≡ true)
+
+-- whether a list at the top has this many items, its first word aside
+abbrev pub has_top_items : Sort → ℕ → Bool
+has_top_items sorts.Nodes n = n == 1
+has_top_items sorts.Behaviour n = n == 2
+has_top_items sorts.Start n = n == 4
+has_top_items sorts.Post n = n == 2
+has_top_items sorts.At n = n == 2
+has_top_items sorts.Other n = false
+
+-- what the first word of a list of nodes is, after these forms: a mark where the list tells a number of nodes
+abbrev pub nodes_first : List Tree → Option ℕ → Role
+nodes_first before told = if is_some told then mark (is_some (nodes_of before)) else first
+
+-- all forms at the top are passed and have no fault, or the first fault is told
+abbrev pub PassesForms : {A : Type 0} → List Tree → Result A ProgramError → Type 0
+PassesForms ts (Ok x) = IsClean (ProgramFaultAt ts)
+PassesForms ts (Err e) = Tells (ProgramFaultAt ts) 0 e

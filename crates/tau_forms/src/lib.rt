@@ -10,6 +10,7 @@ mod reading;
 mod rows;
 mod scopes;
 mod tables;
+mod tops;
 mod wanted;
 
 pub use faults::ProgramError;
