@@ -4,3 +4,4 @@ pub mod Roles
 pub mod Faults
 pub mod Meaning
 pub mod Printed
+pub mod Build
