@@ -5,3 +5,4 @@ pub mod RowLemmas
 pub mod LoopLemmas
 pub mod DefinedLemmas
 pub mod TopLemmas
+pub mod BuiltLemmas

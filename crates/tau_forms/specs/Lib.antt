@@ -8,3 +8,4 @@ pub mod Scopes
 pub mod Wanted
 pub mod Passing
 pub mod Defined
+pub mod Build

@@ -1,6 +1,7 @@
 //! Programs read from forms, and the forms that they are printed as (docs/formats.md, "Programs").
 #![tactic(auto)]
 
+mod build;
 mod checking;
 mod faults;
 mod keywords;
