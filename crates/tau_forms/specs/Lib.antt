@@ -9,3 +9,4 @@ pub mod Wanted
 pub mod Passing
 pub mod Defined
 pub mod Build
+pub mod Building

@@ -133,7 +133,7 @@ pub(crate) enum Parts<'f> {
     Other,
 }
 
-fn parts_of(items: &[Form]) -> Parts<'_>
+pub(crate) fn parts_of(items: &[Form]) -> Parts<'_>
     ensures { HasParts (inside (map tree_of items.now)) result }
 {
     match items {

@@ -7,6 +7,7 @@ mod faults;
 mod keywords;
 mod limits;
 mod printing;
+mod programs;
 mod reading;
 mod rows;
 mod scopes;
