@@ -1,1 +1,11 @@
 pub mod BuiltLemmas
+pub mod PrintedLemmas
+pub mod SoundFaults
+pub mod SoundExpressions
+pub mod SoundNames
+pub mod SoundTops
+pub mod SoundLemmas
+pub mod ReadBackFaults
+pub mod ReadBackWords
+pub mod ReadBackExpressions
+pub mod ReadBackTops

@@ -4,4 +4,5 @@ pub mod Roles
 pub mod Faults
 pub mod Meaning
 pub mod Printed
+pub mod Fitting
 pub mod Build

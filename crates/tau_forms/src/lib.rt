@@ -7,6 +7,7 @@ mod keywords;
 mod printing;
 mod reading;
 mod tables;
+mod writing;
 
 pub use faults::ProgramError;
 pub use printing::forms_of;
