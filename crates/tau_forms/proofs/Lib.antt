@@ -9,3 +9,5 @@ pub mod ReadBackFaults
 pub mod ReadBackWords
 pub mod ReadBackExpressions
 pub mod ReadBackTops
+pub mod ReadBackLemmas
+pub mod ReadBackUnique

@@ -111,20 +111,20 @@ module _ (tb : Tables) (behaviours_are : AreNames tb.behaviours) (starts_are : A
     form_words code.msg h = λ e. cc
     form_words code.own h = λ e. cc
     form_words (code.var x) h = name_nonempty x h.0.names
-    form_words (code.start n) h = (λ e. cc, name_filled tb.starts n (name_at tb.starts n starts_are h.0.start), tt)
+    form_words (code.start n) h = (λ e. cc, (name_filled tb.starts n (name_at tb.starts n starts_are h.0.start), tt))
     form_words (code.list cs) h = (λ e. cc, forms_words cs h.1)
     form_words (code.let_in x v b) h =
-        (λ e. cc, name_nonempty x h.0.0.names, form_words v h.1, form_words b h.2, tt)
-    form_words (code.if_else t y n) h = (λ e. cc, form_words t h.1, form_words y h.2, form_words n h.3, tt)
+        (λ e. cc, (name_nonempty x h.0.0.names, (form_words v h.1, (form_words b h.2, tt))))
+    form_words (code.if_else t y n) h = (λ e. cc, (form_words t h.1, (form_words y h.2, (form_words n h.3, tt))))
     form_words (code.seq cs) h = (λ e. cc, forms_words cs h.1)
     form_words (code.fold l f s i b) h =
-        (λ e. cc, form_words l h.1, form_words f h.2, (name_nonempty s h.0.0.names.0, name_nonempty i h.0.0.names.1, tt), form_words b h.3, tt)
+        (λ e. cc, (form_words l h.1, (form_words f h.2, ((name_nonempty s h.0.0.names.0, (name_nonempty i h.0.0.names.1, tt)), (form_words b h.3, tt)))))
     form_words (code.apply p cs) h = (prim_nonempty p, forms_words cs h.1)
     form_words code.get h = (λ e. cc, tt)
-    form_words (code.set v) h = (λ e. cc, form_words v h.1, tt)
-    form_words (code.send t v) h = (λ e. cc, form_words t h.1, form_words v h.2, tt)
+    form_words (code.set v) h = (λ e. cc, (form_words v h.1, tt))
+    form_words (code.send t v) h = (λ e. cc, (form_words t h.1, (form_words v h.2, tt)))
     form_words (code.new b n s) h =
-        (λ e. cc, name_filled tb.behaviours b (name_at tb.behaviours b behaviours_are h.0.0.behaviour), form_words n h.1, form_words s h.2, tt)
+        (λ e. cc, (name_filled tb.behaviours b (name_at tb.behaviours b behaviours_are h.0.0.behaviour), (form_words n h.1, (form_words s h.2, tt))))
     form_words code.stabilize h = (λ e. cc, tt)
     form_words code.checkpoint h = (λ e. cc, tt)
     form_words code.rollback h = (λ e. cc, tt)

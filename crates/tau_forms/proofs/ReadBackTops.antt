@@ -11,6 +11,7 @@ use Rattle.tau_value.specs.Value.{val_of}
 use Rattle.tau_value.specs.Written.{written}
 use Rattle.tau_value.specs.Meaning as values
 use Rattle.tau_tree.specs.Behaviour.{NamedCode}
+use Rattle.tau_tree.specs.Sound.{FailsBelow}
 use Rattle.tau_tree.specs.declared.entries.Entry.{Entry}
 use Rattle.tau_tree.specs.declared.entries.Failure.{Failure}
 use Rattle.tau_tree.specs.declared.entries.Failure.TheVariants.{Fail, Lose}
@@ -39,25 +40,26 @@ count_of-append is xs ys =
 
 module _ {X : Type 0} (is : Sort → Bool) (f : X → Tree) where
   pub all_counted : ((x : X) → is (sort_of (f x)) ≡ true) → (xs : List X) → count_of is (map f xs) ≡ length xs
-  all_counted yes [] = refl
-  all_counted yes (x ∷ xs) = rw (yes x) (omega (arith, all_counted yes xs))
+  all_counted counted [] = refl
+  all_counted counted (x ∷ xs) = rw (counted x) (omega (arith, all_counted counted xs))
 
   pub none_counted : ((x : X) → is (sort_of (f x)) ≡ false) → (xs : List X) → count_of is (map f xs) ≡ 0
-  none_counted no [] = refl
-  none_counted no (x ∷ xs) = rw (no x) (none_counted no xs)
+  none_counted quiet [] = refl
+  none_counted quiet (x ∷ xs) = rw (quiet x) (none_counted quiet xs)
 
   -- lists that define nothing
   pub defined_quiet : (ws : List (List ℕ)) → ((x : X) → named_by is (f x) ≡ None) → (xs : List X) → defined_after is ws (map f xs) ≡ ws
-  defined_quiet ws no [] = refl
-  defined_quiet ws no (x ∷ xs) = rw (no x) (defined_quiet ws no xs)
+  defined_quiet ws quiet [] = refl
+  defined_quiet ws quiet (x ∷ xs) =
+      ap (λ o. defined_after is (with_name ws o) (map f xs)) (quiet x) ∙ defined_quiet ws quiet xs
 
   -- lists that define a name each
   pub defined_names : (name : X → List ℕ) → ((ws : List (List ℕ)) (x : X) → IsName (name x) → with_name ws (named_by is (f x)) ≡ with_name ws (Some (name x))) → (ws : List (List ℕ)) (xs : List X) → AreNames (ws ++ map name xs) → defined_after is ws (map f xs) ≡ ws ++ map name xs
-  defined_names name at ws [] are = sym (append-nil ws)
-  defined_names name at ws (x ∷ xs) are =
+  defined_names name one ws [] are = sym (append-nil ws)
+  defined_names name one ws (x ∷ xs) are =
       let more : ws ++ map name (x ∷ xs) ≡ (ws ++ name x ∷ []) ++ map name xs = sym (append_assoc ws (name x ∷ []) (map name xs)) in
-      let next : with_name ws (named_by is (f x)) ≡ ws ++ name x ∷ [] = at ws x (named_next ws (name x) (map name xs) are) ∙ ap (λ b. cond b ws (ws ++ name x ∷ [])) (new_next ws (name x) (map name xs) are) in
-      ap (λ vs. defined_after is vs (map f xs)) next ∙ defined_names name at (ws ++ name x ∷ []) xs (subst AreNames more are) ∙ sym more
+      let next : with_name ws (named_by is (f x)) ≡ ws ++ name x ∷ [] = one ws x (named_next ws (name x) (map name xs) are) ∙ ap (λ b. cond b ws (ws ++ name x ∷ [])) (new_next ws (name x) (map name xs) are) in
+      ap (λ vs. defined_after is vs (map f xs)) next ∙ defined_names name one (ws ++ name x ∷ []) xs (subst AreNames more are) ∙ sym more
 
 -- what lists give
 pub kept : {X Y Z : Type 0} (f : Y → Option Z) (g : X → Y) (h : X → Z) (xs : List X) → All (λ x. f (g x) ≡ Some (h x)) xs → filter_map f (map g xs) ≡ map h xs
@@ -66,8 +68,8 @@ kept f g h (x ∷ xs) all =
     ap (λ o. cons_option o (filter_map f (map g xs))) (All-head (λ y. f (g y) ≡ Some (h y)) x xs all) ∙ ap (λ zs. h x ∷ zs) (kept f g h xs (All-tail (λ y. f (g y) ≡ Some (h y)) x xs all))
 
 pub dropped : {X Y Z : Type 0} (f : Y → Option Z) (g : X → Y) → ((x : X) → f (g x) ≡ None) → (xs : List X) → filter_map f (map g xs) ≡ []
-dropped f g no [] = refl
-dropped f g no (x ∷ xs) = ap (λ o. cons_option o (filter_map f (map g xs))) (no x) ∙ dropped f g no xs
+dropped f g quiet [] = refl
+dropped f g quiet (x ∷ xs) = ap (λ o. cons_option o (filter_map f (map g xs))) (quiet x) ∙ dropped f g quiet xs
 
 module _ (tb : Tables) (behaviours_are : AreNames tb.behaviours) (starts_are : AreNames tb.starts) where
   pub tops_clean-append : (before xs ys : List Tree) → IsClean (FaultIn tb (tops_after before xs) (inside xs)) → IsClean (FaultIn tb (tops_after (before ++ xs) ys) (inside ys)) → IsClean (FaultIn tb (tops_after before (xs ++ ys)) (inside (xs ++ ys)))
@@ -84,16 +86,16 @@ module _ (tb : Tables) (behaviours_are : AreNames tb.behaviours) (starts_are : A
 
   -- lists that define a name each, which are new
   pub named_clean : {X : Type 0} (is : Sort → Bool) (f : X → Tree) (name : X → List ℕ) → ((ws : List (List ℕ)) (x : X) → IsName (name x) → with_name ws (named_by is (f x)) ≡ with_name ws (Some (name x))) → (xs : List X) → All (λ x. (before : List Tree) → IsName (name x) → has (defined_after is [] before) (name x) ≡ false → IsClean (FaultAt tb (top before) (f x))) xs → (before : List Tree) → AreNames (defined_after is [] before ++ map name xs) → IsClean (FaultIn tb (tops_after before (map f xs)) (inside (map f xs)))
-  named_clean is f name at [] all before are = clean_none tb
-  named_clean {X} is f name at (x ∷ xs) all before are =
+  named_clean is f name one [] all before are = clean_none tb
+  named_clean {X} is f name one (x ∷ xs) all before are =
       let P : X → Type 0 = λ y. (b : List Tree) → IsName (name y) → has (defined_after is [] b) (name y) ≡ false → IsClean (FaultAt tb (top b) (f y)) in
       let ws = defined_after is [] before in
       let named = named_next ws (name x) (map name xs) are in
       let new = new_next ws (name x) (map name xs) are in
       let after = before ++ f x ∷ [] in
       let more : ws ++ map name (x ∷ xs) ≡ (ws ++ name x ∷ []) ++ map name xs = sym (append_assoc ws (name x ∷ []) (map name xs)) in
-      let next : defined_after is [] after ≡ ws ++ name x ∷ [] = defined_after-push is [] before (f x) ∙ at ws x named ∙ ap (λ b. cond b ws (ws ++ name x ∷ [])) new in
-      clean_more tb (top before) (tops_after after (map f xs)) (f x) (inside (map f xs)) (All-head P x xs all before named new) (named_clean is f name at xs (All-tail P x xs all) after (subst (λ vs. AreNames (vs ++ map name xs)) (sym next) (subst AreNames more are)))
+      let next : defined_after is [] after ≡ ws ++ name x ∷ [] = defined_after-push is [] before (f x) ∙ one ws x named ∙ ap (λ b. cond b ws (ws ++ name x ∷ [])) new in
+      clean_more tb (top before) (tops_after after (map f xs)) (f x) (inside (map f xs)) (All-head P x xs all before named new) (named_clean is f name one xs (All-tail P x xs all) after (subst (λ vs. AreNames (vs ++ map name xs)) (sym next) (subst AreNames more are)))
 
   -- a count
   pub clean_count : (low end n : ℕ) → low ≤ n → n < end → n < 2 ^ 64 → IsClean (FaultAt tb (count low end) (count_form n))
@@ -135,17 +137,15 @@ module _ (tb : Tables) (behaviours_are : AreNames tb.behaviours) (starts_are : A
       clean_list tb (top before) (more (word (codes "post")) (more s (more v none))) (first ∷ rs) (λ e. cc) refl (clean_more tb first rs (word (codes "post")) (more s (more v none)) (clean_first tb (codes "post")) (clean_more tb (known tb.starts) (value ∷ []) s (more v none) (clean_name_of tb behaviours_are starts_are tb.starts q.to to) (clean_more tb value [] v none (clean_value tb v (val_of q.value) means) (clean_none tb))))
 
   -- a script entry
-  abbrev FailsWithin : Failure → Type 0
-  FailsWithin (Fail node) = node < tb.nodes
-  FailsWithin (Lose message) = Unit {0}
-
-  failure_clean : (f : Failure) → FailsWithin f → tb.nodes ≤ 64 → HasFittingMessage f → IsClean (FaultAt tb failure (failure_form f))
+  failure_clean : (f : Failure) → FailsBelow tb.nodes f → tb.nodes ≤ 64 → HasFittingMessage f → IsClean (FaultAt tb failure (failure_form f))
   failure_clean (Fail n) below few fits =
+      let small : n < tb.nodes = below in
       clean_list tb failure (more (word (codes "fail")) (more (count_form n) none)) (first ∷ count 0 tb.nodes ∷ []) (λ q. cc) refl (clean_more tb first (count 0 tb.nodes ∷ []) (word (codes "fail")) (more (count_form n) none) (clean_first tb (codes "fail")) (clean_more tb (count 0 tb.nodes) [] (count_form n) none (clean_count 0 tb.nodes n (omega arith) below (omega arith)) (clean_none tb)))
   failure_clean (Lose m) below few fits =
+      let small : m < 2 ^ 32 = fits in
       clean_list tb failure (more (word (codes "lose")) (more (count_form m) none)) (first ∷ count 0 (2 ^ 32) ∷ []) (λ q. cc) refl (clean_more tb first (count 0 (2 ^ 32) ∷ []) (word (codes "lose")) (more (count_form m) none) (clean_first tb (codes "lose")) (clean_more tb (count 0 (2 ^ 32)) [] (count_form m) none (clean_count 0 (2 ^ 32) m (omega arith) fits (omega arith)) (clean_none tb)))
 
-  pub entry_clean : (e : Entry) (before : List Tree) → FailsWithin e.failure → tb.nodes ≤ 64 → HasFittingNumbers e → IsClean (FaultAt tb (top before) (entry_form e))
+  pub entry_clean : (e : Entry) (before : List Tree) → FailsBelow tb.nodes e.failure → tb.nodes ≤ 64 → HasFittingNumbers e → IsClean (FaultAt tb (top before) (entry_form e))
   entry_clean e before below few fits =
       let place = fits.place in
       let f = failure_form e.failure in

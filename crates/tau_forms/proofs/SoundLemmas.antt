@@ -1,5 +1,5 @@
 -- A program that forms mean is sound.
-use Rattle.std.proofs.Common.{◌≡◌, ◌≢◌, ℕ, ◌+◌, ◌<◌, ◌≤◌, Bool, true, false, cond, ◌&&◌, nat_le, nat_lt, List, [], ◌∷◌, ◌++◌, length, map, Option, Some, None, unwrap_or, refl, sym, ap, subst, ◌∙◌, append_assoc, arith}
+use Rattle.std.proofs.Common.{◌≡◌, ◌≢◌, ℕ, ◌+◌, ◌<◌, ◌≤◌, Bool, true, false, cond, ◌&&◌, nat_le, nat_lt, List, [], ◌∷◌, ◌++◌, length, map, get_or, Option, Some, None, unwrap_or, refl, sym, ap, subst, ◌∙◌, append_assoc, arith}
 use Rattle.std.specs.List.{All, AllPairs, filter, filter_map, cons_option}
 use Rattle.std.specs.Option.{IfSome, option_or, option_map_or}
 use Rattle.std.proofs.lemmas.Bool.{ltb-false, ltb-true, leb-true, and_parts}
@@ -8,6 +8,8 @@ use Rattle.std.proofs.lemmas.List.Elements.{All-nil, All-cons}
 use Rattle.tau_sexpr.specs.Tree.{Tree, word, list, none, more, inside, depths}
 use Rattle.tau_value.specs.Names.{AreNames}
 use Rattle.tau_value.specs.Numbers.{count_in}
+use Rattle.tau_value.specs.Sizes.{NamesBelow}
+use Rattle.tau_value.specs.Value.{val_of}
 use Rattle.tau_tree.specs.Behaviour.{NamedCode}
 use Rattle.tau_tree.specs.Checks.{IsSoundBehaviour, IsSoundStart, IsSoundPost}
 use Rattle.tau_tree.specs.Sound.{Sound, FailsBelow}
@@ -172,6 +174,7 @@ sound_of ts p deep means =
     let each_post : All (λ q. IsSoundPlainPost tb (plain_post q)) p.posts = All-unmap (IsSoundPlainPost tb) plain_post p.posts (subst (All (IsSoundPlainPost tb)) (sym posts) all.posts) in
     let behaviours_are : AreNames tb.behaviours = defined_are is_behaviour [] ts no_names in
     let starts_are : AreNames tb.starts = defined_are is_start [] ts no_names in
+    let F : ℕ → ℕ → Type 0 = λ n m. All (IsSoundBehaviour n m) p.behaviours in
     sound_from_checks p (record {
       limits = record {
         some_nodes = omega (arith, nodes, are_nodes.some);
@@ -183,18 +186,18 @@ sound_of ts p deep means =
       };
       posts = λ k d lt. let q = each_post k d lt in record {
         receiver = omega (arith, q.receiver, start_number);
-        names = rw start_number at q.value.names;
+        names = subst (λ n. NamesBelow n (val_of (get_or p.posts k d).value)) start_number q.value.names;
         bounded = q.value.bounded;
       };
-      entries = rw (nodes, script) all.entries;
+      entries = subst (λ n. All (λ e. FailsBelow n e.failure) p.script) (sym nodes) (subst (All (λ e. FailsBelow tb.nodes e.failure)) (sym script) all.entries);
       starts = λ k d lt. let s = each_start k d lt in record {
         named = s.named;
         behaviour = omega (arith, s.behaviour, behaviour_number);
         node = omega (arith, s.node, nodes);
-        names = rw start_number at s.state.names;
+        names = subst (λ n. NamesBelow n (val_of (get_or p.starts k d).state)) start_number s.state.names;
         bounded = s.state.bounded;
       };
       start_names = subst (AllPairs (λ v w. v ≢ w)) start_names starts_are.distinct;
-      behaviours = rw (behaviours, ← start_number, ← behaviour_number) all.behaviours;
+      behaviours = subst (λ n. F n (length p.behaviours)) start_number (subst (λ m. F (length tb.starts) m) behaviour_number (subst (All (IsSoundBehaviour (length tb.starts) (length tb.behaviours))) (sym behaviours) all.behaviours));
       behaviour_names = subst (AllPairs (λ v w. v ≢ w)) behaviour_names behaviours_are.distinct;
     })

@@ -6,3 +6,4 @@ pub mod Meaning
 pub mod Printed
 pub mod Fitting
 pub mod Build
+pub mod Laws

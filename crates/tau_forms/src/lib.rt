@@ -4,11 +4,16 @@
 mod build;
 mod faults;
 mod keywords;
+mod laws;
 mod printing;
 mod reading;
 mod tables;
 mod writing;
 
 pub use faults::ProgramError;
+pub use laws::forms_mean_one_program;
 pub use printing::forms_of;
 pub use reading::program_of;
+
+#[cfg(test)]
+mod printing_tests;
