@@ -6,6 +6,7 @@ mod checking;
 mod faults;
 mod keywords;
 mod limits;
+mod laws;
 mod printing;
 mod programs;
 mod reading;
@@ -14,7 +15,12 @@ mod scopes;
 mod tables;
 mod tops;
 mod wanted;
+mod writing;
 
 pub use faults::ProgramError;
+pub use laws::forms_mean_one_program;
 pub use printing::forms_of;
 pub use reading::program_of;
+
+#[cfg(test)]
+mod printing_tests;
