@@ -1,0 +1,4 @@
+pub mod Commands
+pub mod Status
+pub mod Input
+pub mod Answer

@@ -1,0 +1,14 @@
+//! The commands of the program `tau`, from the words of the command line to the status (docs/formats.md, "Command line").
+#![tactic(auto)]
+
+mod answers;
+mod commands;
+mod inputs;
+mod lines;
+mod statuses;
+
+pub use answers::tau_still;
+pub use commands::{Command, WordsError, read_words};
+pub use inputs::{InputError, read_program};
+pub use lines::{Line, Words};
+pub use statuses::{Status, number};
