@@ -1,0 +1,19 @@
+use Rattle.std.proofs.Common.{◌≡◌}
+use Rattle.tau_cli.proofs.AnswerLemmas.{no_answer, stops_with_fault, stops_without_fault}
+use Rattle.tau_cli.proofs.answers.tau_still.Goals as goal
+
+pub returns-in-Ok-write_all_of-clause-faulty : goal.returns-in-Ok-write_all_of-clause-faulty
+returns-in-Ok-write_all_of-clause-faulty g c command bytes fault at e l f =
+    absurd (no_answer c.args.words.now _ _ command bytes fault at c.in-Ok.ensures.answer e l f)
+
+pub returns-in-Err-WriteFault-clause-faulty : goal.returns-in-Err-WriteFault-clause-faulty
+returns-in-Err-WriteFault-clause-faulty g c command bytes fault at e l f =
+    absurd (no_answer c.args.words.now _ _ command bytes fault at c.in-Ok.ensures.answer e l f)
+
+pub returns-clause-faulty : goal.returns-clause-faulty
+returns-clause-faulty g c command bytes fault at e l f =
+    stops_with_fault c.in-Err.status c.args.words.now _ _ _ command bytes fault at c.in-Err.ensures.status e l f
+
+pub returns-clause-complete : goal.returns-clause-complete
+returns-clause-complete g c command bytes e l f r w =
+    stops_without_fault c.in-Err.status c.args.words.now _ _ _ command bytes c.in-Err.ensures.status e l f r
