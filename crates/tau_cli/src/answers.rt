@@ -86,7 +86,7 @@ fn answer_of<I: Source>(alloc: Global, words: &Words, input: &mut I) -> Result<V
         IsAnswer words.now (I.left input.old) text.items) }
     ensures status { IfErr result (λ status.
         Stops words.now (I.left input.old) (input.new ≡ input.old)
-            (HasRisen (I.faults input.old) (I.faults input.new)) status) }
+        (HasRisen (I.faults input.old) (I.faults input.new)) status) }
 {
     let command = read_words(words)?;
     let bytes = read_all(alloc, input, INPUT_LIMIT)?;

@@ -3,6 +3,7 @@ ghost use Rattle.std.specs.Prelude.{◌≡◌, None, Some, IfOk, IsErrOf};
 ghost use Rattle.tau_cli.specs.Commands.{command_of, command_named};
 
 use crate::Words;
+use std::alloc::AllocError;
 use thiserror::Error;
 
 /// A command that is built (docs/formats.md, "Command line").
@@ -20,6 +21,17 @@ pub enum WordsError {
     Words,
     #[error("out of memory")]
     NoMemory,
+}
+
+impl From<AllocError> for WordsError {
+    ghost use Rattle.std.specs.Prelude.{◌≡◌};
+    ghost use Rattle.tau_cli.specs.declared.commands.WordsError.TheVariants.{NoMemory};
+
+    ghost from_gives = { λ _ e. e ≡ NoMemory };
+
+    fn from(_error: AllocError) -> WordsError {
+        WordsError::NoMemory
+    }
 }
 
 /// The command that the words of a command line name (docs/formats.md, "Command line").

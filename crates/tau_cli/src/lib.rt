@@ -5,10 +5,15 @@ mod answers;
 mod commands;
 mod inputs;
 mod lines;
+mod process;
 mod statuses;
 
 pub use answers::tau_still;
 pub use commands::{Command, WordsError, read_words};
 pub use inputs::{InputError, read_program};
 pub use lines::{Line, Words};
+pub use process::run_process;
 pub use statuses::{Status, number};
+
+#[cfg(test)]
+mod tests;

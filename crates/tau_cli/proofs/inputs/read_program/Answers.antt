@@ -10,7 +10,7 @@ returns-in_err-forms-clause-fault c =
 pub returns-in_err-program_of-clause-fault : goal.returns-in_err-program_of-clause-fault
 returns-in_err-program_of-clause-fault c =
     from_program c.from_residual-in_err-program_of.result c.args.bytes.now c.in_ok-forms.forms c.in_err-program_of.field-0.0 c.from_residual-in_err-program_of.ensures.1
-        c.in_ok-forms.ensures.spelled c.in_err-program_of.ensures.fault
+    c.in_ok-forms.ensures.spelled c.in_err-program_of.ensures.fault
 
 pub returns-in_err-forms-clause-faulty : goal.returns-in_err-forms-clause-faulty
 returns-in_err-forms-clause-faulty c fault at h =
@@ -21,7 +21,7 @@ pub returns-in_err-program_of-clause-faulty : goal.returns-in_err-program_of-cla
 returns-in_err-program_of-clause-faulty c fault at h =
     let told =
     from_program c.from_residual-in_err-program_of.result c.args.bytes.now c.in_ok-forms.forms c.in_err-program_of.field-0.0 c.from_residual-in_err-program_of.ensures.1
-        c.in_ok-forms.ensures.spelled c.in_err-program_of.ensures.fault in
+    c.in_ok-forms.ensures.spelled c.in_err-program_of.ensures.fault in
     fault_told c.from_residual-in_err-program_of.result c.args.bytes.now fault at c.from_residual-in_err-program_of.ensures.0 told h
 
 pub returns-clause-faulty : goal.returns-clause-faulty
