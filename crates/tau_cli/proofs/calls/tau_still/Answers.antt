@@ -1,14 +1,14 @@
 use Rattle.std.proofs.Common.{◌≡◌}
-use Rattle.tau_cli.proofs.AnswerLemmas.{no_answer, stops_with_fault, stops_without_fault}
-use Rattle.tau_cli.proofs.answers.tau_still.Goals as goal
+use Rattle.tau_cli.proofs.OutputLemmas.{no_output, stops_with_fault, stops_without_fault}
+use Rattle.tau_cli.proofs.calls.tau_still.Goals as goal
 
 pub returns-in-Ok-write_all_of-clause-faulty : goal.returns-in-Ok-write_all_of-clause-faulty
 returns-in-Ok-write_all_of-clause-faulty g c command bytes fault at e l f =
-    absurd (no_answer c.args.words.now _ _ command bytes fault at c.in-Ok.ensures.answer e l f)
+    absurd (no_output c.args.words.now _ _ command bytes fault at c.in-Ok.ensures.output e l f)
 
 pub returns-in-Err-WriteFault-clause-faulty : goal.returns-in-Err-WriteFault-clause-faulty
 returns-in-Err-WriteFault-clause-faulty g c command bytes fault at e l f =
-    absurd (no_answer c.args.words.now _ _ command bytes fault at c.in-Ok.ensures.answer e l f)
+    absurd (no_output c.args.words.now _ _ command bytes fault at c.in-Ok.ensures.output e l f)
 
 pub returns-clause-faulty : goal.returns-clause-faulty
 returns-clause-faulty g c command bytes fault at e l f =

@@ -4,7 +4,7 @@ ghost use Rattle.std.specs.Io.KnownBytes.{Appends};
 ghost use Rattle.tau_io.specs.Faults.{HasRisen};
 ghost use Rattle.tau_io.specs.Put.{AppendsFront};
 ghost use Rattle.tau_cli.specs.declared.commands.Command.{Command};
-ghost use Rattle.tau_cli.specs.Answer.{IsPrinted, Writes, IsAnswer, IsFaulty, Stops, IsUnlessUnread};
+ghost use Rattle.tau_cli.specs.Output.{IsPrinted, Writes, IsOutput, IsFaulty, Stops, IsUnlessUnread};
 ghost use Rattle.tau_cli.specs.Commands.{command_of};
 ghost use Rattle.tau_cli.specs.Input.{input_limit, IsInputFault, Tells};
 ghost use Rattle.tau_cli.specs.Status.{IsRefusal};
@@ -48,18 +48,18 @@ pub fn tau_still<I: Source, O: Sink>(
     ensures unwritten { IsRefusal result → output.new ≡ output.old }
 
     ensures done { result ≡ Status.Done
-        → (text : List ℕ) × IsAnswer words.now (I.left input.old) text
+        → (text : List ℕ) × IsOutput words.now (I.left input.old) text
         × Appends (O.held output.old) (O.held output.new) text }
 
     ensures write_fault { result ≡ Status.WriteFault
         → HasRisen (O.faults output.old) (O.faults output.new) }
     ensures front { result ≡ Status.WriteFault
-        → (text : List ℕ) × IsAnswer words.now (I.left input.old) text
+        → (text : List ℕ) × IsOutput words.now (I.left input.old) text
         × AppendsFront (O.held output.old) (O.held output.new) text }
 
     ensures no_memory { result ≡ Status.NoMemory
         → (output.new ≡ output.old) ⊎ ((text : List ℕ)
-        × IsAnswer words.now (I.left input.old) text
+        × IsOutput words.now (I.left input.old) text
         × AppendsFront (O.held output.old) (O.held output.new) text) }
 
     // Where nothing is wrong, the command is done, or memory ran out.
@@ -70,7 +70,7 @@ pub fn tau_still<I: Source, O: Sink>(
         → ¬ HasRisen (O.faults output.old) (O.faults output.new)
         → (result ≡ Status.Done) ⊎ (result ≡ Status.NoMemory) }
 {
-    match answer_of(alloc, words, input) {
+    match output_of(alloc, words, input) {
         Ok(text) => match write_all_of(output, &text) {
             Ok(()) => Status::Done,
             Err(WriteError::WriteFault) => Status::WriteFault,
@@ -81,9 +81,9 @@ pub fn tau_still<I: Source, O: Sink>(
 }
 
 // The text that the words ask for, or the status with which they end before anything is written.
-fn answer_of<I: Source>(alloc: Global, words: &Words, input: &mut I) -> Result<Vec<u8>, Status>
-    ensures answer { IfOk result (λ text.
-        IsAnswer words.now (I.left input.old) text.items) }
+fn output_of<I: Source>(alloc: Global, words: &Words, input: &mut I) -> Result<Vec<u8>, Status>
+    ensures output { IfOk result (λ text.
+        IsOutput words.now (I.left input.old) text.items) }
     ensures status { IfErr result (λ status.
         Stops words.now (I.left input.old) (input.new ≡ input.old)
         (HasRisen (I.faults input.old) (I.faults input.new)) status) }

@@ -26,7 +26,7 @@ AreLeft None bytes = Unit {0}
 AreLeft (Some left) bytes = bytes ≡ left
 
 -- the text that the command of the words writes for the bytes that a source had left
-pub record IsAnswer (words : List (List ℕ)) (left : Option (List ℕ)) (text : List ℕ) : Type 0 where
+pub record IsOutput (words : List (List ℕ)) (left : Option (List ℕ)) (text : List ℕ) : Type 0 where
   pub command : Command
   pub is_command : command_of words ≡ Some command
   pub bytes : List ℕ

@@ -11,7 +11,7 @@ use Rattle.tau_cli.specs.declared.statuses.Status.TheVariants.{Done, Words, Inpu
 use Rattle.tau_cli.specs.Commands.{command_of}
 use Rattle.tau_cli.specs.Input.{input_limit, IsInputFault, too_long, no_program, Tells}
 use Rattle.tau_cli.specs.Status.{of_input_error}
-use Rattle.tau_cli.specs.Answer.{Writes, AreLeft, IsAnswer, IsFaulty, Stops, IsUnlessUnread}
+use Rattle.tau_cli.specs.Output.{Writes, AreLeft, IsOutput, IsFaulty, Stops, IsUnlessUnread}
 use Rattle.tau_cli.proofs.InputLemmas.{one_fault, fault_or_program}
 
 -- what an error of bytes within the limit tells is the fault of the input
@@ -42,7 +42,7 @@ stops_at_input (Err s) words left U R command bytes e h c l f =
     subst (Stops words left U R) (sym h) (stops_at_error words left U R command bytes e c l f)
 
 -- an input has one fault
-one_input_fault : (command : Command) (bytes : List ℕ) (a b c d : ℕ) → IsInputFault command bytes a b → IsInputFault command bytes c d → (a ≡ c) × (b ≡ d)
+pub one_input_fault : (command : Command) (bytes : List ℕ) (a b c d : ℕ) → IsInputFault command bytes a b → IsInputFault command bytes c d → (a ≡ c) × (b ≡ d)
 one_input_fault command bytes a b c d (too_long l p q) (too_long m r s) = (p ∙ sym r, q ∙ sym s)
 one_input_fault command bytes a b c d (too_long l p q) (no_program m g) = absurd (omega arith)
 one_input_fault command bytes a b c d (no_program m g) (too_long l p q) = absurd (omega arith)
@@ -54,13 +54,13 @@ left_told None bytes all h e = cc
 left_told (Some xs) bytes all h e = let same : xs ≡ all = cc in h ∙ same
 
 -- a command writes no text for an input with a fault
-unwritten : (command : Command) (bytes text : List ℕ) (a b : ℕ) → Writes command bytes text → IsInputFault command bytes a b → ⊥
+pub unwritten : (command : Command) (bytes text : List ℕ) (a b : ℕ) → Writes command bytes text → IsInputFault command bytes a b → ⊥
 unwritten Print bytes text a b w (too_long l p q) = let m : length bytes ≤ input_limit = w.0 in omega arith
 unwritten Print bytes text a b w (no_program l f) = fault_or_program bytes a b w.1.program f w.1.spelled
 
-pub no_answer : (words : List (List ℕ)) (left : Option (List ℕ)) (text : List ℕ) (command : Command) (bytes : List ℕ) (a b : ℕ) → IsAnswer words left text
+pub no_output : (words : List (List ℕ)) (left : Option (List ℕ)) (text : List ℕ) (command : Command) (bytes : List ℕ) (a b : ℕ) → IsOutput words left text
     → command_of words ≡ Some command → left ≡ Some bytes → IsInputFault command bytes a b → ⊥
-no_answer words left text command bytes a b h c l f =
+no_output words left text command bytes a b h c l f =
     let e : Some h.command ≡ Some command = sym h.is_command ∙ c in
     let same : h.command ≡ command = cc in
     let read : h.bytes ≡ bytes = left_told left h.bytes bytes h.are_left l in

@@ -1,7 +1,7 @@
 use Rattle.std.proofs.Common.{◌≡◌, ap, sym, subst, Err}
-use Rattle.tau_cli.specs.Answer.{AreLeft}
-use Rattle.tau_cli.proofs.AnswerLemmas.{stops_at_input, taken_are_left}
-use Rattle.tau_cli.proofs.answers.answer_of.Goals as goal
+use Rattle.tau_cli.specs.Output.{AreLeft}
+use Rattle.tau_cli.proofs.OutputLemmas.{stops_at_input, taken_are_left}
+use Rattle.tau_cli.proofs.calls.output_of.Goals as goal
 
 pub returns-in_err-text_of-clause-status : goal.returns-in_err-text_of-clause-status
 returns-in_err-text_of-clause-status g c =
