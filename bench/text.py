@@ -1,5 +1,5 @@
 #!/usr/bin/env python3
-"""Measures `tau print` on large texts: seconds of the process and its peak memory.
+"""Measures `tau print` on large texts: seconds by the clock and by the processor, and the peak of the memory.
 
 It builds the program by bin/tau where it isn't built, and prints a table. Nothing is compared: the aim is two seconds and
 2.5 GB for each text.
@@ -8,6 +8,7 @@ It builds the program by bin/tau where it isn't built, and prints a table. Nothi
 import os
 import random
 import subprocess
+import sys
 import tempfile
 import time
 
@@ -70,11 +71,9 @@ def texts():
     yield "200 open brackets", "(" * 200
 
 
-def measure(text):
-    """The status, its line, the seconds and the peak memory in megabytes of one run."""
-    with tempfile.TemporaryFile() as source, tempfile.TemporaryFile() as errors:
-        source.write(text.encode())
-        source.seek(0)
+def measure(path):
+    """Prints the row of the text in a file: this process is small, so the peak is that of the program."""
+    with open(path, "rb") as source, tempfile.TemporaryFile() as errors:
         begin = time.monotonic()
         process = subprocess.Popen([PROGRAM, "print"], stdin=source, stdout=subprocess.DEVNULL, stderr=errors)
         _, status, usage = os.wait4(process.pid, 0)
@@ -82,16 +81,23 @@ def measure(text):
         process.returncode = os.waitstatus_to_exitcode(status)
         errors.seek(0)
         line = errors.read().decode().strip()
-        return process.returncode, line, seconds, usage.ru_maxrss / 1024
+    processor = usage.ru_utime + usage.ru_stime
+    print(f"{seconds:8.2f} {processor:9.2f} {usage.ru_maxrss / 1024:6.0f} {process.returncode:6}  {line}", flush=True)
 
 
 def main():
+    if len(sys.argv) == 2:
+        measure(sys.argv[1])
+        return
     if not os.path.exists(PROGRAM):
         subprocess.run([os.path.join(ROOT, "bin", "tau")], stdin=subprocess.DEVNULL, stderr=subprocess.DEVNULL)
-    print(f"{'text':36} {'bytes':>10} {'seconds':>8} {'MB':>6} {'status':>6}  line")
+    print(f"{'text':36} {'bytes':>10} {'seconds':>8} {'processor':>9} {'MB':>6} {'status':>6}  line")
     for name, text in texts():
-        status, line, seconds, megabytes = measure(text)
-        print(f"{name:36} {len(text):10} {seconds:8.2f} {megabytes:6.0f} {status:6}  {line}")
+        with tempfile.NamedTemporaryFile() as source:
+            source.write(text.encode())
+            source.flush()
+            print(f"{name:36} {len(text):10} ", end="", flush=True)
+            subprocess.run([sys.executable, os.path.abspath(__file__), source.name], check=True)
 
 
 main()
