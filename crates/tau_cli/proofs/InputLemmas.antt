@@ -1,5 +1,5 @@
 -- Bytes have one fault at most, and none where they spell a program.
-use Rattle.std.proofs.Common.{◌≡◌, ◌≢◌, ◌⊎◌, inl, inr, ℕ, ◌≤◌, List, Option, Some, None, Result, Ok, Err, IfOk, IfErr, refl, sym, ap, ◌∙◌, subst, arith}
+use Rattle.std.proofs.Common.{◌≡◌, ◌≢◌, ◌⊎◌, inl, inr, ℕ, List, Some, None, Result, Ok, Err, IfErr, refl, sym, ap, ◌∙◌, subst, arith}
 use Rattle.std.specs.Result.{IsErr, IsErrAnd}
 use Rattle.tau_sexpr.specs.Tree.{Tree}
 use Rattle.tau_sexpr.specs.Spelling.{IsSpelling}
@@ -9,7 +9,7 @@ use Rattle.tau_sexpr.specs.declared.faults.FormError.{FormError}
 use Rattle.tau_sexpr.specs.declared.faults.FormError.TheVariants as forms
 use Rattle.tau_tree.specs.declared.programs.Program.{Program}
 use Rattle.tau_forms.specs.Tops.{limit_of}
-use Rattle.tau_forms.specs.Faults.{Fault, shape, unknown, twice, IsFirst, IsClean, ProgramFaultAt, IsFault}
+use Rattle.tau_forms.specs.Faults.{Fault, shape, unknown, twice, IsFirst, ProgramFaultAt, IsFault}
 use Rattle.tau_forms.specs.Meaning.{Means}
 use Rattle.tau_forms.specs.declared.faults.ProgramError.{ProgramError}
 use Rattle.tau_forms.specs.declared.faults.ProgramError.TheVariants as programs

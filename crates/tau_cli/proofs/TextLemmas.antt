@@ -1,5 +1,5 @@
 -- The printed forms of a program are those of its plain data.
-use Rattle.std.proofs.Common.{◌≡◌, ℕ, List, [], ◌∷◌, ◌++◌, refl, sym, ap, ◌∙◌, subst}
+use Rattle.std.proofs.Common.{◌≡◌, ℕ, List, [], ◌∷◌, ◌++◌, refl, sym, ap, ◌∙◌}
 use Rattle.std.specs.Prelude.{map, codes}
 use Rattle.tau_sexpr.specs.Tree.{Tree, word}
 use Rattle.tau_sexpr.specs.Printing.{printed}
@@ -12,10 +12,7 @@ use Rattle.tau_tree.specs.declared.programs.Program.{Program}
 use Rattle.tau_forms.specs.Meaning.{PlainStart, PlainPost, PlainProgram, plain_start, plain_post, plain_of, program_in}
 use Rattle.tau_forms.specs.Printed.{headed, name_of, count_form, behaviour_form, start_form, post_form, entry_form}
 use Rattle.tau_forms.specs.Printed as forms
-use Rattle.tau_cli.specs.declared.commands.Command.{Command}
 use Rattle.tau_cli.specs.declared.commands.Command.TheVariants.{Print}
-use Rattle.tau_cli.specs.Input.{IsInputFault}
-use Rattle.tau_cli.specs.Output.{Writes}
 use Rattle.tau_cli.specs.Laws.{WritesOnce, WritesWithoutFault, FailsOnce}
 use Rattle.tau_cli.proofs.OutputLemmas.{one_input_fault, unwritten}
 

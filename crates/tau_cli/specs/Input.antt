@@ -11,7 +11,6 @@ use Rattle.tau_forms.specs.Meaning.{Means}
 use Rattle.tau_forms.specs.declared.faults.ProgramError.{ProgramError}
 use Rattle.tau_forms.specs.declared.faults.ProgramError.TheVariants as programs
 use Rattle.tau_cli.specs.declared.commands.Command.{Command}
-use Rattle.tau_cli.specs.declared.commands.Command.TheVariants.{Print}
 use Rattle.tau_cli.specs.declared.inputs.InputError.{InputError}
 use Rattle.tau_cli.specs.declared.inputs.InputError.TheVariants.{Fault, NoMemory}
 

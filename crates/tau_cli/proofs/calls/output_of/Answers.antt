@@ -1,4 +1,4 @@
-use Rattle.std.proofs.Common.{◌≡◌, ap, sym, subst, Err}
+use Rattle.std.proofs.Common.{ap, sym, subst, Err}
 use Rattle.tau_cli.specs.Output.{AreLeft}
 use Rattle.tau_cli.proofs.OutputLemmas.{stops_at_input, taken_are_left}
 use Rattle.tau_cli.proofs.calls.output_of.Goals as goal

@@ -1,4 +1,3 @@
-use Rattle.std.proofs.Common.{◌≡◌}
 use Rattle.tau_cli.proofs.OutputLemmas.{no_output, stops_with_fault, stops_without_fault}
 use Rattle.tau_cli.proofs.calls.tau_still.Goals as goal
 

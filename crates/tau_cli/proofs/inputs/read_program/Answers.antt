@@ -1,4 +1,3 @@
-use Rattle.std.proofs.Common.{◌≡◌}
 use Rattle.tau_cli.proofs.InputLemmas.{from_forms, from_program, fault_told, fault_or_program}
 use Rattle.tau_cli.specs.Input.{IsProgram}
 use Rattle.tau_cli.proofs.inputs.read_program.Goals as goal
