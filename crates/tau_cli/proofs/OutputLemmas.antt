@@ -11,7 +11,7 @@ use Rattle.tau_cli.specs.declared.statuses.Status.TheVariants.{Done, Words, Inpu
 use Rattle.tau_cli.specs.Commands.{command_of}
 use Rattle.tau_cli.specs.Input.{input_limit, IsInputFault, too_long, no_program, Tells}
 use Rattle.tau_cli.specs.Status.{of_input_error}
-use Rattle.tau_cli.specs.Output.{Writes, AreLeft, IsOutput, IsFaulty, Stops, IsUnlessUnread}
+use Rattle.tau_cli.specs.Output.{Writes, IsEndOf, AreLeft, IsOutput, IsFaulty, Stops, IsUnlessUnread}
 use Rattle.tau_cli.proofs.InputLemmas.{one_fault, fault_or_program}
 
 -- what an error of bytes within the limit tells is the fault of the input
@@ -87,7 +87,7 @@ stops_with_fault NoMemory words left U R command bytes a b h e l f = inr (inr re
 
 -- with no fault anywhere, only want of memory is left
 pub stops_without_fault : (s : Status) (words : List (List ℕ)) (left : Option (List ℕ)) (U R : Type 0) (command : Command) (bytes : List ℕ) → Stops words left U R s
-    → command_of words ≡ Some command → left ≡ Some bytes → ((a b : ℕ) → ¬ IsInputFault command bytes a b) → ¬ R → (s ≡ Done) ⊎ (s ≡ NoMemory)
+    → command_of words ≡ Some command → left ≡ Some bytes → ((a b : ℕ) → ¬ IsInputFault command bytes a b) → ¬ R → IsEndOf command s ⊎ (s ≡ NoMemory)
 stops_without_fault Done words left U R command bytes h e l f r = absurd h
 stops_without_fault Words words left U R command bytes h e l f r = let n : None ≡ Some command = sym h.0 ∙ e in absurd (cc)
 stops_without_fault (Input a b) words left U R command bytes h e l f r =
@@ -98,3 +98,7 @@ stops_without_fault (Input a b) words left U R command bytes h e l f r =
 stops_without_fault ReadFault words left U R command bytes h e l f r = absurd (r h.1)
 stops_without_fault WriteFault words left U R command bytes h e l f r = absurd h
 stops_without_fault NoMemory words left U R command bytes h e l f r = inr refl
+
+-- a command whose text was written is done
+pub ends_done : (command : Command) → IsEndOf command Done
+ends_done Print = refl

@@ -20,6 +20,10 @@ pub record IsPrinted (bytes text : List ℕ) : Type 0 where
 abbrev pub Writes : Command → List ℕ → List ℕ → Type 0
 Writes Print bytes text = (length bytes ≤ input_limit) × IsPrinted bytes text
 
+-- how a command ends where its input has no fault and nothing fails
+abbrev pub IsEndOf : Command → Status → Type 0
+IsEndOf Print status = status ≡ Done
+
 -- the bytes are those that a source had left, where it tells them
 abbrev pub AreLeft : Option (List ℕ) → List ℕ → Type 0
 AreLeft None bytes = Unit {0}

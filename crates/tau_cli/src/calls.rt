@@ -4,7 +4,7 @@ ghost use Rattle.std.specs.Io.KnownBytes.{Appends};
 ghost use Rattle.tau_io.specs.Faults.{HasRisen};
 ghost use Rattle.tau_io.specs.Put.{AppendsFront};
 ghost use Rattle.tau_cli.specs.declared.commands.Command.{Command};
-ghost use Rattle.tau_cli.specs.Output.{IsPrinted, Writes, IsOutput, IsFaulty, Stops, IsUnlessUnread};
+ghost use Rattle.tau_cli.specs.Output.{IsPrinted, Writes, IsEndOf, IsOutput, IsFaulty, Stops, IsUnlessUnread};
 ghost use Rattle.tau_cli.specs.Commands.{command_of};
 ghost use Rattle.tau_cli.specs.Input.{input_limit, IsInputFault, Tells};
 ghost use Rattle.tau_cli.specs.Status.{IsRefusal};
@@ -62,13 +62,13 @@ pub fn tau_still<I: Source, O: Sink>(
         × IsOutput words.now (I.left input.old) text
         × AppendsFront (O.held output.old) (O.held output.new) text) }
 
-    // Where nothing is wrong, the command is done, or memory ran out.
+    // Where nothing is wrong, the command ends as it should, or memory ran out.
     ensures complete { (command : Command) (bytes : List ℕ)
         → command_of words.now ≡ Some command → I.left input.old ≡ Some bytes
         → ((fault at : ℕ) → ¬ IsInputFault command bytes fault at)
         → ¬ HasRisen (I.faults input.old) (I.faults input.new)
         → ¬ HasRisen (O.faults output.old) (O.faults output.new)
-        → (result ≡ Status.Done) ⊎ (result ≡ Status.NoMemory) }
+        → IsEndOf command result ⊎ (result ≡ Status.NoMemory) }
 {
     match output_of(alloc, words, input) {
         Ok(text) => match write_all_of(output, &text) {

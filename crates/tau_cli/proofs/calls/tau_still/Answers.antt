@@ -1,4 +1,5 @@
-use Rattle.tau_cli.proofs.OutputLemmas.{no_output, stops_with_fault, stops_without_fault}
+use Rattle.std.proofs.Common.{inl}
+use Rattle.tau_cli.proofs.OutputLemmas.{no_output, stops_with_fault, stops_without_fault, ends_done}
 use Rattle.tau_cli.proofs.calls.tau_still.Goals as goal
 
 pub returns-in-Ok-write_all_of-clause-faulty : goal.returns-in-Ok-write_all_of-clause-faulty
@@ -16,3 +17,6 @@ returns-clause-faulty g c command bytes fault at e l f =
 pub returns-clause-complete : goal.returns-clause-complete
 returns-clause-complete g c command bytes e l f r w =
     stops_without_fault c.in-Err.status c.args.words.now _ _ _ command bytes c.in-Err.ensures.status e l f r
+
+pub returns-in-Ok-write_all_of-clause-complete : goal.returns-in-Ok-write_all_of-clause-complete
+returns-in-Ok-write_all_of-clause-complete g c command bytes e l f r w = inl (ends_done command)
