@@ -11,5 +11,4 @@ pub mod Defined
 pub mod Build
 pub mod Building
 pub mod Fitting
-pub mod Build
 pub mod Laws
