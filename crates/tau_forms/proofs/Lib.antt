@@ -6,3 +6,4 @@ pub mod LoopLemmas
 pub mod DefinedLemmas
 pub mod TopLemmas
 pub mod BuiltLemmas
+pub mod BuildingLemmas
