@@ -7,3 +7,4 @@ pub mod DefinedLemmas
 pub mod TopLemmas
 pub mod BuiltLemmas
 pub mod BuildingLemmas
+pub mod ProgramLemmas
