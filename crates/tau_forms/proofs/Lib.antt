@@ -8,3 +8,15 @@ pub mod TopLemmas
 pub mod BuiltLemmas
 pub mod BuildingLemmas
 pub mod ProgramLemmas
+pub mod PrintedLemmas
+pub mod SoundFaults
+pub mod SoundExpressions
+pub mod SoundNames
+pub mod SoundTops
+pub mod SoundLemmas
+pub mod ReadBackFaults
+pub mod ReadBackWords
+pub mod ReadBackExpressions
+pub mod ReadBackTops
+pub mod ReadBackLemmas
+pub mod ReadBackUnique

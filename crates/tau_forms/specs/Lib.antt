@@ -10,3 +10,5 @@ pub mod Passing
 pub mod Defined
 pub mod Build
 pub mod Building
+pub mod Fitting
+pub mod Laws

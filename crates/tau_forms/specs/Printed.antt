@@ -1,5 +1,5 @@
 -- The forms that a program is printed as.
-use Rattle.std.specs.Prelude.{ℕ, List, [], ◌∷◌, ◌++◌, map, slice_index_or, codes, if◌then◌else◌, Bool}
+use Rattle.std.specs.Prelude.{ℕ, List, [], ◌∷◌, ◌++◌, map, slice_get, unwrap_or, codes, if◌then◌else◌, Bool}
 use Rattle.std.specs.Fmt.{decimal, signed_decimal}
 use Rattle.tau_sexpr.specs.Tree.{Tree, Trees, word, text, list, none, more, inside}
 use Rattle.tau_value.specs.Written.{written}
@@ -38,7 +38,7 @@ headed h ts = list (more (word h) (inside ts))
 
 -- the name with a number, among names
 abbrev pub name_of : List (List ℕ) → ℕ → Tree
-name_of names n = word (slice_index_or names n [])
+name_of names n = word (unwrap_or (slice_get names n) [])
 
 -- the form of an expression, with the names of behaviours and starts
 abbrev mutual

@@ -5,6 +5,7 @@ mod build;
 mod checking;
 mod faults;
 mod keywords;
+mod laws;
 mod limits;
 mod printing;
 mod programs;
@@ -14,7 +15,14 @@ mod scopes;
 mod tables;
 mod tops;
 mod wanted;
+mod writing;
 
 pub use faults::ProgramError;
+pub use laws::forms_mean_one_program;
 pub use printing::forms_of;
 pub use reading::program_of;
+
+#[cfg(test)]
+mod printing_tests;
+#[cfg(test)]
+mod reading_tests;
