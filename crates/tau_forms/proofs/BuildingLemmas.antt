@@ -12,10 +12,10 @@ use Rattle.tau_value.specs.Numbers.{count_in, capped}
 use Rattle.tau_forms.specs.Build.{HasParts}
 use Rattle.tau_forms.specs.Building.{behaviour_items, start_items, post_items, entry_items, failure_entry, behaviour_told, start_told, post_told, entry_told, IsTopForm, TellsBehaviour, TellsStart, TellsPost, TellsEntry, TellsFailure, HasBuilt}
 use Rattle.tau_forms.specs.Keywords.{sort_in, failure_in}
-use Rattle.tau_forms.specs.Meaning.{plain_start, plain_post, count_of, behaviour_in, start_in, post_in, entry_in, entry_of, failure_of}
+use Rattle.tau_forms.specs.Meaning.{PlainProgram, program_in, plain_start, plain_post, count_of, behaviour_in, start_in, post_in, entry_in, entry_of, failure_of}
 use Rattle.tau_forms.specs.Passing.{is_headed}
 use Rattle.tau_forms.specs.Roles as roles
-use Rattle.tau_forms.specs.Tops.{is_behaviour, is_start, is_post, is_entry}
+use Rattle.tau_forms.specs.Tops.{is_behaviour, is_start, is_post, is_entry, tables_of}
 use Rattle.tau_forms.specs.declared.build.Parts.{Parts}
 use Rattle.tau_forms.specs.declared.build.Parts.TheVariants as parts
 use Rattle.tau_forms.specs.declared.keywords.Sort.{Sort}
@@ -43,6 +43,21 @@ post_by tb h us = none_if (is_post (sort_in h))
 
 entry_by : (h : List ℕ) (us : Trees) → entry_in (list (more (word h) us)) ≡ cond (is_entry (sort_in h)) (entry_items us) None
 entry_by h (more (word p) (more (list (more (word g) (more (word n) none))) none)) = refl
+entry_by h (more (word p) (more (list none) none)) = none_if (is_entry (sort_in h))
+entry_by h (more (word p) (more (list none) (more x xs))) = none_if (is_entry (sort_in h))
+entry_by h (more (word p) (more (list (more (word g) none)) none)) = none_if (is_entry (sort_in h))
+entry_by h (more (word p) (more (list (more (word g) none)) (more x xs))) = none_if (is_entry (sort_in h))
+entry_by h (more (word p) (more (list (more (text t) us)) none)) = none_if (is_entry (sort_in h))
+entry_by h (more (word p) (more (list (more (text t) us)) (more x xs))) = none_if (is_entry (sort_in h))
+entry_by h (more (word p) (more (list (more (list t) us)) none)) = none_if (is_entry (sort_in h))
+entry_by h (more (word p) (more (list (more (list t) us)) (more x xs))) = none_if (is_entry (sort_in h))
+entry_by h (more (word p) (more (list (more (word g) (more (text t) us))) none)) = none_if (is_entry (sort_in h))
+entry_by h (more (word p) (more (list (more (word g) (more (text t) us))) (more x xs))) = none_if (is_entry (sort_in h))
+entry_by h (more (word p) (more (list (more (word g) (more (list t) us))) none)) = none_if (is_entry (sort_in h))
+entry_by h (more (word p) (more (list (more (word g) (more (list t) us))) (more x xs))) = none_if (is_entry (sort_in h))
+entry_by h (more (word p) (more (list (more (word g) (more (word n) none))) (more x xs))) = none_if (is_entry (sort_in h))
+entry_by h (more (word p) (more (list (more (word g) (more (word n) (more u us)))) none)) = none_if (is_entry (sort_in h))
+entry_by h (more (word p) (more (list (more (word g) (more (word n) (more u us)))) (more x xs))) = none_if (is_entry (sort_in h))
 entry_by h us = none_if (is_entry (sort_in h))
 
 pub top_of_items : (tb : Tables) (t : Tree) (ts us : Trees) (h : List ℕ) (s : Sort) (f : TopForm) → t ≡ list ts → ts ≡ more (word h) us → s ≡ sort_in h → cond (is_behaviour s) (behaviour_items tb us) None ≡ behaviour_told tb f → cond (is_start s) (start_items tb us) None ≡ start_told tb f → cond (is_post s) (post_items tb us) None ≡ post_told tb f → cond (is_entry s) (entry_items us) None ≡ entry_told f → IsTopForm tb t f
@@ -209,3 +224,10 @@ built_more tb before t d e f h g a b c k = record {
 pub nothing_more : {X : Type 0} → (xs : List X) → xs ≡ xs ++ []
 nothing_more [] = refl
 nothing_more (x ∷ xs) = ap (λ ys. x ∷ ys) (nothing_more xs)
+
+-- all forms
+abbrev pub built : Tables → Draft → PlainProgram
+built tb d = record { nodes = tb.nodes; behaviours = d.behaviours; starts = map plain_start d.starts; posts = map plain_post d.posts; script = d.script }
+
+pub built_all : (tb : Tables) (ts : List Tree) (d : Draft) → tb ≡ tables_of ts → HasBuilt tb ts d → built tb d ≡ program_in ts
+built_all tb ts d e h = subst (λ t. HasBuilt t ts d → built t d ≡ program_in ts) (sym e) (λ k i. record { nodes = (tables_of ts).nodes; behaviours = k.behaviours i; starts = k.starts i; posts = k.posts i; script = k.script i }) h

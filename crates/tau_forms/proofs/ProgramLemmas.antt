@@ -77,7 +77,7 @@ defined_le is ws (t ∷ ts) =
     let both = count_cons is t ts in
     omega (arith, rest, one, both)
 
-starts_few : (a b c d : Bool) (n : ℕ) → nat_lt 1024 n ≡ b → cond a (Some 1) (cond b (Some 2) (cond c (Some 3) (cond d (Some 4) None))) ≡ None → n ≤ 1024
+starts_few : (a b c d : Bool) (n : ℕ) → nat_lt 1024 n ≡ b → cond {A = Option ℕ} a (Some 1) (cond {A = Option ℕ} b (Some 2) (cond {A = Option ℕ} c (Some 3) (cond {A = Option ℕ} d (Some 4) None))) ≡ None → n ≤ 1024
 starts_few true b c d n e h = absurd (cc)
 starts_few false true c d n e h = absurd (cc)
 starts_few false false c d n e h = omega (arith, ltb-false 1024 n e)
