@@ -65,12 +65,7 @@ impl Draft {
     }
 
     // Adds what forms define. The error is want of memory.
-    fn add_all(
-        &mut self,
-        alloc: Global,
-        forms: &[Form],
-        tables: &Tables,
-    ) -> Result<(), AllocError>
+    fn add_all(&mut self, alloc: Global, forms: &[Form], tables: &Tables) -> Result<(), AllocError>
         requires few { length tables.now.starts ≤ 1024 }
         requires empty { HasBuilt tables.now [] self.old }
         ensures { OnOk result (HasBuilt tables.now (map tree_of forms.now) self.new) }

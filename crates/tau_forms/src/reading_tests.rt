@@ -21,25 +21,52 @@ fn program(alloc: Global, text: &str) -> Result<Program, Fail> {
 #[test]
 fn tells_wrong_shapes(rt: HostRuntime) {
     assert_eq!(rt; fault(rt.alloc(), ""), Err(ProgramError::Shape { node: 0 }));
-    assert_eq!(rt; fault(rt.alloc(), "(behaviour b unit)"), Err(ProgramError::Shape { node: 4 }));
-    assert_eq!(rt; fault(rt.alloc(), "(nodes 1)(behaviour unit 1)"), Err(ProgramError::Shape { node: 5 }));
-    assert_eq!(rt; fault(rt.alloc(), "(nodes 1)(nodes 65)"), Err(ProgramError::Shape { node: 5 }));
-    assert_eq!(rt; fault(rt.alloc(), "(nodes 2)(at 0 (fail 2))"), Err(ProgramError::Shape { node: 8 }));
+    assert_eq!(rt;
+        fault(rt.alloc(), "(behaviour b unit)"),
+        Err(ProgramError::Shape { node: 4 })
+    );
+    assert_eq!(rt;
+        fault(rt.alloc(), "(nodes 1)(behaviour unit 1)"),
+        Err(ProgramError::Shape { node: 5 })
+    );
+    assert_eq!(rt;
+        fault(rt.alloc(), "(nodes 1)(nodes 65)"),
+        Err(ProgramError::Shape { node: 5 })
+    );
+    assert_eq!(rt;
+        fault(rt.alloc(), "(nodes 2)(at 0 (fail 2))"),
+        Err(ProgramError::Shape { node: 8 })
+    );
 }
 
 #[test]
 fn tells_unknown_names(rt: HostRuntime) {
-    assert_eq!(rt; fault(rt.alloc(), "(nodes 1)(start a b 0 0)"), Err(ProgramError::Unknown { node: 6 }));
-    assert_eq!(rt; fault(rt.alloc(), "(nodes 1)(behaviour b (let x x 1))"), Err(ProgramError::Unknown { node: 9 }));
+    assert_eq!(rt;
+        fault(rt.alloc(), "(nodes 1)(start a b 0 0)"),
+        Err(ProgramError::Unknown { node: 6 })
+    );
+    assert_eq!(rt;
+        fault(rt.alloc(), "(nodes 1)(behaviour b (let x x 1))"),
+        Err(ProgramError::Unknown { node: 9 })
+    );
 }
 
 #[test]
 fn tells_second_definitions(rt: HostRuntime) {
     let starts = "(nodes 1)(behaviour b unit)(start a b 0 0)(start a b 0 0)";
-    assert_eq!(rt; fault(rt.alloc(), starts), Err(ProgramError::Twice { node: 15 }));
-    assert_eq!(rt; fault(rt.alloc(), "(nodes 1)(nodes 2)"), Err(ProgramError::Twice { node: 4 }));
+    assert_eq!(rt;
+        fault(rt.alloc(), starts),
+        Err(ProgramError::Twice { node: 15 })
+    );
+    assert_eq!(rt;
+        fault(rt.alloc(), "(nodes 1)(nodes 2)"),
+        Err(ProgramError::Twice { node: 4 })
+    );
     let names = "(nodes 1)(behaviour b (fold msg 0 (s s) s))";
-    assert_eq!(rt; fault(rt.alloc(), names), Err(ProgramError::Twice { node: 12 }));
+    assert_eq!(rt;
+        fault(rt.alloc(), names),
+        Err(ProgramError::Twice { node: 12 })
+    );
 }
 
 #[test]
@@ -48,7 +75,10 @@ fn tells_too_many_starts(rt: HostRuntime) -> Result<(), Fail> {
     for _ in 0..1025 {
         text.push_str("(start)")?;
     }
-    assert_eq!(rt; fault(rt.alloc(), &text), Err(ProgramError::Limit { which: 2 }));
+    assert_eq!(rt;
+        fault(rt.alloc(), &text),
+        Err(ProgramError::Limit { which: 2 })
+    );
     Ok(())
 }
 
