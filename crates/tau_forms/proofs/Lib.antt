@@ -6,6 +6,8 @@ pub mod LoopLemmas
 pub mod DefinedLemmas
 pub mod TopLemmas
 pub mod BuiltLemmas
+pub mod BuildingLemmas
+pub mod ProgramLemmas
 pub mod PrintedLemmas
 pub mod SoundFaults
 pub mod SoundExpressions

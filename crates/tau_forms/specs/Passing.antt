@@ -2,6 +2,7 @@
 use Rattle.std.specs.Prelude.{◌≡◌, ◌≢◌, ℕ, ◌+◌, ◌==◌, Bool, true, false, is_some, if◌then◌else◌, List, [], ◌∷◌, ◌++◌, map, Option, Some, None, option_map, Result, Ok, Err}
 use Rattle.tau_sexpr.specs.Form.{tree_of}
 use Rattle.tau_sexpr.specs.Tree.{Tree, Trees, word, list, none, more, inside}
+use Rattle.tau_tree.specs.declared.programs.Program.{Program}
 use Rattle.tau_forms.specs.declared.checking.Parts.{Parts}
 use Rattle.tau_forms.specs.declared.faults.ProgramError.{ProgramError}
 use Rattle.tau_forms.specs.declared.faults.ProgramError.TheVariants as errors
@@ -18,6 +19,7 @@ use Rattle.tau_forms.specs.declared.wanted.Wanted.{Wanted}
 use Rattle.tau_forms.specs.Faults.{Fault, shape, unknown, twice, IsClean, IsFirst, ProgramFaultAt}
 use Rattle.tau_forms.specs.Keywords.{keyword_in}
 use Rattle.tau_forms.specs.Roles.{Role, first, mark, expression, row, count_of, has_items, word_of, names_in}
+use Rattle.tau_forms.specs.Meaning.{plain_of, program_in}
 use Rattle.tau_forms.specs.Tops.{nodes_of}
 use Rattle.tau_forms.specs.Wanted.{role_of}
 
@@ -100,3 +102,8 @@ nodes_first before told = if is_some told then mark (is_some (nodes_of before)) 
 abbrev pub PassesForms : {A : Type 0} → List Tree → Result A ProgramError → Type 0
 PassesForms ts (Ok x) = IsClean (ProgramFaultAt ts)
 PassesForms ts (Err e) = Tells (ProgramFaultAt ts) 0 e
+
+-- forms without faults have been read as a program
+pub record IsRead (ts : List Tree) (p : Program) : Type 0 where
+  pub faultless : IsClean (ProgramFaultAt ts)
+  pub is : plain_of p ≡ program_in ts

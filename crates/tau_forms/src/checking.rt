@@ -34,7 +34,12 @@ fn pass(fault: Option<FaultKind>, node: &mut u64) -> Result<(), ProgramError>
 }
 
 // Passes a value.
-fn check_value(alloc: Global, form: &Form, starts: &Names, node: &mut u64) -> Result<(), ProgramError>
+fn check_value(
+    alloc: Global,
+    form: &Form,
+    starts: &Names,
+    node: &mut u64,
+) -> Result<(), ProgramError>
     requires few { length starts.now ≤ 1024 }
     requires range { node.old + size_of (tree_of form.now) < 2 ^ 64 }
     ensures { (tb : Tables) → tb.starts ≡ starts.now

@@ -5,8 +5,8 @@ mod build;
 mod checking;
 mod faults;
 mod keywords;
-mod limits;
 mod laws;
+mod limits;
 mod printing;
 mod programs;
 mod reading;
@@ -24,3 +24,5 @@ pub use reading::program_of;
 
 #[cfg(test)]
 mod printing_tests;
+#[cfg(test)]
+mod reading_tests;

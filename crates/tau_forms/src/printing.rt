@@ -118,7 +118,10 @@ fn form_of_behaviour(
 {
     let mut forms = begin(alloc, b"behaviour")?;
     add(&mut forms, Form::Word(behaviour.name.copy()?))?;
-    add(&mut forms, write_expression(alloc, &behaviour.body, tables)?)?;
+    add(
+        &mut forms,
+        write_expression(alloc, &behaviour.body, tables)?,
+    )?;
     Ok(Form::List(forms))
 }
 

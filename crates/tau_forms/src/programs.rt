@@ -1,11 +1,12 @@
 //! The program that forms mean.
 ghost use Rattle.std.specs.Prelude.{◌≡◌, ◌≤◌, [], ◌∷◌, ◌++◌, List, length, map, IfOk, OnOk};
+ghost use Rattle.std.specs.Option.{option_to_list};
 ghost use Rattle.tau_sexpr.specs.Form.{tree_of};
 ghost use Rattle.tau_sexpr.specs.Tree.{Tree, inside};
 ghost use Rattle.tau_value.specs.Meaning.{counted};
 ghost use Rattle.tau_value.specs.Value.{val_of};
 ghost use Rattle.tau_forms.specs.Building.{HasBuilt, IsTopForm, TellsBehaviour, TellsEntry, TellsFailure, TellsPost, TellsStart, entry_part, post_part, start_part};
-ghost use Rattle.tau_forms.specs.Meaning.{count_of as count_meant, plain_of, plain_post, plain_start, program_in};
+ghost use Rattle.tau_forms.specs.Meaning.{code_in, count_of as count_meant, plain_of, plain_post, plain_start, program_in};
 ghost use Rattle.tau_forms.specs.Tops.{tables_of};
 ghost use Rattle.tau_forms.specs.declared.tables.Tables.{Tables};
 
@@ -64,12 +65,7 @@ impl Draft {
     }
 
     // Adds what forms define. The error is want of memory.
-    fn add_all(
-        &mut self,
-        alloc: Global,
-        forms: &[Form],
-        tables: &Tables,
-    ) -> Result<(), AllocError>
+    fn add_all(&mut self, alloc: Global, forms: &[Form], tables: &Tables) -> Result<(), AllocError>
         requires few { length tables.now.starts ≤ 1024 }
         requires empty { HasBuilt tables.now [] self.old }
         ensures { OnOk result (HasBuilt tables.now (map tree_of forms.now) self.new) }
@@ -88,26 +84,89 @@ impl Draft {
     {
         match top_form(form) {
             TopForm::Behaviour { name, body } => {
-                let behaviour = Behaviour {
-                    name: name.copy()?,
-                    body: build_expression(alloc, body, tables)?,
-                };
-                self.behaviours.push(behaviour).map_err(|failed| failed.1)
+                add_behaviour(&mut self.behaviours, alloc, name, body, tables)
             }
-            TopForm::Start(parts) => {
-                let start = start_of(alloc, parts, tables)?;
-                self.starts.push(start).map_err(|failed| failed.1)
-            }
-            TopForm::Post(parts) => {
-                let post = post_of(alloc, parts, tables)?;
-                self.posts.push(post).map_err(|failed| failed.1)
-            }
-            TopForm::At(parts) => match entry_of(parts)? {
-                Some(entry) => self.script.push(entry).map_err(|failed| failed.1),
-                None => Ok(()),
-            },
+            TopForm::Start(parts) => add_start(&mut self.starts, alloc, parts, tables),
+            TopForm::Post(parts) => add_post(&mut self.posts, alloc, parts, tables),
+            TopForm::At(parts) => add_entry(&mut self.script, parts),
             TopForm::Other => Ok(()),
         }
+    }
+}
+
+fn add_behaviour(
+    behaviours: &mut Behaviours,
+    alloc: Global,
+    name: &Word,
+    body: &Form,
+    tables: &Tables,
+) -> Result<(), AllocError>
+    ensures { OnOk result (behaviours.new ≡ behaviours.old
+        ++ record { name = name.now; body = code_in tables.now (tree_of body.now) } ∷ []) }
+{
+    let behaviour = Behaviour {
+        name: name.copy()?,
+        body: build_expression(alloc, body, tables)?,
+    };
+    match behaviours.push(behaviour) {
+        Ok(()) => Ok(()),
+        Err((_behaviour, failed)) => Err(failed),
+    }
+}
+
+fn add_start(
+    starts: &mut Starts,
+    alloc: Global,
+    parts: StartParts<'_>,
+    tables: &Tables,
+) -> Result<(), AllocError>
+    requires { length tables.now.starts ≤ 1024 }
+    ensures { OnOk result (map plain_start starts.new ≡ map plain_start starts.old ++ start_part tables.now parts.entry ∷ []) }
+{
+    let start = Start {
+        name: parts.name.copy()?,
+        behaviour: number_of(&tables.behaviours, parts.behaviour)?,
+        node: number_meant(parts.node)?,
+        state: value_meant(alloc, parts.state, &tables.starts)?,
+    };
+    match starts.push(start) {
+        Ok(()) => Ok(()),
+        Err((_start, failed)) => Err(failed),
+    }
+}
+
+fn add_post(
+    posts: &mut Posts,
+    alloc: Global,
+    parts: PostParts<'_>,
+    tables: &Tables,
+) -> Result<(), AllocError>
+    requires { length tables.now.starts ≤ 1024 }
+    ensures { OnOk result (map plain_post posts.new ≡ map plain_post posts.old ++ post_part tables.now parts.entry ∷ []) }
+{
+    let post = Post {
+        to: number_of(&tables.starts, parts.to)?,
+        value: value_meant(alloc, parts.value, &tables.starts)?,
+    };
+    match posts.push(post) {
+        Ok(()) => Ok(()),
+        Err((_post, failed)) => Err(failed),
+    }
+}
+
+fn add_entry(script: &mut Script, parts: EntryParts<'_>) -> Result<(), AllocError>
+    ensures { OnOk result (script.new ≡ script.old ++ option_to_list (entry_part parts.entry)) }
+{
+    let at = number_meant(parts.place)?;
+    let number = number_meant(parts.number)?;
+    let failure = match parts.failure {
+        FailureWord::Fail => Failure::Fail { node: number },
+        FailureWord::Lose => Failure::Lose { message: number },
+        FailureWord::Other => return Ok(()),
+    };
+    match script.push(Entry { at, failure }) {
+        Ok(()) => Ok(()),
+        Err((_entry, failed)) => Err(failed),
     }
 }
 
@@ -178,14 +237,20 @@ fn start_form(items: &[Form]) -> TopForm<'_>
     let Parts::Four(name, behaviour, node, state) = parts_of(items) else {
         return TopForm::Other;
     };
-    match (name, behaviour, node) {
-        (Form::Word(name), Form::Word(behaviour), Form::Word(node)) => TopForm::Start(StartParts {
+    let Form::Word(name) = name else {
+        return TopForm::Other;
+    };
+    let Form::Word(behaviour) = behaviour else {
+        return TopForm::Other;
+    };
+    match node {
+        Form::Word(node) => TopForm::Start(StartParts {
             name,
             behaviour,
             node,
             state,
         }),
-        _ => TopForm::Other,
+        Form::Text(_) | Form::List(_) => TopForm::Other,
     }
 }
 
@@ -207,9 +272,12 @@ fn entry_form(items: &[Form]) -> TopForm<'_>
     let Parts::Two(place, failure) = parts_of(items) else {
         return TopForm::Other;
     };
-    match (place, failure) {
-        (Form::Word(place), Form::List(failure)) => failure_form(place, failure.items()),
-        _ => TopForm::Other,
+    let Form::Word(place) = place else {
+        return TopForm::Other;
+    };
+    match failure {
+        Form::List(failure) => failure_form(place, failure.items()),
+        Form::Word(_) | Form::Text(_) => TopForm::Other,
     }
 }
 
@@ -230,46 +298,6 @@ fn failure_form<'f>(place: &'f Word, items: &'f [Form]) -> TopForm<'f>
         }),
         Form::Text(_) | Form::List(_) => TopForm::Other,
     }
-}
-
-fn start_of(alloc: Global, parts: StartParts<'_>, tables: &Tables) -> Result<Start, AllocError>
-    requires { length tables.now.starts ≤ 1024 }
-    ensures { IfOk result (λ s. plain_start s ≡ start_part tables.now parts.entry) }
-{
-    Ok(Start {
-        name: parts.name.copy()?,
-        behaviour: number_of(&tables.behaviours, parts.behaviour)?,
-        node: number_meant(parts.node)?,
-        state: value_meant(alloc, parts.state, &tables.starts)?,
-    })
-}
-
-fn post_of(alloc: Global, parts: PostParts<'_>, tables: &Tables) -> Result<Post, AllocError>
-    requires { length tables.now.starts ≤ 1024 }
-    ensures { IfOk result (λ p. plain_post p ≡ post_part tables.now parts.entry) }
-{
-    Ok(Post {
-        to: number_of(&tables.starts, parts.to)?,
-        value: value_meant(alloc, parts.value, &tables.starts)?,
-    })
-}
-
-fn entry_of(parts: EntryParts<'_>) -> Result<Option<Entry>, AllocError>
-    ensures { IfOk result (λ e. e ≡ entry_part parts.entry) }
-{
-    let at = number_meant(parts.place)?;
-    let number = number_meant(parts.number)?;
-    Ok(match parts.failure {
-        FailureWord::Fail => Some(Entry {
-            at,
-            failure: Failure::Fail { node: number },
-        }),
-        FailureWord::Lose => Some(Entry {
-            at,
-            failure: Failure::Lose { message: number },
-        }),
-        FailureWord::Other => None,
-    })
 }
 
 // The number that a word means; 0 where it is no count. Forms without faults have none that doesn't fit, which is answered

@@ -127,7 +127,11 @@ fn name_told(items: &[Form]) -> Option<&Word>
     ensures { option_map (λ w. w.now) result ≡ name_in_items (inside (map tree_of items.now)) }
 {
     let list = split_head(items)?;
-    if is_name(list.head) { Some(list.head) } else { None }
+    if is_name(list.head) {
+        Some(list.head)
+    } else {
+        None
+    }
 }
 
 /// The number of nodes that these forms tell: one count from 1 to 64.
@@ -139,7 +143,11 @@ pub(crate) fn nodes_told(items: &[Form]) -> Option<u64>
         return None;
     }
     let count = count_of(list.head)?;
-    if count >= 1 && count < 65 { Some(count) } else { None }
+    if count >= 1 && count < 65 {
+        Some(count)
+    } else {
+        None
+    }
 }
 
 // Adds a name, if it isn't there.

@@ -1,7 +1,5 @@
 //! What is wanted at each place of a program's forms.
 ghost use Rattle.std.specs.Prelude.{◌≡◌, ◌<◌, ◌^◌, None, Some, option_map, if◌then◌else◌};
-
-
 ghost use Rattle.tau_forms.specs.Faults.{is_constant as constant_test, word_fault, text_fault};
 ghost use Rattle.tau_forms.specs.Passing.{error_at};
 ghost use Rattle.tau_forms.specs.Tops.{is_count_in as count_test};

@@ -65,12 +65,7 @@ pub(crate) fn write_expression(
 
 /// A list of a word and expressions.
 #[cycle(write)]
-fn write_all(
-    alloc: Global,
-    head: &[u8],
-    items: &Exprs,
-    tables: &Tables,
-) -> Result<Form, AllocError>
+fn write_all(alloc: Global, head: &[u8], items: &Exprs, tables: &Tables) -> Result<Form, AllocError>
     requires { All IsWordByte head.now }
     ensures form { IfOk result (λ f. tree_of f ≡ list (more (word head.now) (code_forms tables.now.behaviours tables.now.starts (codes_in (codes_of items.now))))) }
     ensures integers { OnOk result (AllThroughout HasFittingInteger (codes_in (codes_of items.now))) }
@@ -148,11 +143,7 @@ fn write_fold(
 /// `(set e)`.
 #[cycle(write)]
 #[tactic(auto, using(tau_sexpr::proofs::Literals::word_literal), unfolding(tau_sexpr::specs::Bytes::is_word_byte, tau_sexpr::specs::Bytes::is_letter_or_digit, tau_sexpr::specs::Bytes::is_word_sign))]
-fn write_set(
-    alloc: Global,
-    value: &Expr,
-    tables: &Tables,
-) -> Result<Form, AllocError>
+fn write_set(alloc: Global, value: &Expr, tables: &Tables) -> Result<Form, AllocError>
     ensures form { IfOk result (λ f. tree_of f ≡ code_form tables.now.behaviours tables.now.starts (set (code_of value.now))) }
     ensures integers { OnOk result (Throughout HasFittingInteger (set (code_of value.now))) }
 {
@@ -164,12 +155,7 @@ fn write_set(
 /// `(send e e)`.
 #[cycle(write)]
 #[tactic(auto, using(tau_sexpr::proofs::Literals::word_literal), unfolding(tau_sexpr::specs::Bytes::is_word_byte, tau_sexpr::specs::Bytes::is_letter_or_digit, tau_sexpr::specs::Bytes::is_word_sign))]
-fn write_send(
-    alloc: Global,
-    to: &Expr,
-    value: &Expr,
-    tables: &Tables,
-) -> Result<Form, AllocError>
+fn write_send(alloc: Global, to: &Expr, value: &Expr, tables: &Tables) -> Result<Form, AllocError>
     ensures form { IfOk result (λ f. tree_of f ≡ code_form tables.now.behaviours tables.now.starts (send (code_of to.now) (code_of value.now))) }
     ensures integers { OnOk result (Throughout HasFittingInteger (send (code_of to.now) (code_of value.now))) }
 {

@@ -26,8 +26,8 @@ returns c =
     let items : has_top_items sort (count_of us) ≡ true = ap (has_top_items sort) (count_of-inside rest) ∙ sym c.has_top_items.ensures ∙ c.if-not-has_top_items.false in
     λ before h z.
     let first_is : role_of c.match-sort.first ≡ top_first before (list ts) =
-        elim c.match-sort.branch [
-          | in-Nodes v ↦ ap role_of v.first-is ∙ v.first_of_nodes-first.ensures before h ∙ first_is_mark before ts us head sort c.in_ok-list.ensures c.sort_of-sort.ensures v.in-Nodes.is
-          | in_default v ↦ ap role_of v.first-is ∙ first_is_word before ts us head sort c.in_ok-list.ensures c.sort_of-sort.ensures v.in_default.not-Nodes
-        ] in
+    elim c.match-sort.branch [
+      | in-Nodes v ↦ ap role_of v.first-is ∙ v.first_of_nodes-first.ensures before h ∙ first_is_mark before ts us head sort c.in_ok-list.ensures c.sort_of-sort.ensures v.in-Nodes.is
+      | in_default v ↦ ap role_of v.first-is ∙ first_is_word before ts us head sort c.in_ok-list.ensures c.sort_of-sort.ensures v.in_default.not-Nodes
+    ] in
     ap (λ q. Some (roles_of w q)) c.in_ok-list.ensures ∙ c.row_of_sort.ensures before (word head) us h z items ∙ ap (λ r. with_first r (top_items tb before sort us)) first_is ∙ sym (row_of_top tb before ts us head sort c.in_ok-list.ensures c.sort_of-sort.ensures)
