@@ -333,36 +333,36 @@ module _ (n starts behaviours : ℕ) (s : Setting) (few : starts ≤ n) (own_kno
         begun_known n behaviours s.nodes k (λ m. items cs s env [] m rs) (λ m. items_known cs env [] (record { starts_named = h.starts_named.1; behaviours_named = h.behaviours_named.1; short_texts = h.short_texts.1 }) e tt m rs r)
     meaning_known (let_in x c body) env h e k rs r =
         begun_known n behaviours s.nodes k (λ m. and_then (meaning c s env m rs) (λ v l ss. meaning body s (env ++ (x, v) ∷ []) l ss)) (λ m.
-            then_known n behaviours s.nodes (meaning c s env m rs) (λ v l ss. meaning body s (env ++ (x, v) ∷ []) l ss) (meaning_known c env (record { starts_named = h.starts_named.1; behaviours_named = h.behaviours_named.1; short_texts = h.short_texts.1 }) e m rs r) (λ v g.
-                meaning_known body (env ++ (x, v) ∷ []) (record { starts_named = h.starts_named.2; behaviours_named = h.behaviours_named.2; short_texts = h.short_texts.2 }) (scope-append n env ((x, v) ∷ []) e (g, tt))))
+        then_known n behaviours s.nodes (meaning c s env m rs) (λ v l ss. meaning body s (env ++ (x, v) ∷ []) l ss) (meaning_known c env (record { starts_named = h.starts_named.1; behaviours_named = h.behaviours_named.1; short_texts = h.short_texts.1 }) e m rs r) (λ v g.
+        meaning_known body (env ++ (x, v) ∷ []) (record { starts_named = h.starts_named.2; behaviours_named = h.behaviours_named.2; short_texts = h.short_texts.2 }) (scope-append n env ((x, v) ∷ []) e (g, tt))))
     meaning_known (if_else c a b) env h e k rs r =
         begun_known n behaviours s.nodes k (λ m. and_then (meaning c s env m rs) (λ v. chooses v (meaning a s env) (meaning b s env))) (λ m.
-            then_known n behaviours s.nodes (meaning c s env m rs) (λ v. chooses v (meaning a s env) (meaning b s env)) (meaning_known c env (record { starts_named = h.starts_named.1; behaviours_named = h.behaviours_named.1; short_texts = h.short_texts.1 }) e m rs r) (λ v g.
-                chooses_known n behaviours s.nodes v (meaning a s env) (meaning b s env)
-                    (meaning_known a env (record { starts_named = h.starts_named.2; behaviours_named = h.behaviours_named.2; short_texts = h.short_texts.2 }) e)
-                    (meaning_known b env (record { starts_named = h.starts_named.3; behaviours_named = h.behaviours_named.3; short_texts = h.short_texts.3 }) e)))
+        then_known n behaviours s.nodes (meaning c s env m rs) (λ v. chooses v (meaning a s env) (meaning b s env)) (meaning_known c env (record { starts_named = h.starts_named.1; behaviours_named = h.behaviours_named.1; short_texts = h.short_texts.1 }) e m rs r) (λ v g.
+        chooses_known n behaviours s.nodes v (meaning a s env) (meaning b s env)
+        (meaning_known a env (record { starts_named = h.starts_named.2; behaviours_named = h.behaviours_named.2; short_texts = h.short_texts.2 }) e)
+        (meaning_known b env (record { starts_named = h.starts_named.3; behaviours_named = h.behaviours_named.3; short_texts = h.short_texts.3 }) e)))
     meaning_known (seq cs) env h e k rs r =
         begun_known n behaviours s.nodes k (λ m. last cs s env val.unit m rs) (λ m. last_known cs env val.unit (record { starts_named = h.starts_named.1; behaviours_named = h.behaviours_named.1; short_texts = h.short_texts.1 }) e (known_unit n) m rs r)
     meaning_known (fold l first sum item body) env h e k rs r =
         begun_known n behaviours s.nodes k (λ m. and_then (meaning l s env m rs) (λ v i ss. and_then (meaning first s env i ss) (λ w. folds v w (λ a b. meaning body s (env ++ (sum, a) ∷ (item, b) ∷ []))))) (λ m.
-            then_known n behaviours s.nodes (meaning l s env m rs) (λ v i ss. and_then (meaning first s env i ss) (λ w. folds v w (λ a b. meaning body s (env ++ (sum, a) ∷ (item, b) ∷ [])))) (meaning_known l env (record { starts_named = h.starts_named.1; behaviours_named = h.behaviours_named.1; short_texts = h.short_texts.1 }) e m rs r) (λ v g i ss q.
-                then_known n behaviours s.nodes (meaning first s env i ss) (λ w. folds v w (λ a b. meaning body s (env ++ (sum, a) ∷ (item, b) ∷ []))) (meaning_known first env (record { starts_named = h.starts_named.2; behaviours_named = h.behaviours_named.2; short_texts = h.short_texts.2 }) e i ss q) (λ w d.
-                    folds_known n behaviours s.nodes v w (λ a b. meaning body s (env ++ (sum, a) ∷ (item, b) ∷ [])) g d (λ a b f c.
-                        meaning_known body (env ++ (sum, a) ∷ (item, b) ∷ []) (record { starts_named = h.starts_named.3; behaviours_named = h.behaviours_named.3; short_texts = h.short_texts.3 }) (scope-append n env ((sum, a) ∷ (item, b) ∷ []) e (f, (c, tt)))))))
+        then_known n behaviours s.nodes (meaning l s env m rs) (λ v i ss. and_then (meaning first s env i ss) (λ w. folds v w (λ a b. meaning body s (env ++ (sum, a) ∷ (item, b) ∷ [])))) (meaning_known l env (record { starts_named = h.starts_named.1; behaviours_named = h.behaviours_named.1; short_texts = h.short_texts.1 }) e m rs r) (λ v g i ss q.
+        then_known n behaviours s.nodes (meaning first s env i ss) (λ w. folds v w (λ a b. meaning body s (env ++ (sum, a) ∷ (item, b) ∷ []))) (meaning_known first env (record { starts_named = h.starts_named.2; behaviours_named = h.behaviours_named.2; short_texts = h.short_texts.2 }) e i ss q) (λ w d.
+        folds_known n behaviours s.nodes v w (λ a b. meaning body s (env ++ (sum, a) ∷ (item, b) ∷ [])) g d (λ a b f c.
+        meaning_known body (env ++ (sum, a) ∷ (item, b) ∷ []) (record { starts_named = h.starts_named.3; behaviours_named = h.behaviours_named.3; short_texts = h.short_texts.3 }) (scope-append n env ((sum, a) ∷ (item, b) ∷ []) e (f, (c, tt)))))))
     meaning_known (apply p cs) env h e k rs r =
         begun_known n behaviours s.nodes k (λ m. operation p cs s env m rs) (λ m. operation_known p cs env (record { starts_named = h.starts_named.1; behaviours_named = h.behaviours_named.1; short_texts = h.short_texts.1 }) e m rs r)
     meaning_known get env h e k rs r = begun_known n behaviours s.nodes k (λ m. asks eff.get m rs) (λ m. asks_known n behaviours s.nodes eff.get tt m rs r)
     meaning_known (set c) env h e k rs r =
         begun_known n behaviours s.nodes k (λ m. and_then (meaning c s env m rs) (λ v. asks (eff.set v))) (λ m.
-            then_known n behaviours s.nodes (meaning c s env m rs) (λ v. asks (eff.set v)) (meaning_known c env (record { starts_named = h.starts_named.1; behaviours_named = h.behaviours_named.1; short_texts = h.short_texts.1 }) e m rs r) (λ v g. asks_known n behaviours s.nodes (eff.set v) g))
+        then_known n behaviours s.nodes (meaning c s env m rs) (λ v. asks (eff.set v)) (meaning_known c env (record { starts_named = h.starts_named.1; behaviours_named = h.behaviours_named.1; short_texts = h.short_texts.1 }) e m rs r) (λ v g. asks_known n behaviours s.nodes (eff.set v) g))
     meaning_known (send c d) env h e k rs r =
         begun_known n behaviours s.nodes k (λ m. and_then (meaning c s env m rs) (λ w i ss. and_then (meaning d s env i ss) (λ v. sends w v))) (λ m.
-            then_known n behaviours s.nodes (meaning c s env m rs) (λ w i ss. and_then (meaning d s env i ss) (λ v. sends w v)) (meaning_known c env (record { starts_named = h.starts_named.1; behaviours_named = h.behaviours_named.1; short_texts = h.short_texts.1 }) e m rs r) (λ w g i ss q.
-                then_known n behaviours s.nodes (meaning d s env i ss) (λ v. sends w v) (meaning_known d env (record { starts_named = h.starts_named.2; behaviours_named = h.behaviours_named.2; short_texts = h.short_texts.2 }) e i ss q) (λ v f. sends_known n behaviours s.nodes w v g f)))
+        then_known n behaviours s.nodes (meaning c s env m rs) (λ w i ss. and_then (meaning d s env i ss) (λ v. sends w v)) (meaning_known c env (record { starts_named = h.starts_named.1; behaviours_named = h.behaviours_named.1; short_texts = h.short_texts.1 }) e m rs r) (λ w g i ss q.
+        then_known n behaviours s.nodes (meaning d s env i ss) (λ v. sends w v) (meaning_known d env (record { starts_named = h.starts_named.2; behaviours_named = h.behaviours_named.2; short_texts = h.short_texts.2 }) e i ss q) (λ v f. sends_known n behaviours s.nodes w v g f)))
     meaning_known (new b c d) env h e k rs r =
         begun_known n behaviours s.nodes k (λ m. and_then (meaning c s env m rs) (λ w i ss. and_then (meaning d s env i ss) (λ v. creates s.nodes b w v))) (λ m.
-            then_known n behaviours s.nodes (meaning c s env m rs) (λ w i ss. and_then (meaning d s env i ss) (λ v. creates s.nodes b w v)) (meaning_known c env (record { starts_named = h.starts_named.1; behaviours_named = h.behaviours_named.1; short_texts = h.short_texts.1 }) e m rs r) (λ w g i ss q.
-                then_known n behaviours s.nodes (meaning d s env i ss) (λ v. creates s.nodes b w v) (meaning_known d env (record { starts_named = h.starts_named.2; behaviours_named = h.behaviours_named.2; short_texts = h.short_texts.2 }) e i ss q) (λ v f. creates_known n behaviours s.nodes b w v h.behaviours_named.0 f)))
+        then_known n behaviours s.nodes (meaning c s env m rs) (λ w i ss. and_then (meaning d s env i ss) (λ v. creates s.nodes b w v)) (meaning_known c env (record { starts_named = h.starts_named.1; behaviours_named = h.behaviours_named.1; short_texts = h.short_texts.1 }) e m rs r) (λ w g i ss q.
+        then_known n behaviours s.nodes (meaning d s env i ss) (λ v. creates s.nodes b w v) (meaning_known d env (record { starts_named = h.starts_named.2; behaviours_named = h.behaviours_named.2; short_texts = h.short_texts.2 }) e i ss q) (λ v f. creates_known n behaviours s.nodes b w v h.behaviours_named.0 f)))
     meaning_known stabilize env h e k rs r = begun_known n behaviours s.nodes k (λ m. asks eff.stabilize m rs) (λ m. asks_known n behaviours s.nodes eff.stabilize tt m rs r)
     meaning_known checkpoint env h e k rs r = begun_known n behaviours s.nodes k (λ m. stops eff.checkpoint) (λ m. tt)
     meaning_known rollback env h e k rs r = begun_known n behaviours s.nodes k (λ m. stops eff.rollback) (λ m. tt)
@@ -374,7 +374,7 @@ module _ (n starts behaviours : ℕ) (s : Setting) (few : starts ≤ n) (own_kno
         then_known n behaviours s.nodes (meaning c s env k rs) (λ v. finished (of_one p v)) (meaning_known c env (front h) e k rs r) (λ v g. finished_known n behaviours s.nodes (of_one p v) (of_one_known n p v g))
     operation_known p (more c (more d none)) env h e k rs r =
         then_known n behaviours s.nodes (meaning c s env k rs) (λ v i ss. and_then (meaning d s env i ss) (λ w. finished (of_two p v w))) (meaning_known c env (front h) e k rs r) (λ v g i ss q.
-            then_known n behaviours s.nodes (meaning d s env i ss) (λ w. finished (of_two p v w)) (meaning_known d env (front (back h)) e i ss q) (λ w f. finished_known n behaviours s.nodes (of_two p v w) (of_two_known n p v w g f)))
+        then_known n behaviours s.nodes (meaning d s env i ss) (λ w. finished (of_two p v w)) (meaning_known d env (front (back h)) e i ss q) (λ w f. finished_known n behaviours s.nodes (of_two p v w) (of_two_known n p v w g f)))
     operation_known p (more c (more d (more b cs))) env h e k rs r = trap_one n behaviours s.nodes
 
     items_known : (cs : Codes) (env : Scope) (vs : List Val) → AllKeep starts behaviours cs → KnownScope n env → AllNamesBelow n (inside vs) → (k : ℕ) (rs : List Val) → AreKnown n rs → KnownOutcome n behaviours s.nodes (items cs s env vs k rs)

@@ -6,6 +6,7 @@ mod course;
 mod effects;
 mod frames;
 mod job;
+mod laws;
 mod machine;
 mod openings;
 mod operations;
@@ -15,6 +16,7 @@ mod settings;
 
 pub use effects::Effect;
 pub use job::{Job, Pending, again, begin};
+pub use laws::effects_are_known;
 
 #[cfg(test)]
 mod tests;

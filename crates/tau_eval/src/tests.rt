@@ -1,6 +1,6 @@
-use super::*;
 ghost use Rattle.std.specs.Prelude.{◌≡◌, IfOk, length};
 
+use super::*;
 use std::alloc::{AllocError, Global};
 use std::test::Fail;
 use tau_sexpr::{Text, Word, are_text_bytes, are_word_bytes};

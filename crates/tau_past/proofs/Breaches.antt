@@ -1,6 +1,6 @@
 -- What an audit keeps and finds.
-use Rattle.std.proofs.Common.{◌≡◌, ◌≢◌, ◌⊎◌, ◌↔◌, inl, inr, ⊎_elim, ℕ, zero, suc, ◌+◌, ◌<◌, ◌≤◌, Bool, true, false, ◌&&◌, IsTrue, List, [], ◌∷◌, ◌++◌, Option, Some, None, length, get_or, take, drop, append-nil, refl, sym, ap, ◌∙◌, subst, arith}
-use Rattle.std.specs.Prelude.{option_and_then, slice_get, Contains, if◌then◌else◌}
+use Rattle.std.proofs.Common.{◌≡◌, ◌⊎◌, ◌↔◌, inl, inr, ⊎_elim, ℕ, ◌+◌, ◌<◌, ◌≤◌, Bool, true, false, ◌&&◌, IsTrue, List, [], ◌++◌, Option, Some, None, length, get_or, take, drop, append-nil, refl, sym, ap, ◌∙◌, subst, arith}
+use Rattle.std.specs.Prelude.{option_and_then, Contains}
 use Rattle.std.specs.Bool.{OnTrue, OnFalse, Decides, then_some}
 use Rattle.std.specs.Option.{option_map_or}
 use Rattle.std.specs.declared.cmp.Ordering.TheVariants.{Less}
@@ -12,7 +12,6 @@ use Rattle.std.proofs.lemmas.Option.{slice_get_within}
 use Rattle.tau_points.specs.declared.point.Point.{Point}
 use Rattle.tau_points.specs.Order.{point_cmp, IsAscending}
 use Rattle.tau_points.proofs.Membership.{Contains-none}
-use Rattle.tau_points.proofs.PointOrder.{point_eq, point_eq-Decides}
 use Rattle.tau_trace.specs.declared.step.Step.{Step}
 use Rattle.tau_trace.specs.declared.step.Step.TheVariants.{Checkpoint}
 use Rattle.tau_trace.specs.Steps.{actor, is_checkpoint}
@@ -32,7 +31,7 @@ use Rattle.tau_past.specs.Safety.{RolledBack, Safe}
 use Rattle.tau_past.specs.Tables.{TellsMade}
 use Rattle.tau_past.specs.TableSteps.{checked_point}
 use Rattle.tau_past.specs.Searching.{AddsPast, PastHasFallen, FoundNoFallen}
-use Rattle.tau_past.specs.Audits.{ChecksAt, Breaks, IsBrokenAt, IsNotAfter, IsLeastBreak, RollsBackAt, IsBroken, IsUnsafe, IsAudit, IsFirstBreach, AddsSafely, Checked, IsLeastFallen}
+use Rattle.tau_past.specs.Audits.{ChecksAt, Breaks, IsBrokenAt, IsNotAfter, RollsBackAt, IsBroken, IsUnsafe, IsAudit, IsFirstBreach, AddsSafely, Checked, IsLeastFallen}
 use Rattle.tau_past.proofs.Endings.{falls_within}
 
 -- the point of a Checkpoint

@@ -1,6 +1,6 @@
 -- What the histories after the trace tell of points: which are rolled back, and which are closing points.
-use Rattle.std.proofs.Common.{◌≡◌, ◌⊎◌, ◌↔◌, inl, inr, ⊎_elim, ℕ, zero, suc, ◌+◌, ◌-◌, ◌<◌, ◌≤◌, Bool, true, false, cond, IsTrue, List, [], ◌∷◌, ◌++◌, Option, Some, None, length, get_or, refl, sym, ap, ◌∙◌, subst, arith, eqb, eqb-true, eq-eqb, ltb, ltb-true, lt-ltb}
-use Rattle.std.specs.Prelude.{option_and_then, option_map, slice_get, ◌||◌, ◌==◌, nat_lt}
+use Rattle.std.proofs.Common.{◌≡◌, ◌⊎◌, ◌↔◌, inl, inr, ⊎_elim, ℕ, suc, ◌-◌, ◌<◌, ◌≤◌, Bool, true, false, cond, IsTrue, Option, Some, None, length, get_or, refl, sym, ap, ◌∙◌, subst, arith, eqb-true, eq-eqb, ltb-true, lt-ltb}
+use Rattle.std.specs.Prelude.{option_map, slice_get, ◌||◌, ◌==◌, nat_lt}
 use Rattle.std.proofs.lemmas.Option.{slice_get_within, slice_get_read, get_or_from_slice_get}
 use Rattle.std.proofs.lemmas.List.{get_or_default}
 use Rattle.tau_history.specs.Timeline.{Timeline, interval, numbers, fall}
@@ -10,20 +10,17 @@ use Rattle.tau_history.specs.declared.fate.Fate.TheVariants.{Fallen}
 use Rattle.tau_history.specs.Fates.{fate}
 use Rattle.tau_history.proofs.Table.{length-numbers, by_table}
 use Rattle.tau_points.specs.declared.point.Point.{Point}
-use Rattle.tau_trace.specs.declared.step.Step.{Step}
 use Rattle.tau_trace.specs.declared.step.Step.TheVariants.{Checkpoint}
-use Rattle.tau_trace.specs.Run.{Run, len, step_at, starts, ActsAt}
-use Rattle.tau_trace.specs.Numbering.{born}
-use Rattle.tau_trace.specs.Histories.{history, move_at, Falls, Closes}
-use Rattle.tau_trace.specs.Points.{point_at, MadeAt, IsOpeningPoint}
+use Rattle.tau_trace.specs.Run.{Run, len, step_at, ActsAt}
+use Rattle.tau_trace.specs.Histories.{history, Falls, Closes}
+use Rattle.tau_trace.specs.Points.{point_at}
 use Rattle.tau_trace.specs.Known.{WellFormed}
 use Rattle.tau_trace.specs.Laws.{FatesAreSteps}
 use Rattle.tau_trace.proofs.Agreement.{born-grows}
-use Rattle.tau_trace.proofs.Indexing.{born-le}
 use Rattle.tau_trace.proofs.Moves.{own_move}
 use Rattle.tau_trace.proofs.PointLemmas.{fates_are_steps}
 use Rattle.tau_trace.proofs.Quiet.{acts}
-use Rattle.tau_past.specs.Pasts.{ClosesAt, checkpoint, opening, Everywhere, FallenIn}
+use Rattle.tau_past.specs.Pasts.{ClosesAt, checkpoint, opening, Everywhere}
 use Rattle.tau_past.specs.Safety.{RolledBack}
 use Rattle.tau_past.specs.Tables.{ClosesBefore, all_born}
 use Rattle.tau_past.specs.TableSteps.{closing_in}

@@ -9,7 +9,7 @@ use Rattle.tau_trace.specs.Run.{Run, step_at, ActsAt}
 use Rattle.tau_trace.specs.Numbering.{born, sent}
 use Rattle.tau_trace.specs.Known.{WellFormed, IsKnownAt}
 use Rattle.tau_trace.proofs.Agreement.{origin_before, new_before}
-use Rattle.tau_past.specs.Heard.{heard_by, Needs, earlier, message, birth, Own, own_step, own_birth, OriginOf, Heard, HeardBy, HeardTogether}
+use Rattle.tau_past.specs.Heard.{heard_by, Needs, earlier, message, birth, Own, own_step, own_birth, OriginOf, Heard, HeardBy}
 use Rattle.tau_past.specs.Heard as heard
 
 -- the actor of a step exists at its place

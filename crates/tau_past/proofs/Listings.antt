@@ -1,6 +1,6 @@
 -- What is kept while points are listed.
-use Rattle.std.proofs.Common.{◌≡◌, ◌≢◌, ◌⊎◌, ◌↔◌, inl, inr, ⊎_elim, ℕ, zero, suc, ◌+◌, ◌<◌, ◌≤◌, Bool, true, false, List, [], ◌∷◌, ◌++◌, Option, Some, None, length, get_or, set, refl, sym, ap, ◌∙◌, subst, arith}
-use Rattle.std.specs.Prelude.{slice_get, Contains}
+use Rattle.std.proofs.Common.{◌≡◌, ◌≢◌, ◌⊎◌, ◌↔◌, inl, inr, ⊎_elim, ℕ, suc, ◌<◌, ◌≤◌, Bool, true, false, List, [], Option, Some, None, length, get_or, set, refl, sym, ap, ◌∙◌, subst, arith}
+use Rattle.std.specs.Prelude.{Contains}
 use Rattle.std.proofs.lemmas.Option.{slice_get_within, slice_get_read}
 use Rattle.std.proofs.lemmas.List.{get_or_default}
 use Rattle.std.specs.Option.{option_map_or}
@@ -9,13 +9,13 @@ use Rattle.tau_points.specs.Members.{AddsAll}
 use Rattle.tau_points.proofs.Membership.{Contains-none}
 use Rattle.tau_points.proofs.PointOrder.{point_eq, point_eq-Decides}
 use Rattle.tau_trace.specs.declared.step.Step.TheVariants.{New}
-use Rattle.tau_trace.specs.Run.{Run, len, step_at, Does}
+use Rattle.tau_trace.specs.Run.{Run, len, step_at}
 use Rattle.tau_trace.proofs.Lists.{slice_get-set_same, slice_get-set_other}
 use Rattle.tau_trace.proofs.LivingLemmas.{equal_or_not}
 use Rattle.tau_past.specs.declared.carrying.Carrying.{Carrying}
 use Rattle.tau_past.specs.Carried.{Carried, TakesBy, by_set, by_new}
 use Rattle.tau_past.specs.Pasts.{Link, takes, closing, Everywhere}
-use Rattle.tau_past.specs.Tables.{CarriedFrom, Tells, TellsCarried, TellsEarlier, TakesAt, IsLast, ClosesBefore}
+use Rattle.tau_past.specs.Tables.{CarriedFrom, TellsCarried, TellsEarlier, TakesAt, IsLast, ClosesBefore}
 use Rattle.tau_past.specs.Tables as tables
 use Rattle.tau_past.specs.Searching.{IsPassed, IsListed, Adds, AddsCarried, TakesSome, AddsTaken, IsOrFollows, AddsFollowing}
 

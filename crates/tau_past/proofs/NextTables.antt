@@ -1,43 +1,40 @@
 -- How the tables go on with one step.
-use Rattle.std.proofs.Common.{◌≡◌, ◌≢◌, ◌⊎◌, ◌↔◌, inl, inr, ⊎_elim, ℕ, zero, suc, ◌+◌, ◌-◌, ◌<◌, ◌≤◌, ◌^◌, Bool, true, false, cond, IsTrue, List, [], ◌∷◌, ◌++◌, Option, Some, None, length, get_or, set, refl, sym, ap, ◌∙◌, subst, arith, length-append, leb-true, le-leb}
-use Rattle.std.specs.Prelude.{option_and_then, option_map, slice_get, nat_le}
+use Rattle.std.proofs.Common.{◌≡◌, ◌≢◌, ◌⊎◌, ◌↔◌, ⊎_elim, ℕ, zero, suc, ◌+◌, ◌-◌, ◌<◌, ◌≤◌, ◌^◌, Bool, true, false, cond, IsTrue, List, [], ◌∷◌, ◌++◌, Option, Some, None, length, get_or, set, refl, sym, ap, ◌∙◌, subst, arith, length-append, leb-true}
+use Rattle.std.specs.Prelude.{option_and_then, slice_get, nat_le}
 use Rattle.std.proofs.Math.ListN.{length-set}
 use Rattle.std.proofs.lemmas.Option.{slice_get_read, slice_get_cases}
 use Rattle.std.proofs.lemmas.Bool.{leb-false}
 use Rattle.std.specs.Option.{option_map_or}
 use Rattle.tau_history.specs.Stored.{Stored}
-use Rattle.tau_history.specs.Timeline.{Timeline, interval, numbers, Move, keep, stabilize, close, fall, moved, opening, newborn}
+use Rattle.tau_history.specs.Timeline.{Timeline, interval, Move, keep, stabilize, close, fall, moved, opening, newborn}
 use Rattle.tau_points.specs.declared.point.Point.{Point}
 use Rattle.tau_trace.specs.declared.step.Step.{Step}
 use Rattle.tau_trace.specs.declared.step.Step.TheVariants.{Take, Send}
 use Rattle.tau_trace.specs.Steps.{actor, is_send}
 use Rattle.tau_trace.specs.Run.{Run, len, step_at, starts, ActsAt}
 use Rattle.tau_trace.specs.Numbering.{born, sent, IsOrigin}
-use Rattle.tau_trace.specs.Histories.{history, opened, move_at, move_of, is_fall, Falls}
+use Rattle.tau_trace.specs.Histories.{history, move_at, move_of, is_fall, Falls}
 use Rattle.tau_trace.specs.Points.{point_at}
 use Rattle.tau_trace.specs.Known.{WellFormed}
-use Rattle.tau_trace.proofs.Agreement.{born-grows, sent-grows}
+use Rattle.tau_trace.proofs.Agreement.{born-grows}
 use Rattle.tau_trace.proofs.Counts.{count-suc, count-zero}
 use Rattle.tau_trace.proofs.Counted.{history-zero, history-suc, move_at-own}
 use Rattle.tau_trace.proofs.Indexing.{sent-next}
 use Rattle.tau_trace.proofs.Lists.{same_some, slice_get-set_same, slice_get-set_other, slice_get-push_cases}
 use Rattle.tau_trace.proofs.LivingLemmas.{equal_or_not}
 use Rattle.tau_trace.proofs.Moves.{move_by-other}
-use Rattle.tau_trace.proofs.Quiet.{acts, acts_born}
+use Rattle.tau_trace.proofs.Quiet.{acts}
 use Rattle.tau_past.specs.declared.carrying.Carrying.{Carrying}
-use Rattle.tau_past.specs.declared.made.Made.{Made}
-use Rattle.std.specs.Prelude.{◌&&◌, if◌then◌else◌}
+use Rattle.std.specs.Prelude.{if◌then◌else◌}
 use Rattle.tau_trace.specs.declared.step.Step.TheVariants.{Set, New}
 use Rattle.tau_trace.specs.Steps.{is_new}
-use Rattle.tau_trace.specs.Run.{Does}
 use Rattle.tau_trace.specs.Numbering.{IsNew}
-use Rattle.tau_trace.proofs.Indexing.{born-next}
 use Rattle.tau_trace.proofs.Sequences.{cases_last}
 use Rattle.tau_points.proofs.PointOrder.{point_eq-Decides}
 use Rattle.tau_past.specs.Carried.{is_set, first_point}
 use Rattle.tau_past.specs.TableSteps.{taker, latest_for, latest_after, opening_history}
-use Rattle.tau_past.specs.Tables.{TakesAt, by_set, by_new, IsLast, TellsEarlier, TellsLatest, same_point, IsIndex, HasTurn}
-use Rattle.tau_past.specs.Tables.{Lists, Tells, TellsTurn, TellsHistory, TellsOrigin, TellsCarried, TellsMade, ListsSends, all_born}
+use Rattle.tau_past.specs.Tables.{TakesAt, by_set, by_new, IsLast, TellsEarlier, TellsLatest, same_point}
+use Rattle.tau_past.specs.Tables.{Lists, TellsTurn, TellsHistory, TellsOrigin, TellsCarried, TellsMade, ListsSends, all_born}
 use Rattle.tau_past.specs.TableSteps.{turn_after, carrying_of, carried_by, origin_of, origin_in, point_of}
 use Rattle.tau_past.proofs.Known.{acts_known}
 use Rattle.tau_past.proofs.Turning.{tells_other, tells_own, tells_carried, tells_nobody}

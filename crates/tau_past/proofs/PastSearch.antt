@@ -1,6 +1,6 @@
 -- What a search for pasts keeps.
-use Rattle.std.proofs.Common.{◌≡◌, ◌≢◌, ◌⊎◌, ◌↔◌, inl, inr, ⊎_elim, ℕ, zero, suc, ◌+◌, ◌<◌, ◌≤◌, Bool, true, false, List, [], ◌∷◌, ◌++◌, Option, Some, None, length, refl, sym, ap, ◌∙◌, subst, arith, not, ◌-◌, ◌*◌, ◌^◌, length-append, Result}
-use Rattle.std.specs.Prelude.{slice_get, Contains, ◌||◌}
+use Rattle.std.proofs.Common.{◌≡◌, ◌⊎◌, ◌↔◌, inl, inr, ⊎_elim, ℕ, ◌+◌, ◌<◌, Bool, true, false, List, [], ◌∷◌, ◌++◌, length, refl, sym, ap, subst, arith, not, ◌-◌, ◌*◌, ◌^◌, length-append, Result}
+use Rattle.std.specs.Prelude.{Contains, ◌||◌}
 use Rattle.std.specs.Bool.{OnTrue, OnFalse}
 use Rattle.std.proofs.lemmas.List.Elements.{Contains-append_left, Contains-push, Contains-push_cases}
 use Rattle.tau_points.specs.declared.point.Point.{Point}
@@ -9,11 +9,11 @@ use Rattle.tau_points.specs.Reach.{start, next}
 use Rattle.tau_points.proofs.Membership.{Contains-none}
 use Rattle.tau_points.proofs.Reach.{least}
 use Rattle.tau_points.proofs.Tables.{has}
-use Rattle.tau_points.proofs.PointOrder.{point_eq, point_eq-Decides, point_eq-laws}
+use Rattle.tau_points.proofs.PointOrder.{point_eq-laws}
 use Rattle.std.proofs.lemmas.Map.Views.{list_any-from_Contains}
 use Rattle.std.proofs.lemmas.Result.{IfOk-weaker}
 use Rattle.std.specs.Result.{IfOk}
-use Rattle.tau_trace.specs.Run.{Run, len}
+use Rattle.tau_trace.specs.Run.{Run}
 use Rattle.tau_past.specs.Pasts.{Link, Past, Is, Everywhere}
 use Rattle.tau_past.specs.Safety.{RolledBack}
 use Rattle.tau_past.specs.Searching.{IsPassed, IsListed, AddsFollowing, IsComplete, AddsPast, PastHasFallen, FoundNoFallen, Visits, known, fresh}

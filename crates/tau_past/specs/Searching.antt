@@ -1,8 +1,8 @@
 -- What a search for pasts goes through: points found and points left, and places whose carried points were listed.
-use Rattle.std.specs.Prelude.{◌≡◌, ◌⊎◌, ℕ, ◌<◌, ◌≤◌, Bool, true, List, Option, Some, IsTrue, slice_get, Contains, length, ◌+◌}
+use Rattle.std.specs.Prelude.{◌≡◌, ◌⊎◌, ℕ, Bool, true, List, Some, slice_get, Contains, length, ◌+◌}
 use Rattle.tau_points.specs.declared.point.Point.{Point}
 use Rattle.tau_points.specs.Members as members
-use Rattle.tau_trace.specs.Run.{Run, len}
+use Rattle.tau_trace.specs.Run.{Run}
 use Rattle.tau_past.specs.Carried.{Carried}
 use Rattle.tau_past.specs.Pasts.{Link, Past, Everywhere}
 use Rattle.tau_past.specs.Safety.{RolledBack}

@@ -1,10 +1,10 @@
 -- How a step goes on with the tables, by its kind.
-use Rattle.std.specs.Prelude.{◌≡◌, ℕ, ◌-◌, Bool, true, false, Option, None, Some, List, slice_get, length, nat_le, nat_lt, option_map, if◌then◌else◌, ◌||◌, ◌==◌}
+use Rattle.std.specs.Prelude.{ℕ, ◌-◌, Bool, true, false, Option, None, Some, List, slice_get, nat_le, nat_lt, option_map, if◌then◌else◌, ◌||◌, ◌==◌}
 use Rattle.tau_history.specs.Timeline.{Timeline, interval, numbers, opening, newborn}
 use Rattle.tau_points.specs.declared.point.Point.{Point}
 use Rattle.tau_trace.specs.declared.step.Step.{Step}
 use Rattle.tau_trace.specs.declared.step.Step.TheVariants.{Take, Set, New}
-use Rattle.tau_trace.specs.Steps.{ends_turn, is_new}
+use Rattle.tau_trace.specs.Steps.{ends_turn}
 use Rattle.tau_past.specs.declared.carrying.Carrying.{Carrying}
 use Rattle.tau_past.specs.declared.made.Made.{Made}
 use Rattle.tau_past.specs.Carried.{touches, first_point}

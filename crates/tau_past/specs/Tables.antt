@@ -1,11 +1,8 @@
 -- Tables that tell what the steps of a trace carry and which points take it. A search for pasts goes by them.
-use Rattle.std.specs.Prelude.{◌≡◌, ◌⊎◌, ◌↔◌, ℕ, suc, ◌+◌, ◌<◌, Bool, ◌&&◌, List, Option, None, Some, IsTrue, length, slice_get, nat_eq, option_and_then}
-use Rattle.std.specs.HashMap.{HashMap, get}
+use Rattle.std.specs.Prelude.{◌≡◌, ◌⊎◌, ◌↔◌, ℕ, suc, ◌+◌, ◌<◌, Bool, ◌&&◌, List, Option, None, Some, IsTrue, length, slice_get, nat_eq}
 use Rattle.tau_history.specs.Stored.{Stored}
 use Rattle.tau_points.specs.declared.point.Point.{Point}
-use Rattle.tau_trace.specs.declared.step.Step.{Step}
-use Rattle.tau_trace.specs.Steps.{actor}
-use Rattle.tau_trace.specs.Run.{Run, len, step_at, ActsAt, Does}
+use Rattle.tau_trace.specs.Run.{Run, len, ActsAt, Does}
 use Rattle.tau_trace.specs.Numbering.{born, sent, IsNew, IsOrigin}
 use Rattle.tau_trace.specs.Histories.{history, Falls}
 use Rattle.tau_trace.specs.Points.{point_at}

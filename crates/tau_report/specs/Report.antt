@@ -2,6 +2,7 @@
 use Rattle.std.specs.Prelude.{◌≡◌, ℕ, suc, ◌<◌, ◌≤◌, Bool, true, false, List, [], ◌∷◌, ◌++◌, option_and_then, codes}
 use Rattle.std.specs.Option.{option_map_or}
 use Rattle.tau_sexpr.specs.Tree.{Tree, word, list, inside}
+use Rattle.tau_sexpr.specs.Printing.{printed}
 use Rattle.tau_history.specs.Timeline.{interval}
 use Rattle.tau_value.specs.declared.shared.Value.{Value}
 use Rattle.tau_tree.specs.declared.programs.Program.{Program}
@@ -79,3 +80,9 @@ pub record IsReport (P : Program) (T : Run) (forms : List Tree) : Type 0 where
   pub saved : List Tree
   pub saved_are : SavedForms P T (born T (len T)) saved
   pub is : forms ≡ saved ++ counts_form T ∷ []
+
+-- the bytes are those of the printed forms of the report
+pub record IsReportText (P : Program) (T : Run) (bytes : List ℕ) : Type 0 where
+  pub forms : List Tree
+  pub report : IsReport P T forms
+  pub text : bytes ≡ printed forms

@@ -243,5 +243,5 @@ made P T V s t c old new records records_after r q values values_after may fits 
     let are_values = values_change P T s system.well_formed w values system.values_are in
     let whole = goes_on P T s old new records (slice_set records t q) values (with_sent values (sent_value s)) may fits plain system advances are_records are_values in
     subst (λ (R : Run). IsSystem P R new records_after values_after) (sym run)
-        (subst (λ (rs : List Record). IsSystem P (appended T s) new rs values_after) (sym after)
-            (subst (λ (vs : List Value). IsSystem P (appended T s) new (slice_set records t q) vs) (sym sent) whole))
+    (subst (λ (rs : List Record). IsSystem P (appended T s) new rs values_after) (sym after)
+    (subst (λ (vs : List Value). IsSystem P (appended T s) new (slice_set records t q) vs) (sym sent) whole))

@@ -144,9 +144,9 @@ module _ (P : Program) (T : Run) (sound : Sound P) (well : WellFormed T) (opens 
   replies_known t a (suc k) rs (another le n r) = replies_known t a k rs r
   replies_known t a (suc k) rs (reply {s = s} {rs = qs} r le acts stands gives so_far) =
       known-append qs (r ∷ []) (replies_known t a k qs so_far) (reply_known k s r stands gives, tt) where
-    known-append : (us vs : List Val) → AreKnown (born T (len T)) us → AreKnown (born T (len T)) vs → AreKnown (born T (len T)) (us ++ vs)
-    known-append [] vs g h = h
-    known-append (u ∷ us) vs g h = (g.0, known-append us vs g.1 h)
+        known-append : (us vs : List Val) → AreKnown (born T (len T)) us → AreKnown (born T (len T)) vs → AreKnown (born T (len T)) (us ++ vs)
+        known-append [] vs g h = h
+        known-append (u ∷ us) vs g h = (g.0, known-append us vs g.1 h)
 
   -- the body of a behaviour
   body_kept : (b : ℕ) (c : NamedCode) → slice_get P.behaviours b ≡ Some c → KeepsNames (length P.starts) (length P.behaviours) c.body

@@ -16,3 +16,6 @@ pub use laws::{
     legal_traces_are_safe, legal_traces_grow, legality_is_local,
 };
 pub use system::System;
+
+#[cfg(test)]
+mod tests;

@@ -1,3 +1,22 @@
+//! Each law once, and a system that opens.
+use crate::{
+    System, empty_traces_are_complete, fitting_is_local, fitting_traces_are_safe,
+    fitting_traces_grow, legal_traces_are_safe, legal_traces_grow, legality_is_local,
+};
+use std::alloc::Global;
+use std::process::Abort;
+use tau_tree::{Behaviours, Posts, Program, Script, Starts};
+
+#[test]
+fn laws_are_called() {
+    empty_traces_are_complete();
+    fitting_is_local();
+    fitting_traces_are_safe();
+    fitting_traces_grow();
+    legal_traces_are_safe();
+    legal_traces_grow();
+    legality_is_local();
+}
 
 /// A program of one node and nothing else.
 fn nobody(alloc: Global) -> Program {
@@ -19,13 +38,10 @@ fn opens(alloc: Global) -> Option<u32> {
     if system.state_of(0).is_some() || system.saved_of(0).is_some() {
         return None;
     }
-    if system.program().nodes != 1 {
-        return None;
-    }
     Some(system.trace().len())
 }
 
 #[test]
-fn a_system_opens(rt: impl Abort) {
-    assert!(&rt, opens(rt.alloc()) == Some(0));
+fn a_system_opens(rt: HostRuntime) {
+    assert!(rt; opens(rt.alloc()) == Some(0));
 }

@@ -1,19 +1,17 @@
 -- States and saved states are the same in runs that agree, and so is what a record says.
-use Rattle.std.proofs.Common.{◌≡◌, ◌↔◌, ℕ, zero, suc, ◌+◌, ◌<◌, ◌≤◌, IsTrue, List, length, Option, Some, None, refl, sym, ap, ◌∙◌, subst, arith}
-use Rattle.std.specs.Prelude.{slice_get}
+use Rattle.std.proofs.Common.{◌≡◌, ℕ, zero, suc, ◌<◌, ◌≤◌, List, length, sym, ap, ◌∙◌, subst, arith}
 use Rattle.std.proofs.lemmas.Option.{slice_get_within}
 use Rattle.tau_value.specs.declared.shared.Value.{Value}
 use Rattle.tau_history.specs.Timeline.{Timeline, interval}
 use Rattle.tau_points.specs.declared.point.Point.{Point}
-use Rattle.tau_trace.specs.Run.{Run, Agree, len, step_at, starts, Does}
-use Rattle.tau_trace.specs.Numbering.{born, IsNew}
-use Rattle.tau_trace.specs.Histories.{history, Closes, Ended}
+use Rattle.tau_trace.specs.Run.{Run, Agree, len}
+use Rattle.tau_trace.specs.Numbering.{IsNew}
 use Rattle.tau_trace.specs.Points.{point_at}
 use Rattle.tau_trace.proofs.Agreement.{agree_below, born-same, history-same, does-same, same_at}
 use Rattle.tau_past.specs.Carried.{is_set}
 use Rattle.tau_past.specs.States.{NoSet, StateAt, SavedWith, by_set, by_new, by_save, at_opening, at_checkpoint}
 use Rattle.tau_states.specs.declared.state_record.StateRecord.{StateRecord}
-use Rattle.tau_states.specs.Table.{IsGiven, IsBase, Describes}
+use Rattle.tau_states.specs.Table.{IsBase, Describes}
 
 abbrev point_of : ℕ → Timeline → Point
 point_of t h = record { who = t; interval = interval h; incarnation = h.last }

@@ -4,3 +4,4 @@ pub mod Agreement
 pub mod Stepping
 pub mod Tables
 pub mod Reading
+pub mod Bounds

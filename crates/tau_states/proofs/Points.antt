@@ -1,5 +1,5 @@
 -- Places at which no Set was made at a point.
-use Rattle.std.proofs.Common.{◌≡◌, ◌⊎◌, inl, inr, ⊎_elim, ℕ, zero, suc, ◌+◌, ◌<◌, ◌≤◌, IsTrue, Bool, true, false, Option, Some, None, List, refl, sym, ap, ◌∙◌, subst, arith}
+use Rattle.std.proofs.Common.{◌≡◌, ◌⊎◌, inl, inr, ⊎_elim, ℕ, zero, suc, ◌<◌, ◌≤◌, false, Some, List, sym, ap, ◌∙◌, subst, arith}
 use Rattle.tau_value.specs.declared.shared.Value.{Value}
 use Rattle.tau_points.specs.declared.point.Point.{Point}
 use Rattle.tau_trace.specs.declared.step.Step.{Step}
@@ -10,8 +10,8 @@ use Rattle.tau_trace.proofs.PointLemmas.{points_grow}
 use Rattle.tau_trace.proofs.Lists.{same_some}
 use Rattle.tau_trace.proofs.Sequences.{cases_last}
 use Rattle.tau_past.specs.Carried.{is_set}
-use Rattle.tau_past.specs.States.{NoSet, StateAt, SavedWith, by_set, by_new, by_save}
-use Rattle.tau_states.specs.Table.{IsGiven, IsBase}
+use Rattle.tau_past.specs.States.{NoSet, StateAt, by_set, by_new, by_save}
+use Rattle.tau_states.specs.Table.{IsBase}
 
 not_back : (a b c d e f : ℕ) → (a < c) ⊎ ((a ≡ c) × (b ≤ d)) → (c < e) ⊎ ((c ≡ e) × (d < f)) → e ≡ a → f ≡ b → ⊥
 not_back a b c d e f (inl x) (inl y) p r = omega arith

@@ -1,12 +1,11 @@
 -- What the readers of a table find in its records.
-use Rattle.std.proofs.Common.{◌≡◌, ◌↔◌, ℕ, zero, suc, ◌+◌, ◌<◌, ◌≤◌, IsTrue, Bool, true, false, List, [], ◌∷◌, length, Option, Some, None, refl, sym, ap, ◌∙◌, subst, arith}
+use Rattle.std.proofs.Common.{◌≡◌, ℕ, zero, suc, ◌<◌, ◌≤◌, true, false, List, [], ◌∷◌, length, Some, None, refl, sym, ◌∙◌, subst, arith}
 use Rattle.std.specs.Prelude.{slice_get}
 use Rattle.std.proofs.lemmas.Option.{slice_get_within}
 use Rattle.tau_value.specs.declared.shared.Value.{Value}
-use Rattle.tau_history.specs.Timeline.{interval}
 use Rattle.tau_trace.specs.Run.{Run, len}
 use Rattle.tau_trace.specs.Numbering.{born}
-use Rattle.tau_trace.specs.Histories.{history, IsLiving, EndsAt}
+use Rattle.tau_trace.specs.Histories.{history, IsLiving}
 use Rattle.tau_states.specs.declared.state_record.StateRecord.{StateRecord}
 use Rattle.tau_states.specs.Table.{IsBase, Holds}
 use Rattle.tau_states.specs.Answers.{IsPresent, HasClosed, IsStateAfter, IsSavedAfter, IsIntervalAfter}

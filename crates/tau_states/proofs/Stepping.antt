@@ -1,21 +1,21 @@
 -- What a record says of its transactor, one place further.
-use Rattle.std.proofs.Common.{◌≡◌, ◌⊎◌, ◌↔◌, inl, inr, ⊎_elim, ℕ, zero, suc, ◌+◌, ◌-◌, ◌^◌, ◌<◌, ◌≤◌, min, IsTrue, Bool, true, false, eqb, List, [], ◌∷◌, ◌++◌, length, length-append, Option, Some, None, refl, sym, ap, ◌∙◌, subst, arith, eqb-true, eq-eqb}
+use Rattle.std.proofs.Common.{◌≡◌, ◌↔◌, inl, inr, ⊎_elim, ℕ, suc, ◌<◌, IsTrue, Bool, true, false, List, [], ◌∷◌, length-append, Some, refl, sym, ap, ◌∙◌, subst, arith, eqb-true, eq-eqb}
 use Rattle.std.specs.Prelude.{◌||◌, ◌==◌}
 use Rattle.tau_value.specs.declared.shared.Value.{Value}
 use Rattle.tau_history.specs.Timeline.{Timeline, interval, Move, keep, stabilize, close, fall, moved}
 use Rattle.tau_points.specs.declared.point.Point.{Point}
 use Rattle.tau_trace.specs.declared.step.Step.{Step}
-use Rattle.tau_trace.specs.declared.step.Step.TheVariants.{Set, Checkpoint}
+use Rattle.tau_trace.specs.declared.step.Step.TheVariants.{Set}
 use Rattle.tau_trace.specs.Steps.{actor}
-use Rattle.tau_trace.specs.Run.{Run, len, step_at, Does}
+use Rattle.tau_trace.specs.Run.{Run, step_at, Does}
 use Rattle.tau_trace.specs.Histories.{history, move_at, move_of, Falls, Closes, EndsAt, Ended}
-use Rattle.tau_trace.specs.Points.{point_at, Leaves}
+use Rattle.tau_trace.specs.Points.{point_at}
 use Rattle.tau_trace.proofs.Lists.{same_some}
 use Rattle.tau_trace.proofs.Sequences.{cases_last}
 use Rattle.tau_trace.proofs.Moves.{move_by-other}
 use Rattle.tau_trace.proofs.Counted.{history-suc, move_at-own, move_closes}
 use Rattle.tau_past.specs.Carried.{is_set}
-use Rattle.tau_past.specs.States.{NoSet, StateAt, SavedWith, by_set, at_checkpoint}
+use Rattle.tau_past.specs.States.{StateAt, SavedWith, by_set, at_checkpoint}
 use Rattle.tau_states.specs.declared.state_record.StateRecord.{StateRecord}
 use Rattle.tau_states.specs.Effects.{next_interval, record_closed, record_fallen, record_moved, record_after}
 use Rattle.tau_states.specs.Table.{IsBase, Describes}

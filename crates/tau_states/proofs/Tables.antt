@@ -1,5 +1,5 @@
 -- Tables of states, before the first step and after one more.
-use Rattle.std.proofs.Common.{◌≡◌, ◌⊎◌, ◌↔◌, inl, inr, ⊎_elim, ℕ, zero, suc, ◌+◌, ◌<◌, ◌≤◌, IsTrue, Bool, true, false, cond, ltb, List, [], ◌∷◌, ◌++◌, length, map, set, Option, Some, None, refl, sym, ap, ◌∙◌, subst, arith, length-append, length-set, lt-ltb, ltb-true}
+use Rattle.std.proofs.Common.{◌≡◌, ⊎_elim, ℕ, suc, ◌+◌, ◌<◌, ◌≤◌, Bool, true, false, cond, ltb, List, [], ◌∷◌, ◌++◌, length, map, set, Option, Some, None, refl, sym, ap, ◌∙◌, subst, arith, length-append, length-set, lt-ltb, ltb-true}
 use Rattle.std.specs.Prelude.{slice_get, option_and_then}
 use Rattle.std.specs.Option.{option_map, option_map_or}
 use Rattle.std.proofs.lemmas.Option.{slice_get_within, slice_get-map}
@@ -11,10 +11,9 @@ use Rattle.tau_trace.specs.declared.opening.Opening.{Opening}
 use Rattle.tau_trace.specs.declared.step.Step.{Step}
 use Rattle.tau_trace.specs.declared.step.Step.TheVariants.{New}
 use Rattle.tau_trace.specs.Steps.{actor, is_new}
-use Rattle.tau_trace.specs.Run.{Run, len, step_at, starts, appended, Agree, Does}
-use Rattle.tau_trace.specs.Places.{count_below}
-use Rattle.tau_trace.specs.Numbering.{born, sent, IsNew}
-use Rattle.tau_trace.specs.Histories.{history, opened, move_at, is_close, Ended}
+use Rattle.tau_trace.specs.Run.{Run, len, step_at, starts, appended}
+use Rattle.tau_trace.specs.Numbering.{born, sent}
+use Rattle.tau_trace.specs.Histories.{history, move_at, is_close}
 use Rattle.tau_trace.specs.Points.{point_at}
 use Rattle.tau_trace.specs.Known.{MayFollow, WellFormed}
 use Rattle.tau_trace.proofs.Counts.{count-zero, count-le}

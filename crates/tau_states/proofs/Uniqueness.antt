@@ -1,21 +1,18 @@
 -- A transactor has one state at a point, and saved one value with an interval.
-use Rattle.std.proofs.Common.{◌≡◌, ◌⊎◌, inl, inr, ⊎_elim, ℕ, zero, suc, ◌+◌, ◌<◌, ◌≤◌, IsTrue, Bool, true, false, cond, ltb, List, [], ◌∷◌, ◌++◌, length, length-append, lt-ltb, Option, Some, None, refl, sym, ap, ◌∙◌, subst, arith}
-use Rattle.std.specs.Prelude.{slice_get}
+use Rattle.std.proofs.Common.{◌≡◌, ◌⊎◌, inl, inr, ⊎_elim, ℕ, suc, ◌<◌, ◌≤◌, Bool, cond, List, [], ◌∷◌, length-append, lt-ltb, Some, refl, sym, ap, ◌∙◌, subst, arith}
 use Rattle.tau_value.specs.declared.shared.Value.{Value}
-use Rattle.tau_history.specs.Timeline.{Timeline, interval, close, moved}
+use Rattle.tau_history.specs.Timeline.{interval, close, moved}
 use Rattle.tau_points.specs.declared.point.Point.{Point}
-use Rattle.tau_trace.specs.declared.step.Step.{Step}
-use Rattle.tau_trace.specs.declared.step.Step.TheVariants.{Set, New, Checkpoint}
+use Rattle.tau_trace.specs.declared.step.Step.TheVariants.{Set, New}
 use Rattle.tau_trace.specs.Run.{Run, step_at, starts, Does}
-use Rattle.tau_trace.specs.Numbering.{IsNew}
 use Rattle.tau_trace.specs.Histories.{history, Closes}
-use Rattle.tau_trace.specs.Points.{point_at, IsUpTo, IsEarlier}
+use Rattle.tau_trace.specs.Points.{point_at, IsUpTo}
 use Rattle.tau_trace.proofs.Counted.{history-suc, closes_move, counted}
 use Rattle.tau_trace.proofs.PointLemmas.{points_grow}
 use Rattle.tau_trace.proofs.Lists.{same_some}
 use Rattle.tau_trace.proofs.Once.{new_once}
 use Rattle.tau_past.specs.Carried.{is_set}
-use Rattle.tau_past.specs.States.{NoSet, StateAt, SavedWith, by_set, by_new, by_save, at_opening, at_checkpoint}
+use Rattle.tau_past.specs.States.{StateAt, SavedWith, by_set, by_new, by_save, at_opening, at_checkpoint}
 
 three_cases : (i j : ℕ) → (i < j) ⊎ ((i ≡ j) ⊎ (j < i))
 three_cases i j = grind arith

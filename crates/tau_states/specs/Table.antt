@@ -1,5 +1,5 @@
 -- What a table of states says of a run (docs/definitions.md, "State and saved state").
-use Rattle.std.specs.Prelude.{◌≡◌, ◌↔◌, ℕ, zero, suc, ◌<◌, Bool, IsTrue, List, [], Some, slice_get, length}
+use Rattle.std.specs.Prelude.{◌≡◌, ◌↔◌, ℕ, zero, suc, Bool, IsTrue, List, [], Some, slice_get, length}
 use Rattle.tau_value.specs.declared.shared.Value.{Value}
 use Rattle.tau_history.specs.Timeline.{interval}
 use Rattle.tau_trace.specs.declared.opening.Opening.{Opening}
@@ -11,7 +11,6 @@ use Rattle.tau_trace.specs.Points.{point_at}
 use Rattle.tau_trace.specs.Known.{MayFollow, WellFormed}
 use Rattle.tau_past.specs.States.{StateAt, SavedWith}
 use Rattle.tau_states.specs.declared.state_record.StateRecord.{StateRecord}
-use Rattle.tau_states.specs.Opening.{opening_states}
 
 -- the records, and whether one more fits without memory
 pub record Table : Type 0 where

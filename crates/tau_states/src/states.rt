@@ -1,5 +1,5 @@
 //! Tables of states.
-ghost use Rattle.std.specs.Prelude.{◌≡◌, ℕ, ◌<◌, List, length, map, slice_get, IsTrue, IfOk, OnOk, OnErr, option_copied};
+ghost use Rattle.std.specs.Prelude.{◌≡◌, ℕ, ◌<◌, ◌≤◌, List, length, map, slice_get, IsTrue, IsFalse, IfOk, OnOk, OnErr, option_copied};
 ghost use Rattle.tau_value.specs.declared.shared.Value.{Value};
 ghost use Rattle.tau_trace.specs.declared.opening.Opening.{Opening};
 ghost use Rattle.tau_trace.specs.Run.{Run, len};
@@ -159,8 +159,10 @@ impl States {
 
     /// Whether a transactor is stable; false where it doesn't exist.
     pub fn is_stable(&self, who: u32) -> bool
-        ensures { (T : Run) (opening : List Value) → Holds T opening self.now.records
+        ensures stable { (T : Run) (opening : List Value) → Holds T opening self.now.records
             → who < born T (len T) → result ≡ (history T who (len T)).stable }
+        ensures absent { (T : Run) (opening : List Value) → Holds T opening self.now.records
+            → born T (len T) ≤ who → IsFalse result }
     {
         match self.record_of(who) {
             Some(record) => record.stable,

@@ -103,4 +103,5 @@ fn a_change_is_prepared_and_applied(rt: HostRuntime) -> Result<(), Fail> {
 fn laws_are_called() {
     laws::states_are_unique();
     laws::saved_states_are_unique();
+    laws::states_are_in_bounds();
 }

@@ -1,4 +1,4 @@
-use Rattle.std.proofs.Common.{subst, refl, Option, None}
+use Rattle.std.proofs.Common.{subst, Option, None}
 use Rattle.tau_trace.specs.Run.{Run}
 use Rattle.tau_past.specs.declared.findings.Breach.{Breach}
 use Rattle.tau_past.specs.declared.findings.Audit.TheVariants as audits

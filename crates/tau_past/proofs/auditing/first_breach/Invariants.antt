@@ -1,6 +1,4 @@
-use Rattle.std.proofs.Common.{◌≡◌, ℕ, ◌<◌, length}
-use Rattle.std.specs.Prelude.{Contains}
-use Rattle.tau_points.specs.declared.point.Point.{Point}
+use Rattle.std.proofs.Common.{◌≡◌, length}
 use Rattle.tau_trace.specs.Run.{len}
 use Rattle.tau_past.specs.Searching.{IsComplete}
 use Rattle.tau_past.proofs.Breaches.{Checking}

@@ -1,4 +1,3 @@
-use Rattle.std.proofs.Common.{refl}
 use Rattle.std.proofs.lemmas.List.{get_or_default}
 use Rattle.tau_past.proofs.Breaches.{least_found}
 use Rattle.tau_past.proofs.auditing.least_fallen.Goals as goal

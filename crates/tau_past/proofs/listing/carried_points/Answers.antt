@@ -1,4 +1,4 @@
-use Rattle.std.proofs.Common.{subst, sym, Option, ℕ}
+use Rattle.std.proofs.Common.{subst, Option, ℕ}
 use Rattle.tau_past.proofs.Listings.{Walks, walks_on, walks_end}
 use Rattle.tau_past.proofs.listing.carried_points.Goals as goal
 

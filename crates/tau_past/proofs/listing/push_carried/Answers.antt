@@ -1,4 +1,4 @@
-use Rattle.std.proofs.Common.{subst, sym, Option, ℕ, arith, refl, ◌∙◌}
+use Rattle.std.proofs.Common.{subst, Option, ℕ, arith, refl}
 use Rattle.tau_past.proofs.Listings.{Passes, passes_on, passes_end, passes_known, passed_read}
 use Rattle.tau_past.proofs.listing.push_carried.Goals as goal
 

@@ -1,4 +1,4 @@
-use Rattle.std.proofs.Common.{subst, sym, Option, ℕ}
+use Rattle.std.proofs.Common.{subst, Option, ℕ}
 use Rattle.tau_past.proofs.Listings.{Taking, taking_start, taking_on, taking_end, taking_smaller}
 use Rattle.tau_past.proofs.listing.push_taken.Goals as goal
 

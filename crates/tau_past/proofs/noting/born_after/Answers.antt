@@ -1,4 +1,4 @@
-use Rattle.std.proofs.Common.{sym, ◌∙◌, arith}
+use Rattle.std.proofs.Common.{arith}
 use Rattle.tau_trace.proofs.Indexing.{born-le}
 use Rattle.tau_past.proofs.NextTables.{born_next}
 use Rattle.tau_past.proofs.noting.born_after.Goals as goal

@@ -1,6 +1,6 @@
-use Rattle.std.proofs.Common.{arith, refl, sym}
-use Rattle.tau_past.specs.Tables.{Lists, TellsHistory, all_born}
-use Rattle.tau_past.proofs.NextTables.{acts_told, lists_read, made_told, nobody, missing}
+use Rattle.std.proofs.Common.{arith, sym}
+use Rattle.tau_past.specs.Tables.{TellsHistory, all_born}
+use Rattle.tau_past.proofs.NextTables.{acts_told, lists_read, made_told}
 use Rattle.tau_past.proofs.noting.made_now.Goals as goal
 
 pub bounds-histories-who : goal.bounds-histories-who

@@ -1,8 +1,7 @@
 use Rattle.std.proofs.Common.{arith, refl, sym}
 use Rattle.std.proofs.lemmas.Result.{IfOk-weaker}
-use Rattle.tau_trace.specs.Run.{len}
-use Rattle.tau_past.specs.Tables.{Lists, TellsHistory, all_born}
-use Rattle.tau_past.proofs.NextTables.{acts_told, lists_read, last_small, interval_small, histories_own, histories_other, nobody, missing}
+use Rattle.tau_past.specs.Tables.{TellsHistory, all_born}
+use Rattle.tau_past.proofs.NextTables.{acts_told, lists_read, last_small, interval_small, histories_own, histories_other, nobody}
 use Rattle.tau_past.proofs.noting.note_history.Goals as goal
 
 pub returns-in_default-actor : goal.returns-in_default-actor

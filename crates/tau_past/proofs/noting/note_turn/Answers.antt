@@ -1,6 +1,6 @@
 use Rattle.std.proofs.Common.{arith, refl, sym, ap, length, ◌∙◌}
 use Rattle.tau_trace.specs.Run.{len}
-use Rattle.tau_past.specs.Tables.{Lists, TellsHistory, TellsTurn, all_born}
+use Rattle.tau_past.specs.Tables.{TellsHistory, all_born}
 use Rattle.tau_past.proofs.NextTables.{acts_told, lists_read, turns_own, turns_other, nobody}
 use Rattle.tau_past.proofs.noting.note_turn.Goals as goal
 

@@ -1,6 +1,6 @@
 use Rattle.std.proofs.Common.{arith, sym, ◌∙◌, ap, subst, ◌≡◌, Some, ◌↔◌, Option}
 use Rattle.tau_points.specs.declared.point.Point.{Point}
-use Rattle.tau_past.specs.Tables.{Lists, TellsHistory, TakesAt, all_born}
+use Rattle.tau_past.specs.Tables.{TellsHistory, TakesAt, all_born}
 use Rattle.tau_past.specs.TableSteps.{point_of}
 use Rattle.tau_past.proofs.NextTables.{acts_told, lists_read, taker_told, takes_nobody, nobody}
 use Rattle.tau_past.proofs.noting.taker_at.Goals as goal

@@ -1,4 +1,4 @@
-use Rattle.std.proofs.Common.{◌+◌, ◌-◌, ◌*◌, ◌^◌, ◌<◌, length, vec_len}
+use Rattle.std.proofs.Common.{◌+◌, ◌-◌, ◌*◌, ◌^◌, length, vec_len}
 use Rattle.std.specs.Bool.{OnTrue, OnFalse}
 use Rattle.tau_past.specs.Searching.{PastHasFallen, FoundNoFallen}
 use Rattle.tau_past.proofs.PastSearch.{Searched}

@@ -1,4 +1,4 @@
-use Rattle.std.proofs.Common.{◌∙◌, sym}
+use Rattle.std.proofs.Common.{◌∙◌}
 use Rattle.tau_past.specs.Pasts.{Past}
 use Rattle.tau_past.proofs.PastSearch.{set_of, past_from_none}
 use Rattle.tau_past.proofs.search.past_in.Goals as goal

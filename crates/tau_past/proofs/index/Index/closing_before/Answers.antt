@@ -1,7 +1,6 @@
 use Rattle.std.proofs.Common.{subst, sym, ap, ◌∙◌, arith, Some, ◌≡◌, ◌↔◌}
 use Rattle.std.specs.Prelude.{slice_get}
-use Rattle.tau_trace.specs.Run.{len}
-use Rattle.tau_past.specs.Tables.{ClosesBefore, all_born}
+use Rattle.tau_past.specs.Tables.{ClosesBefore}
 use Rattle.tau_past.proofs.NextTables.{slice_get_none}
 use Rattle.tau_past.proofs.Endings.{closing_told, unknown_not_closed}
 use Rattle.tau_past.proofs.index.Index.closing_before.Goals as goal

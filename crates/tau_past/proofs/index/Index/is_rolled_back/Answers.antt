@@ -1,8 +1,6 @@
 use Rattle.std.proofs.Common.{subst, sym, ap, ◌∙◌, arith, IsTrue, ◌↔◌}
 use Rattle.std.specs.Prelude.{slice_get}
-use Rattle.tau_trace.specs.Run.{len}
 use Rattle.tau_past.specs.Safety.{RolledBack}
-use Rattle.tau_past.specs.Tables.{all_born}
 use Rattle.tau_past.proofs.NextTables.{slice_get_none}
 use Rattle.tau_past.proofs.Endings.{rolled_back_told, unknown_not_rolled_back}
 use Rattle.tau_past.proofs.index.Index.is_rolled_back.Goals as goal

@@ -31,4 +31,4 @@ invariant_of-self-2 c =
     let record_change = c.in_ok-change_record.ensures.ok in
     let sent : c.keep_sent.new.values.items ≡ with_sent c.self.inside.values.items (sent_value s) = c.keep_sent.ensures ∙ (λ i. with_sent (c.in_ok-reserve-3.ensures.items i) (c.in_ok-sent.ensures i)) in
     made P T c.push_spare.new.self.run s c.args.who c.args.change old c.apply.new.self.records c.self.inside.records.items c.change_record.new.records.items record_change.before record_change.after c.self.inside.values.items c.keep_sent.new.values.items
-        may fits c.requires.plain exists c.requires.actor changes c.self.invariant run advances record_change.stood record_change.changed record_change.is sent
+    may fits c.requires.plain exists c.requires.actor changes c.self.invariant run advances record_change.stood record_change.changed record_change.is sent

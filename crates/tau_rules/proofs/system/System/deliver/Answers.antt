@@ -21,7 +21,7 @@ use Rattle.tau_rules.proofs.system.System.deliver.Goals as goal
 pub returns-in-Some-open_turn-clause-err : goal.returns-in-Some-open_turn-clause-err
 returns-in-Some-open_turn-clause-err c =
     subst (λ (k : Core). (x : ℕ) × Receives k.run c.args.message x × IsOpenTurn k.run x (len k.run) (Some c.in-Some-open_turn.turn)) c.self.view_is
-        (c.in-Some-target.who, c.in-Some-target.ensures.target, c.in-Some-open_turn.ensures)
+    (c.in-Some-target.who, c.in-Some-target.ensures.target, c.in-Some-open_turn.ensures)
 
 pub index-requires : goal.index-requires
 index-requires c =
@@ -49,14 +49,14 @@ append-requires-clause-known c =
     let there : c.args.message < sent T (len T) = subst (λ (k : Core). c.args.message < sent k.run (len k.run)) (sym c.self.view_is) c.requires.exists in
     let few : len T < 1000000 = subst (λ (k : Core). len k.run < 1000000) (sym c.self.view_is) c.requires.few in
     subst (λ (k : Core). MayFollow k.run (Take c.in-Some-target.who c.args.message)) c.self.view_is
-        (record { known = (receiver_exists T c.self.invariant.well_formed c.args.message c.in-Some-target.who there c.in-Some-target.ensures.target, there); few_steps = few })
+    (record { known = (receiver_exists T c.self.invariant.well_formed c.args.message c.in-Some-target.who there c.in-Some-target.ensures.target, there); few_steps = few })
 
 pub append-requires-clause-fits : goal.append-requires-clause-fits
 append-requires-clause-fits c =
     let T : Run = c.self.inside.trace.run in
     let there : c.args.message < sent T (len T) = subst (λ (k : Core). c.args.message < sent k.run (len k.run)) (sym c.self.view_is) c.requires.exists in
     subst (λ (k : Core). Arrives k.run c.in-Some-target.who c.args.message (len k.run) × Verdict k.run c.in-Some-target.who (len k.run) c.args.message takes) c.self.view_is
-        (arrives T c.self.invariant.plain c.in-Some-target.who c.args.message there c.in_default.ensures c.in-Some-target.ensures.target c.in_default-open_turn.ensures, is_taken T c.self.invariant.plain c.in-Some-target.who (len T) c.args.message)
+    (arrives T c.self.invariant.plain c.in-Some-target.who c.args.message there c.in_default.ensures c.in-Some-target.ensures.target c.in_default-open_turn.ensures, is_taken T c.self.invariant.plain c.in-Some-target.who (len T) c.args.message)
 
 pub append-requires-clause-change : goal.append-requires-clause-change
 append-requires-clause-change c =

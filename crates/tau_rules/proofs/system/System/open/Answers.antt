@@ -21,4 +21,4 @@ invariant_of-result c =
     let starts : HasStarts P.starts c.in_ok-opening_records.field-0.items = subst (λ (ss : List Start). HasStarts ss c.in_ok-opening_records.field-0.items) c.items.ensures c.in_ok-opening_records.ensures in
     let posts : HasPosts P.posts c.in_ok-posted_values.field-0.items = subst (λ (qs : List Post). HasPosts qs c.in_ok-posted_values.field-0.items) c.items-2.ensures c.in_ok-posted_values.ensures in
     subst (λ (T : Run). IsSystem P T c.in_ok-open.field-0.records c.in_ok-opening_records.field-0.items c.in_ok-posted_values.field-0.items) (sym is)
-        (opens P c.in_ok-open.field-0.records c.in_ok-opening_records.field-0.items c.in_ok-posted_values.field-0.items c.requires opening holds starts posts)
+    (opens P c.in_ok-open.field-0.records c.in_ok-opening_records.field-0.items c.in_ok-posted_values.field-0.items c.requires opening holds starts posts)

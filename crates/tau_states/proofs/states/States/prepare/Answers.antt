@@ -1,5 +1,4 @@
-use Rattle.std.specs.Prelude.{Result, Ok, Err, IfOk, ◌≡◌, List}
-use Rattle.tau_states.specs.declared.change.Change.{Change}
+use Rattle.std.specs.Prelude.{Result, Ok, Err, IfOk, ◌≡◌}
 use Rattle.tau_states.specs.Effects.{changed, records_after}
 use Rattle.tau_states.specs.Table.{Advances}
 use Rattle.tau_states.proofs.Tables.{advances}

@@ -1,0 +1,5 @@
+pub mod Commands
+pub mod Status
+pub mod Input
+pub mod Output
+pub mod Laws

@@ -1,0 +1,53 @@
+-- The number of a status, and its line on standard error.
+use Rattle.std.specs.Prelude.{ℕ, List, [], ◌++◌, codes}
+use Rattle.std.specs.Fmt.{decimal}
+use Rattle.tau_io.specs.declared.reading.ReadError.{ReadError}
+use Rattle.tau_io.specs.declared.reading.ReadError.TheVariants as reads
+use Rattle.tau_cli.specs.declared.commands.WordsError.{WordsError}
+use Rattle.tau_cli.specs.declared.commands.WordsError.TheVariants as words
+use Rattle.tau_cli.specs.declared.inputs.InputError.{InputError}
+use Rattle.tau_cli.specs.declared.inputs.InputError.TheVariants as inputs
+use Rattle.tau_cli.specs.Input.{input_limit}
+use Rattle.tau_cli.specs.declared.statuses.Status.{Status}
+use Rattle.tau_cli.specs.declared.statuses.Status.TheVariants.{Done, Words, Input, ReadFault, WriteFault, NoMemory}
+
+-- the status of the process
+abbrev pub number_of : Status → ℕ
+number_of Done = 0
+number_of Words = 2
+number_of (Input fault at) = 3
+number_of ReadFault = 5
+number_of WriteFault = 6
+number_of NoMemory = 7
+
+-- the line, without its line feed; where all is done there is none
+abbrev pub line_of : Status → List ℕ
+line_of Done = []
+line_of Words = codes "tau: usage: tau print"
+line_of (Input fault at) = codes "tau: input fault " ++ decimal fault ++ codes " at " ++ decimal at
+line_of ReadFault = codes "tau: reading failed"
+line_of WriteFault = codes "tau: writing failed"
+line_of NoMemory = codes "tau: out of memory"
+
+-- a status that comes before anything is written
+abbrev pub IsRefusal : Status → Type 0
+IsRefusal Done = ⊥
+IsRefusal Words = Unit {0}
+IsRefusal (Input fault at) = Unit {0}
+IsRefusal ReadFault = Unit {0}
+IsRefusal WriteFault = ⊥
+IsRefusal NoMemory = ⊥
+
+-- the status for an error
+abbrev pub of_words_error : WordsError → Status
+of_words_error words.Words = Words
+of_words_error words.NoMemory = NoMemory
+
+abbrev pub of_read_error : ReadError → Status
+of_read_error reads.ReadFault = ReadFault
+of_read_error reads.TooLong = Input 10 input_limit
+of_read_error reads.NoMemory = NoMemory
+
+abbrev pub of_input_error : InputError → Status
+of_input_error (inputs.Fault fault at) = Input fault at
+of_input_error inputs.NoMemory = NoMemory

@@ -1,0 +1,8 @@
+//! A law of effects, as the contract of a function that does nothing.
+ghost use Rattle.tau_eval.specs.Known.{EffectsAreKnown};
+
+/// Where the names and texts of a body are in order, and the own number, the message and the replies are known, the next
+/// effect names only what exists, its values are in bounds, and a trap has one of the codes (docs/language.md, "Traps").
+pub fn effects_are_known()
+    ensures { EffectsAreKnown }
+{}

@@ -1,0 +1,126 @@
+-- What the forms at the top define, form by form.
+use Rattle.std.proofs.Common.{◌≡◌, ◌≢◌, ℕ, zero, suc, ◌+◌, ◌<◌, ◌≤◌, ◌^◌, ◌==◌, Bool, true, false, not, cond, map, take, ◌&&◌, is_some, nat_le, nat_lt, List, [], ◌∷◌, ◌++◌, length, filter, Option, Some, None, option_map, unwrap_or, refl, sym, ap, subst, ◌∙◌, arith}
+use Rattle.std.specs.Option.{option_or, option_map_or}
+use Rattle.std.proofs.lemmas.List.Elements.{filter-append}
+use Rattle.std.proofs.lemmas.List.{length_push}
+use Rattle.tau_sexpr.specs.Form.{tree_of}
+use Rattle.tau_sexpr.specs.Tree.{Tree, Trees, word, text, list, none, more, inside}
+use Rattle.tau_sexpr.specs.declared.trees.Form.{Form}
+use Rattle.tau_value.specs.Names.{is_name, place_of}
+use Rattle.tau_value.specs.Numbers.{count_in, capped}
+use Rattle.tau_forms.specs.declared.keywords.Sort.{Sort}
+use Rattle.tau_forms.specs.declared.keywords.Sort.TheVariants as sorts
+use Rattle.tau_forms.specs.declared.tables.Defined.{Defined}
+use Rattle.tau_forms.specs.declared.tables.Definition.{Definition}
+use Rattle.tau_forms.specs.declared.tables.Definition.TheVariants as definitions
+use Rattle.tau_forms.specs.Defined.{IsDefined, Defines, name_told, nodes_told, behaviour_name, start_name, nodes_number}
+use Rattle.tau_forms.specs.Keywords.{sort_in}
+use Rattle.tau_forms.specs.Tops.{sort_of, is_nodes, is_behaviour, is_start, named_by, name_in, with_name, defined_after, behaviours_of, starts_of, is_count_in, nodes_in, nodes_of, count_of, has}
+use Rattle.tau_forms.proofs.WordLemmas.{placed}
+
+-- one more form
+pub defined_push : (is : Sort → Bool) (ws : List (List ℕ)) (ts : List Tree) (t : Tree) → defined_after is ws (ts ++ t ∷ []) ≡ with_name (defined_after is ws ts) (named_by is t)
+defined_push is ws [] t = refl
+defined_push is ws (u ∷ us) t = defined_push is (with_name ws (named_by is u)) us t
+
+nodes_after : (a b c : Option ℕ) → option_or a (option_or b c) ≡ option_or (option_or a b) c
+nodes_after None b c = refl
+nodes_after (Some n) b c = refl
+
+option_or-none : (a : Option ℕ) → option_or a None ≡ option_or None a
+option_or-none None = refl
+option_or-none (Some n) = refl
+
+pub nodes_push : (ts : List Tree) (t : Tree) → nodes_of (ts ++ t ∷ []) ≡ option_or (nodes_of ts) (nodes_in t)
+nodes_push [] t = option_or-none (nodes_in t)
+nodes_push (u ∷ us) t = ap (option_or (nodes_in u)) (nodes_push us t) ∙ nodes_after (nodes_in u) (nodes_of us) (nodes_in t)
+
+pub defined_more : (before : List Tree) (t : Tree) (d e : Defined) (f : Definition) → IsDefined before d → Defines t f → e.behaviours ≡ with_name d.behaviours (behaviour_name f) → e.starts ≡ with_name d.starts (start_name f) → e.nodes ≡ option_or d.nodes (nodes_number f) → IsDefined (before ++ t ∷ []) e
+defined_more before t d e f h g a b c = record {
+  behaviours = a ∙ ap (λ ws. with_name ws (behaviour_name f)) h.behaviours ∙ ap (with_name (behaviours_of before)) (sym g.behaviour) ∙ sym (defined_push is_behaviour [] before t);
+  starts = b ∙ ap (λ ws. with_name ws (start_name f)) h.starts ∙ ap (with_name (starts_of before)) (sym g.start) ∙ sym (defined_push is_start [] before t);
+  nodes = c ∙ ap (λ o. option_or o (nodes_number f)) h.nodes ∙ ap (option_or (nodes_of before)) (sym g.nodes) ∙ sym (nodes_push before t);
+}
+
+-- what a list defines, by its first word and its other items
+named_by_list : (is : Sort → Bool) (h : List ℕ) (us : Trees) (b : Bool) → is (sort_in h) ≡ b → named_by is (list (more (word h) us)) ≡ cond b (name_told us) None
+named_by_list is h none true e = refl
+named_by_list is h none false e = refl
+named_by_list is h (more (word w) us) b e = ap (λ c. cond c (name_in w) None) e
+named_by_list is h (more (text t) us) true e = refl
+named_by_list is h (more (text t) us) false e = refl
+named_by_list is h (more (list t) us) true e = refl
+named_by_list is h (more (list t) us) false e = refl
+
+nodes_both : (b c : Bool) (o : Option ℕ) → cond (b && c) o None ≡ cond b (cond c o None) None
+nodes_both true c o = refl
+nodes_both false c o = refl
+
+pub nodes_in_list : (h : List ℕ) (us : Trees) (b : Bool) → is_nodes (sort_in h) ≡ b → nodes_in (list (more (word h) us)) ≡ cond b (nodes_told us) None
+nodes_in_list h none true e = refl
+nodes_in_list h none false e = refl
+nodes_in_list h (more (word k) none) b e = nodes_both (is_nodes (sort_in h)) (is_count_in 1 65 k) (count_in k) ∙ ap (λ c. cond c (cond (is_count_in 1 65 k) (count_in k) None) None) e
+nodes_in_list h (more (word k) (more u us)) true e = refl
+nodes_in_list h (more (word k) (more u us)) false e = refl
+nodes_in_list h (more (text t) us) true e = refl
+nodes_in_list h (more (text t) us) false e = refl
+nodes_in_list h (more (list t) us) true e = refl
+nodes_in_list h (more (list t) us) false e = refl
+
+pub defines_list : (ts us : Trees) (h : List ℕ) (s : Sort) (d : Definition) → ts ≡ more (word h) us → s ≡ sort_in h → cond (is_behaviour s) (name_told us) None ≡ behaviour_name d → cond (is_start s) (name_told us) None ≡ start_name d → cond (is_nodes s) (nodes_told us) None ≡ nodes_number d → Defines (list ts) d
+defines_list ts us h s d e f a b c = record {
+  behaviour = ap (λ q. named_by is_behaviour (list q)) e ∙ named_by_list is_behaviour h us (is_behaviour s) (ap is_behaviour (sym f)) ∙ a;
+  start = ap (λ q. named_by is_start (list q)) e ∙ named_by_list is_start h us (is_start s) (ap is_start (sym f)) ∙ b;
+  nodes = ap (λ q. nodes_in (list q)) e ∙ nodes_in_list h us (is_nodes s) (ap is_nodes (sym f)) ∙ c;
+}
+
+-- how many lists of a sort there are, with one more form
+pub count_push : (is : Sort → Bool) (ts : List Tree) (t : Tree) → count_of is (ts ++ t ∷ []) ≡ count_of is ts + cond (is (sort_of t)) 1 0
+count_push is ts t = ap length (filter-append (λ u. is (sort_of u)) ts (t ∷ [])) ∙ by (is (sort_of t)) (filter (λ u. is (sort_of u)) ts)
+  where
+    by : (b : Bool) (us : List Tree) → length (us ++ cond b (t ∷ []) []) ≡ length us + cond b 1 0
+    by true us = length_push us t
+    by false [] = refl
+    by false (u ∷ us) = omega (arith, by false us)
+
+pub count_le : (is : Sort → Bool) (ts : List Tree) → count_of is ts ≤ length ts
+count_le is [] = omega arith
+count_le is (t ∷ ts) = by (is (sort_of t)) (count_le is ts)
+  where
+    by : (b : Bool) → count_of is ts ≤ length ts → length (cond b (t ∷ filter (λ u. is (sort_of u)) ts) (filter (λ u. is (sort_of u)) ts)) ≤ length (t ∷ ts)
+    by true h = omega arith
+    by false h = omega arith
+
+pub taken_le : (fs : List Form) (k : ℕ) → length (map tree_of (take k fs)) ≤ k
+taken_le [] zero = omega arith
+taken_le [] (suc k) = omega arith
+taken_le (f ∷ fs) zero = omega arith
+taken_le (f ∷ fs) (suc k) = omega (arith, taken_le fs k)
+
+pub count_taken : (is : Sort → Bool) (fs : List Form) (k : ℕ) → count_of is (map tree_of (take k fs)) ≤ k
+count_taken is fs k = omega (arith, count_le is (map tree_of (take k fs)), taken_le fs k)
+
+-- a name is added where it isn't there
+pub with_known : (ws : List (List ℕ)) (w : List ℕ) (o : Option ℕ) (b : Bool) → o ≡ place_of ws w → b ≡ is_some o → b ≡ true → ws ≡ with_name ws (Some w)
+with_known ws w o b p e h = sym (ap (λ c. cond c ws (ws ++ w ∷ [])) (sym (placed ws w) ∙ sym (ap is_some p) ∙ sym e ∙ h))
+
+pub with_new : (ws us : List (List ℕ)) (w : List ℕ) (o : Option ℕ) (b : Bool) → o ≡ place_of ws w → b ≡ is_some o → b ≡ false → us ≡ ws ++ w ∷ [] → us ≡ with_name ws (Some w)
+with_new ws us w o b p e h f = f ∙ sym (ap (λ c. cond c ws (ws ++ w ∷ [])) (sym (placed ws w) ∙ sym (ap is_some p) ∙ sym e ∙ h))
+
+pub nodes_told_long : (ts : Trees) (h : List ℕ) (fs : List Form) (b : Bool) → ts ≡ more (word h) (inside (map tree_of fs)) → b ≡ (length fs == 0) → b ≡ false → None ≡ nodes_told ts
+nodes_told_long ts h [] b e f g = cc
+nodes_told_long ts h (x ∷ fs) b e f g = sym (ap nodes_told e)
+
+pub or_none : (o : Option ℕ) → o ≡ option_or o None
+or_none None = refl
+or_none (Some n) = refl
+
+pub or_first : (o : Option ℕ) (n : ℕ) (b : Bool) → is_some o ≡ not b → b ≡ true → Some n ≡ option_or o (Some n)
+or_first None n b e h = refl
+or_first (Some m) n true e h = cc
+or_first (Some m) n false e h = cc
+
+pub or_later : (o : Option ℕ) (n : ℕ) (b : Bool) → is_some o ≡ not b → b ≡ false → o ≡ option_or o (Some n)
+or_later None n true e h = cc
+or_later None n false e h = cc
+or_later (Some m) n b e h = refl

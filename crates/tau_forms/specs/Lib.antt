@@ -1,0 +1,14 @@
+pub mod Keywords
+pub mod Tops
+pub mod Roles
+pub mod Faults
+pub mod Meaning
+pub mod Printed
+pub mod Scopes
+pub mod Wanted
+pub mod Passing
+pub mod Defined
+pub mod Build
+pub mod Building
+pub mod Fitting
+pub mod Laws

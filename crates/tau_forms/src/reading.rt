@@ -1,0 +1,53 @@
+//! Programs read from forms.
+ghost use Rattle.std.specs.Prelude.{◌≡◌, ◌+◌, ◌<◌, ◌≤◌, ◌^◌, length, map, IfOk, IfErr};
+ghost use Rattle.tau_sexpr.specs.Form.{tree_of};
+ghost use Rattle.tau_sexpr.specs.Tree.{depths, inside, size_of_all};
+ghost use Rattle.tau_tree.specs.Sound.{Sound};
+ghost use Rattle.tau_forms.specs.Faults.{IsFault, ProgramFaultAt};
+ghost use Rattle.tau_forms.specs.Meaning.{Means};
+ghost use Rattle.tau_forms.specs.Passing.{IsRead, Tells};
+ghost use Rattle.tau_forms.specs.Tops.{tables_of};
+
+use crate::ProgramError;
+use crate::limits::limit_of;
+use crate::programs::build_program;
+use crate::tables::{Tables, collect};
+use crate::tops::check_forms;
+use std::alloc::Global;
+use tau_sexpr::{Form, Forms};
+use tau_tree::Program;
+
+/// The program that forms mean (docs/formats.md, "Programs"). It is sound.
+/// `Limit` comes exactly where there are too many lists of a kind, the least such kind. Otherwise `Shape`, `Unknown` and
+/// `Twice` come exactly at the first faulty node; where it has several faults, in this order.
+pub fn program_of(alloc: Global, forms: &Forms) -> Result<Program, ProgramError>
+    requires { depths forms.now ≤ 200 }
+    ensures program { IfOk result (Means forms.now) }
+    ensures sound { IfOk result Sound }
+    ensures fault { IfErr result (IsFault forms.now) }
+    ensures read { (p : Program) → Means forms.now p → IfErr result (λ e. e ≡ ProgramError.NoMemory) }
+{
+    let items = forms.items();
+    if let Some(which) = limit_of(items) {
+        return Err(ProgramError::Limit { which });
+    }
+    // So many nodes don't fit into memory, so their numbers fit into 64 bits.
+    if forms.size() == u64::MAX {
+        return Err(ProgramError::NoMemory);
+    }
+    let tables = collect(alloc, items)?;
+    read(alloc, items, &tables)
+}
+
+// The program of forms that keep the limits, or their first fault.
+fn read(alloc: Global, forms: &[Form], tables: &Tables) -> Result<Program, ProgramError>
+    requires tables { tables.now ≡ tables_of (map tree_of forms.now) }
+    requires nodes { tables.now.nodes ≤ 64 }
+    requires few { length tables.now.starts ≤ 1024 }
+    requires range { size_of_all (inside (map tree_of forms.now)) + 1 < 2 ^ 64 }
+    ensures program { IfOk result (IsRead (map tree_of forms.now)) }
+    ensures fault { IfErr result (Tells (ProgramFaultAt (map tree_of forms.now)) 0) }
+{
+    check_forms(alloc, forms, tables)?;
+    Ok(build_program(alloc, forms, tables)?)
+}

@@ -1,0 +1,164 @@
+//! What a program defines.
+ghost use Rattle.std.specs.Prelude.{◌≡◌, [], ◌∷◌, ◌++◌, List, Some, map, option_map, IfOk, OnOk};
+ghost use Rattle.tau_sexpr.specs.Form.{tree_of};
+ghost use Rattle.tau_sexpr.specs.Tree.{Tree, inside};
+ghost use Rattle.tau_forms.specs.Defined.{Defines, IsDefined, name_told as name_in_items, nodes_told as nodes_in_items};
+ghost use Rattle.tau_forms.specs.Tops.{sort_of as sort_in_tree, tables_of, with_name};
+
+use crate::keywords::{Sort, sort_of};
+use crate::rows::split_head;
+use std::alloc::{AllocError, Global};
+use tau_sexpr::{Form, Word};
+use tau_value::{Names, count_of, is_name};
+
+/// The names that the lists at the top define, each once, and how many nodes there are.
+#[derive(Drop)]
+pub(crate) struct Tables {
+    pub(crate) behaviours: Names,
+    pub(crate) starts: Names,
+    pub(crate) nodes: u64,
+}
+
+/// What the lists at the top up to a place define: the names of behaviours and starts, each once, and how many nodes there
+/// are, if one of them tells it.
+#[derive(Drop)]
+pub(crate) struct Defined {
+    pub(crate) behaviours: Names,
+    pub(crate) starts: Names,
+    pub(crate) nodes: Option<u64>,
+}
+
+impl Defined {
+    /// Before the first list. It takes no memory.
+    pub(crate) fn new(alloc: Global) -> Defined
+        ensures { IsDefined [] result }
+    {
+        Defined {
+            behaviours: Names::new(alloc),
+            starts: Names::new(alloc),
+            nodes: None,
+        }
+    }
+
+    /// Goes on behind the next form. The error is want of memory.
+    pub(crate) fn note(&mut self, form: &Form) -> Result<(), AllocError>
+        ensures { OnOk result ((before : List Tree) → IsDefined before self.old
+            → IsDefined (before ++ tree_of form.now ∷ []) self.new) }
+    {
+        match definition_of(form) {
+            Definition::Behaviour(name) => add(&mut self.behaviours, name),
+            Definition::Start(name) => add(&mut self.starts, name),
+            Definition::Nodes(nodes) => {
+                if self.nodes.is_none() {
+                    self.nodes = Some(nodes);
+                }
+                Ok(())
+            }
+            Definition::Nothing => Ok(()),
+        }
+    }
+}
+
+/// What forms at the top define. The error is want of memory.
+pub(crate) fn collect(alloc: Global, forms: &[Form]) -> Result<Tables, AllocError>
+    ensures { IfOk result (λ t. t ≡ tables_of (map tree_of forms.now)) }
+{
+    let mut defined = Defined::new(alloc);
+    for form in forms {
+        defined.note(form)?;
+    }
+    Ok(Tables {
+        behaviours: defined.behaviours,
+        starts: defined.starts,
+        nodes: defined.nodes.unwrap_or(64),
+    })
+}
+
+/// What a form at the top is, by the word that begins it.
+pub(crate) fn sort_of_form(form: &Form) -> Sort
+    ensures { result ≡ sort_in_tree (tree_of form.now) }
+{
+    let Form::List(items) = form else {
+        return Sort::Other;
+    };
+    match split_head(items.items()) {
+        Some(list) => sort_of(list.head),
+        None => Sort::Other,
+    }
+}
+
+// What one form at the top defines.
+#[derive(Clone, Copy, Drop)]
+enum Definition<'f> {
+    Behaviour(&'f Word),
+    Start(&'f Word),
+    Nodes(u64),
+    Nothing,
+}
+
+fn definition_of(form: &Form) -> Definition<'_>
+    ensures { Defines (tree_of form.now) result }
+{
+    let Form::List(items) = form else {
+        return Definition::Nothing;
+    };
+    let Some(list) = split_head(items.items()) else {
+        return Definition::Nothing;
+    };
+    match sort_of(list.head) {
+        Sort::Nodes => match nodes_told(list.rest) {
+            Some(nodes) => Definition::Nodes(nodes),
+            None => Definition::Nothing,
+        },
+        Sort::Behaviour => match name_told(list.rest) {
+            Some(name) => Definition::Behaviour(name),
+            None => Definition::Nothing,
+        },
+        Sort::Start => match name_told(list.rest) {
+            Some(name) => Definition::Start(name),
+            None => Definition::Nothing,
+        },
+        Sort::Post | Sort::At | Sort::Other => Definition::Nothing,
+    }
+}
+
+// The first of these forms, if it is a name.
+fn name_told(items: &[Form]) -> Option<&Word>
+    ensures { option_map (λ w. w.now) result ≡ name_in_items (inside (map tree_of items.now)) }
+{
+    let list = split_head(items)?;
+    if is_name(list.head) {
+        Some(list.head)
+    } else {
+        None
+    }
+}
+
+/// The number of nodes that these forms tell: one count from 1 to 64.
+pub(crate) fn nodes_told(items: &[Form]) -> Option<u64>
+    ensures { result ≡ nodes_in_items (inside (map tree_of items.now)) }
+{
+    let list = split_head(items)?;
+    if !list.rest.is_empty() {
+        return None;
+    }
+    let count = count_of(list.head)?;
+    if count >= 1 && count < 65 {
+        Some(count)
+    } else {
+        None
+    }
+}
+
+// Adds a name, if it isn't there.
+fn add(names: &mut Names, name: &Word) -> Result<(), AllocError>
+    ensures { OnOk result (names.new ≡ with_name names.old (Some name.now)) }
+{
+    if names.find(name).is_some() {
+        return Ok(());
+    }
+    match names.push(name.copy()?) {
+        Ok(()) => Ok(()),
+        Err((_name, failed)) => Err(failed),
+    }
+}

@@ -1,0 +1,5 @@
+pub mod Prefixes
+pub mod Counting
+pub mod Surveys
+pub mod SavedRows
+pub mod Uniqueness

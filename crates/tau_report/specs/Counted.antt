@@ -1,0 +1,56 @@
+-- The counts of steps, kept step by step beside the states.
+use Rattle.std.specs.Prelude.{◌≡◌, ℕ, ◌+◌, ◌<◌, Bool, if◌then◌else◌, List}
+use Rattle.tau_value.specs.declared.shared.Value.{Value}
+use Rattle.tau_trace.specs.declared.step.Step.{Step}
+use Rattle.tau_trace.specs.Steps.{is_checkpoint}
+use Rattle.tau_trace.specs.Run.{Run, appended}
+use Rattle.tau_trace.specs.Known.{MayFollow, WellFormed}
+use Rattle.tau_states.specs.declared.state_record.StateRecord.{StateRecord}
+use Rattle.tau_states.specs.Table.{Holds}
+use Rattle.tau_report.specs.declared.counts.Counts.{Counts}
+use Rattle.tau_report.specs.Report.{steps_with, is_hold, is_drop, is_lose, falling_steps}
+
+-- the counts of a run
+abbrev pub counts_in : Run → Counts
+counts_in T = record {
+  checkpoints = steps_with is_checkpoint T;
+  holds = steps_with is_hold T;
+  drops = steps_with is_drop T;
+  falls = falling_steps T;
+  losses = steps_with is_lose T;
+}
+
+abbrev pub no_counts : Counts
+no_counts = record { checkpoints = 0; holds = 0; drops = 0; falls = 0; losses = 0 }
+
+-- one more where the step passes
+abbrev pub one_if : Bool → ℕ
+one_if b = if b then 1 else 0
+
+-- the counts with one step more
+abbrev pub counts_after : Step → Bool → Counts → Counts
+counts_after s falls c = record {
+  checkpoints = c.checkpoints + one_if (is_checkpoint s);
+  holds = c.holds + one_if (is_hold s);
+  drops = c.drops + one_if (is_drop s);
+  falls = c.falls + one_if falls;
+  losses = c.losses + one_if (is_lose s);
+}
+
+-- counts of fewer steps than a trace may have
+pub record AreFew (c : Counts) : Type 0 where
+  pub checkpoints : c.checkpoints < 1000000
+  pub holds : c.holds < 1000000
+  pub drops : c.drops < 1000000
+  pub falls : c.falls < 1000000
+  pub losses : c.losses < 1000000
+
+-- the states and the counts after a run
+pub record IsSurvey (T : Run) (opening : List Value) (records : List StateRecord) (counts : Counts) : Type 0 where
+  pub holds : Holds T opening records
+  pub counts_are : counts ≡ counts_in T
+
+-- whatever run the old ones are of, the new ones are of that run and the step
+abbrev pub AdvancesSurvey : Step → List StateRecord → Counts → List StateRecord → Counts → Type 0
+AdvancesSurvey s old counts new more =
+    (T : Run) (opening : List Value) → WellFormed T → MayFollow T s → IsSurvey T opening old counts → IsSurvey (appended T s) opening new more

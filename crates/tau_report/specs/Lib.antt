@@ -1,0 +1,4 @@
+pub mod Report
+pub mod Counted
+pub mod Rows
+pub mod Laws

@@ -1,0 +1,14 @@
+//! The report of a trace: saved states and counts (docs/formats.md, "Report").
+#![tactic(auto)]
+
+mod counts;
+pub mod laws;
+mod parts;
+mod saved;
+mod survey;
+mod writing;
+
+pub use writing::{report, report_forms};
+
+#[cfg(test)]
+mod tests;

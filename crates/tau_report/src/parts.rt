@@ -1,0 +1,60 @@
+//! Parts of forms.
+ghost use Rattle.std.specs.Prelude.{◌≡◌, ◌∷◌, ◌++◌, [], All, IfOk, OnOk};
+ghost use Rattle.tau_sexpr.specs.Bytes.{IsWordByte};
+ghost use Rattle.tau_sexpr.specs.Form.{tree_of};
+ghost use Rattle.tau_sexpr.specs.Tree as tree;
+ghost use Rattle.tau_trace.specs.StepForms.{who_form, count_form};
+ghost use Rattle.tau_report.specs.Report.{count_of};
+
+use std::alloc::{AllocError, Global};
+use tau_sexpr::{Form, Forms, Word};
+use tau_trace::Opening;
+use tau_value::word_of_count;
+
+/// Adds a form at the end.
+pub(crate) fn add(forms: &mut Forms, form: Form) -> Result<(), AllocError>
+    ensures { OnOk result (forms.new ≡ forms.old ++ tree_of form ∷ []) }
+{
+    match forms.push(form) {
+        Ok(()) => Ok(()),
+        Err((_form, failed)) => Err(failed),
+    }
+}
+
+/// A list that begins with a word.
+pub(crate) fn headed(alloc: Global, bytes: &[u8]) -> Result<Forms, AllocError>
+    requires { All IsWordByte bytes.now }
+    ensures { IfOk result (λ f. f ≡ tree.word bytes.now ∷ []) }
+{
+    let mut forms = Forms::new(alloc);
+    add(&mut forms, Form::Word(Word::of(alloc, bytes)?))?;
+    Ok(forms)
+}
+
+/// The name of a start, or the number of another transactor.
+pub(crate) fn form_of_who(alloc: Global, opening: &Opening, who: u32) -> Result<Form, AllocError>
+    ensures { IfOk result (λ f. tree_of f ≡ who_form opening.now who) }
+{
+    let word = match opening.names.item(who as usize) {
+        Some(name) => name.copy()?,
+        None => word_of_count(alloc, u64::from(who))?,
+    };
+    Ok(Form::Word(word))
+}
+
+/// A number.
+pub(crate) fn form_of_count(alloc: Global, count: u32) -> Result<Form, AllocError>
+    ensures { IfOk result (λ f. tree_of f ≡ count_form count) }
+{
+    Ok(Form::Word(word_of_count(alloc, u64::from(count))?))
+}
+
+/// A count with its word.
+pub(crate) fn form_of_named(alloc: Global, bytes: &[u8], count: u32) -> Result<Form, AllocError>
+    requires { All IsWordByte bytes.now }
+    ensures { IfOk result (λ f. tree_of f ≡ count_of bytes.now count) }
+{
+    let mut items = headed(alloc, bytes)?;
+    add(&mut items, form_of_count(alloc, count)?)?;
+    Ok(Form::List(items))
+}
