@@ -18,27 +18,26 @@ LIMIT = 16 * 1024 * 1024
 BEHAVIOURS = 256
 
 
+# Expressions with places for others; the last shape, an operation, is drawn apart.
+SHAPES = [
+    "(if {} {} {})",
+    "(let x {} {})",
+    "(fold {} {} (x y) {})",
+    "(send (name t1) {})",
+    "(seq {} {} {})",
+    "(list {} {} {} {})",
+    "(set {})",
+]
+LEAVES = ["msg", "self", "unit", "true", "x", "y", "7", "-12345", '"text"', "(get)", "(name t0)"]
+
+
 def expression(draw, depth):
     """An expression in which the variables `x` and `y` are bound."""
     if depth == 0:
-        return draw.choice(["msg", "self", "unit", "true", "x", "y", "7", "-12345", '"text"', "(get)", "(name t0)"])
-    part = lambda: expression(draw, depth - 1)
-    shape = draw.randrange(8)
-    if shape == 0:
-        return f"(if {part()} {part()} {part()})"
-    if shape == 1:
-        return f"(let x {part()} {part()})"
-    if shape == 2:
-        return f"(fold {part()} {part()} (x y) {part()})"
-    if shape == 3:
-        return f"(send (name t1) {part()})"
-    if shape == 4:
-        return f"(seq {part()} {part()} {part()})"
-    if shape == 5:
-        return f"(list {part()} {part()} {part()} {part()})"
-    if shape == 6:
-        return f"(set {part()})"
-    return f"({draw.choice('+-*/%<=')} {part()} {part()})"
+        return draw.choice(LEAVES)
+    number = draw.randrange(len(SHAPES) + 1)
+    shape = SHAPES[number] if number < len(SHAPES) else f"({draw.choice('+-*/%<=')} {{}} {{}})"
+    return shape.format(*[expression(draw, depth - 1) for _ in range(shape.count("{}"))])
 
 
 def behaviours(size):
