@@ -15,12 +15,12 @@ use Rattle.tau_trace.specs.Known.{WellFormed}
 use Rattle.tau_trace.proofs.Agreement.{born-grows, origin_before}
 use Rattle.tau_past.specs.Decisions.{Verdict, takes, take}
 use Rattle.tau_script.specs.Openings.{program_opening}
-use Rattle.tau_rules.specs.Turns.{HasBehaviour, start, created}
-use Rattle.tau_rules.specs.Fits.{Arrives}
+use Rattle.tau_legal.specs.Turns.{HasBehaviour, start, created}
+use Rattle.tau_legal.specs.Fits.{Arrives}
 use Rattle.tau_rules.specs.System.{is_plain, IsPlain}
 use Rattle.tau_rules.proofs.SystemLemmas.{length-map}
-use Rattle.tau_rules.proofs.TraceLemmas.{below_length}
-use Rattle.tau_rules.proofs.ValueLemmas.{at_all}
+use Rattle.tau_legal.proofs.TraceLemmas.{below_length}
+use Rattle.tau_legal.proofs.ValueLemmas.{at_all}
 
 no_choice : (b : Bool) → (if b then keep else keep) ≡ fall → ⊥
 no_choice true e = cc

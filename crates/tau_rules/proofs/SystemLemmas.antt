@@ -23,9 +23,9 @@ use Rattle.tau_states.specs.declared.state_record.StateRecord.{StateRecord}
 use Rattle.tau_states.specs.Opening.{opening_states}
 use Rattle.tau_states.specs.Table.{Holds, Advances, opened_run}
 use Rattle.tau_rules.specs.declared.records.Record.{Record}
-use Rattle.tau_rules.specs.Turns.{HasBehaviour, start, HasValue, post}
-use Rattle.tau_rules.specs.Fits.{Fits}
-use Rattle.tau_rules.specs.Traces.{Fitting}
+use Rattle.tau_legal.specs.Turns.{HasBehaviour, start, HasValue, post}
+use Rattle.tau_legal.specs.Fits.{Fits}
+use Rattle.tau_legal.specs.Traces.{Fitting}
 use Rattle.tau_rules.specs.Records.{IsRecord, AreRecords, AreValues, HasStarts, HasPosts}
 use Rattle.tau_rules.specs.System.{IsSystem, IsPlain, is_plain}
 use Rattle.std.proofs.lemmas.List.{length-append}
@@ -38,11 +38,11 @@ use Rattle.tau_past.specs.KnownLaws.{KeepsTurns, keeps_pending}
 use Rattle.tau_past.proofs.PendingLemmas.{turns_after_step}
 use Rattle.tau_rules.specs.declared.records.RecordChange.{RecordChange}
 use Rattle.tau_rules.specs.declared.records.RecordChange.TheVariants as changes
-use Rattle.tau_rules.specs.Turns.{message}
+use Rattle.tau_legal.specs.Turns.{message}
 use Rattle.tau_rules.specs.Records.{IsChanged, Changes, goes_on as goes_on_with, sent_value, with_sent}
-use Rattle.tau_rules.proofs.TraceLemmas.{below_length}
+use Rattle.tau_legal.proofs.TraceLemmas.{below_length}
 use Rattle.tau_rules.proofs.TurnLemmas.{record_kept, record_replied, record_ended, record_begun, value_kept}
-use Rattle.tau_rules.proofs.TraceLemmas.{fitting_grows}
+use Rattle.tau_legal.proofs.TraceLemmas.{fitting_grows}
 
 -- an item of a list whose images are those of another one has a counterpart there
 counterpart : {A B C : Type 0} (f : A → C) (g : B → C) (xs : List A) (ys : List B) (k : ℕ) (x : A) → map f xs ≡ map g ys → slice_get xs k ≡ Some x → (y : B) × (slice_get ys k ≡ Some y) × (g y ≡ f x)

@@ -17,9 +17,9 @@ use Rattle.tau_trace.proofs.Indexing.{len-appended}
 use Rattle.tau_past.specs.KnownLaws.{TurnsAfterStep, KeepsTurns, keeps_pending}
 use Rattle.tau_past.proofs.PendingLemmas.{turns_after_step}
 use Rattle.tau_states.specs.Opening.{opening_states}
-use Rattle.tau_rules.specs.Turns.{HasBehaviour, HasValue, Replies, RepliesOf, before, another, reply}
-use Rattle.tau_rules.proofs.LocalLemmas.{replies-same, replies_of-same, behaviour-same, value-same}
-use Rattle.tau_rules.proofs.TraceLemmas.{known_at_end}
+use Rattle.tau_legal.specs.Turns.{HasBehaviour, HasValue, Replies, RepliesOf, before, another, reply}
+use Rattle.tau_legal.proofs.LocalLemmas.{replies-same, replies_of-same, behaviour-same, value-same}
+use Rattle.tau_legal.proofs.TraceLemmas.{known_at_end}
 use Rattle.tau_trace.specs.Steps.{ends_turn, is_send}
 use Rattle.tau_trace.specs.Run.{Does}
 use Rattle.tau_past.specs.Carried.{touches}

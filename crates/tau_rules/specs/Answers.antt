@@ -12,7 +12,7 @@ use Rattle.tau_rules.specs.declared.answers.Delivered.{Delivered}
 use Rattle.tau_rules.specs.declared.answers.Delivered.TheVariants.{Began, Dropped, Fell, Voided}
 use Rattle.tau_rules.specs.declared.errors.DeliverError.{DeliverError}
 use Rattle.tau_rules.specs.declared.errors.DeliverError.TheVariants.{NotInFlight, Busy, NoMemory}
-use Rattle.tau_rules.specs.Turns.{HasBehaviour, HasValue}
+use Rattle.tau_legal.specs.Turns.{HasBehaviour, HasValue}
 use Rattle.tau_rules.specs.System.{Core, with_step}
 
 -- a Take of the message was appended, and the job is that of the turn that it opens

@@ -1,7 +1,3 @@
-pub mod Turns
-pub mod Fits
-pub mod Traces
-pub mod Laws
 pub mod Records
 pub mod System
 pub mod Answers

@@ -17,7 +17,7 @@ use Rattle.tau_past.specs.KnownLaws.{keeps_pending}
 use Rattle.tau_rules.specs.declared.records.Record.{Record}
 use Rattle.tau_rules.specs.declared.records.RecordChange.{RecordChange}
 use Rattle.tau_rules.specs.declared.records.RecordChange.TheVariants as changes
-use Rattle.tau_rules.specs.Turns.{HasBehaviour, HasValue, Replies, RepliesOf}
+use Rattle.tau_legal.specs.Turns.{HasBehaviour, HasValue, Replies, RepliesOf}
 
 -- where a turn is open for t, the record has the value of its message and its replies
 pub record IsOfTurn (P : Program) (T : Run) (t place m : ℕ) (r : Record) : Type 0 where

@@ -12,7 +12,7 @@ use Rattle.tau_states.specs.Opening.{opening_states}
 use Rattle.tau_states.specs.Table.{Holds}
 use Rattle.tau_rules.specs.declared.records.Record.{Record}
 use Rattle.tau_rules.specs.Records.{AreRecords, AreValues}
-use Rattle.tau_rules.specs.Traces.{Fitting}
+use Rattle.tau_legal.specs.Traces.{Fitting}
 
 -- the program, and the run so far
 pub record Core : Type 0 where

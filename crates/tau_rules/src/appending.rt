@@ -5,7 +5,7 @@ ghost use Rattle.tau_trace.specs.Steps.{actor};
 ghost use Rattle.tau_trace.specs.Run.{len};
 ghost use Rattle.tau_trace.specs.Numbering.{born};
 ghost use Rattle.tau_trace.specs.Known.{MayFollow};
-ghost use Rattle.tau_rules.specs.Fits.{Fits as FitsAt};
+ghost use Rattle.tau_legal.specs.Fits.{Fits as FitsAt};
 ghost use Rattle.tau_rules.specs.Records.{Changes, sent_value, with_sent};
 ghost use Rattle.tau_rules.specs.System.{is_plain, with_step};
 

@@ -5,16 +5,11 @@ mod answers;
 mod appending;
 mod delivering;
 mod errors;
-mod laws;
 mod records;
 mod system;
 
 pub use answers::{Acted, Delivered, Standing};
 pub use errors::{ActError, DeliverError, FailError, LoseError};
-pub use laws::{
-    empty_traces_are_complete, fitting_is_local, fitting_traces_are_safe, fitting_traces_grow,
-    legal_traces_are_safe, legal_traces_grow, legality_is_local,
-};
 pub use system::System;
 
 #[cfg(test)]

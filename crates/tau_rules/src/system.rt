@@ -6,7 +6,7 @@ ghost use Rattle.tau_trace.specs.Known.{WellFormed};
 ghost use Rattle.tau_script.specs.Openings.{program_opening};
 ghost use Rattle.tau_states.specs.Opening.{opening_states};
 ghost use Rattle.tau_states.specs.Answers.{IsStateAfter, IsSavedAfter};
-ghost use Rattle.tau_rules.specs.Traces.{Fitting};
+ghost use Rattle.tau_legal.specs.Traces.{Fitting};
 ghost use Rattle.tau_rules.specs.Records.{HasStarts, HasPosts};
 
 use crate::records::Record;

@@ -1,22 +1,8 @@
-//! Each law once, and a system that opens.
-use crate::{
-    System, empty_traces_are_complete, fitting_is_local, fitting_traces_are_safe,
-    fitting_traces_grow, legal_traces_are_safe, legal_traces_grow, legality_is_local,
-};
+//! A system that opens.
+use crate::System;
 use std::alloc::Global;
 use std::process::Abort;
 use tau_tree::{Behaviours, Posts, Program, Script, Starts};
-
-#[test]
-fn laws_are_called() {
-    empty_traces_are_complete();
-    fitting_is_local();
-    fitting_traces_are_safe();
-    fitting_traces_grow();
-    legal_traces_are_safe();
-    legal_traces_grow();
-    legality_is_local();
-}
 
 /// A program of one node and nothing else.
 fn nobody(alloc: Global) -> Program {

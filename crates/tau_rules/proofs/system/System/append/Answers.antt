@@ -8,7 +8,7 @@ use Rattle.tau_trace.specs.Known.{MayFollow}
 use Rattle.tau_states.specs.declared.state_record.StateRecord.{StateRecord}
 use Rattle.tau_states.specs.Effects.{changed}
 use Rattle.tau_states.specs.Table.{Advances}
-use Rattle.tau_rules.specs.Fits.{Fits as FitsAt}
+use Rattle.tau_legal.specs.Fits.{Fits as FitsAt}
 use Rattle.tau_rules.specs.Records.{Changes, sent_value, with_sent}
 use Rattle.tau_rules.specs.System.{Core, is_plain, with_step}
 use Rattle.tau_rules.proofs.SystemLemmas.{made}

@@ -11,8 +11,8 @@ use Rattle.tau_trace.specs.Turns.{IsOpenTurn}
 use Rattle.tau_past.specs.Decisions.{Verdict, takes}
 use Rattle.tau_eval.specs.Turn.{IsTurnOf}
 use Rattle.tau_rules.specs.declared.records.Record.{Record}
-use Rattle.tau_rules.specs.Turns.{HasBehaviour, HasValue}
-use Rattle.tau_rules.specs.Fits.{Arrives}
+use Rattle.tau_legal.specs.Turns.{HasBehaviour, HasValue}
+use Rattle.tau_legal.specs.Fits.{Arrives}
 use Rattle.tau_rules.specs.System.{Core, with_step}
 use Rattle.tau_rules.specs.Answers.{IsBegun}
 use Rattle.tau_rules.proofs.DeliverLemmas.{arrives, is_taken, receiver_exists, behaviour_exists, index_get}

@@ -11,9 +11,9 @@ use Rattle.tau_past.specs.Carried.{is_set}
 use Rattle.tau_past.specs.Decisions.{Verdict, falls, FallsBy, fall}
 use Rattle.tau_past.specs.Safety.{KeepsRules}
 use Rattle.tau_past.proofs.Safety.{safety}
-use Rattle.tau_rules.specs.Fits.{Fits}
-use Rattle.tau_rules.specs.Traces.{Fitting}
-use Rattle.tau_rules.specs.Laws.{FittingTracesAreSafe}
+use Rattle.tau_legal.specs.Fits.{Fits}
+use Rattle.tau_legal.specs.Traces.{Fitting}
+use Rattle.tau_legal.specs.Laws.{FittingTracesAreSafe}
 
 cause : (T : Run) (t k m : ℕ) → Verdict T t k m falls → FallsBy T t k m
 cause T t k m (fall f) = f

@@ -12,7 +12,7 @@ use Rattle.tau_trace.specs.Histories.{history, Ended, IsLiving}
 use Rattle.tau_trace.specs.Turns.{IsOpenTurn}
 use Rattle.tau_past.specs.Decisions.{Verdict, takes, drops, falls, Free}
 use Rattle.tau_eval.specs.Eff as eff
-use Rattle.tau_rules.specs.Turns.{TurnHas}
+use Rattle.tau_legal.specs.Turns.{TurnHas}
 
 -- message m can be received by t at place k: it is in flight to t, and t hasn't ended and is in no turn
 pub record Arrives (T : Run) (t m k : ℕ) : Type 0 where

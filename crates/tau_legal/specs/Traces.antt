@@ -5,7 +5,7 @@ use Rattle.tau_trace.specs.declared.step.Step.{Step}
 use Rattle.tau_trace.specs.Run.{Run, step_at}
 use Rattle.tau_script.specs.Openings.{program_opening}
 use Rattle.tau_script.specs.Scripts.{Allows, IsComplete}
-use Rattle.tau_rules.specs.Fits.{Fits}
+use Rattle.tau_legal.specs.Fits.{Fits}
 
 -- the opening is the program's, and each step fits after the steps before it
 pub record Fitting (P : Program) (T : Run) : Type 0 where

@@ -33,8 +33,8 @@ use Rattle.tau_eval.proofs.KnownLemmas.{effects_known}
 use Rattle.tau_tree.specs.Parts.{Throughout, NamesStart, NamesBehaviour, HasShortText}
 use Rattle.tau_trace.specs.Steps.{is_new}
 use Rattle.tau_trace.proofs.Counts.{count-suc}
-use Rattle.tau_rules.proofs.TraceLemmas.{below_length}
-use Rattle.tau_rules.specs.Turns.{HasBehaviour, start, created, HasBody, HasValue, post, message, Replies, RepliesOf, before, another, reply, TurnHas}
+use Rattle.tau_legal.proofs.TraceLemmas.{below_length}
+use Rattle.tau_legal.specs.Turns.{HasBehaviour, start, created, HasBody, HasValue, post, message, Replies, RepliesOf, before, another, reply, TurnHas}
 
 -- an item of a list has what all items have
 pub at_all : {A : Type 0} (P : A → Type 0) (xs : List A) (k : ℕ) (x : A) → All P xs → slice_get xs k ≡ Some x → P x

@@ -1,5 +1,5 @@
 //! Laws of fitting and legal traces, each the contract of a function that does nothing.
-ghost use Rattle.tau_rules.specs.Laws.{FittingTracesAreSafe, LegalTracesAreSafe, FittingIsLocal, LegalityIsLocal, FittingTracesGrow, LegalTracesGrow, EmptyTracesAreComplete};
+ghost use Rattle.tau_legal.specs.Laws.{FittingTracesAreSafe, LegalTracesAreSafe, FittingIsLocal, LegalityIsLocal, FittingTracesGrow, LegalTracesGrow, EmptyTracesAreComplete};
 
 /// Whatever the program, a trace in which every step fits is safe: no checkpoint's causal past, found from the whole list of
 /// steps, holds a state rolled back anywhere in it (docs/definitions.md, "Fitting and legal steps").

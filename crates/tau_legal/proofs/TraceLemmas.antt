@@ -15,11 +15,11 @@ use Rattle.tau_script.specs.Openings.{program_opening}
 use Rattle.tau_script.specs.Cursors.{first_cursor, PassesTo, rests, IsPassedOver, IsRipe, IsDueAt, CursorAt}
 use Rattle.tau_script.specs.Scripts.{IsDue, NoneDue, Allows}
 use Rattle.tau_script.proofs.Same.{same_script}
-use Rattle.tau_rules.specs.Fits.{Fits}
-use Rattle.tau_rules.specs.Traces.{Fitting, IsLegal, Legal, Complete}
-use Rattle.tau_rules.specs.Laws.{FittingTracesGrow, LegalTracesGrow, LegalityIsLocal, LegalTracesAreSafe, EmptyTracesAreComplete}
-use Rattle.tau_rules.proofs.LocalLemmas.{fits_same}
-use Rattle.tau_rules.proofs.SafetyLemmas.{fitting_safe}
+use Rattle.tau_legal.specs.Fits.{Fits}
+use Rattle.tau_legal.specs.Traces.{Fitting, IsLegal, Legal, Complete}
+use Rattle.tau_legal.specs.Laws.{FittingTracesGrow, LegalTracesGrow, LegalityIsLocal, LegalTracesAreSafe, EmptyTracesAreComplete}
+use Rattle.tau_legal.proofs.LocalLemmas.{fits_same}
+use Rattle.tau_legal.proofs.SafetyLemmas.{fitting_safe}
 
 pub legal_fitting : (P : Program) (T : Run) → Legal P T → Fitting P T
 legal_fitting P T l = record { opening = l.opening; steps = λ k s e. (l.steps k s e).fits }

@@ -6,8 +6,8 @@ use Rattle.tau_trace.specs.Run.{Run, Agree, len, appended}
 use Rattle.tau_trace.specs.Known.{WellFormed, IsKnownAt}
 use Rattle.tau_past.specs.Safety.{Safe}
 use Rattle.tau_script.specs.Openings.{program_opening}
-use Rattle.tau_rules.specs.Fits.{Fits}
-use Rattle.tau_rules.specs.Traces.{Fitting, IsLegal, Legal, Complete}
+use Rattle.tau_legal.specs.Fits.{Fits}
+use Rattle.tau_legal.specs.Traces.{Fitting, IsLegal, Legal, Complete}
 
 -- whatever the program, a fitting trace is safe
 abbrev pub FittingTracesAreSafe : Type 0

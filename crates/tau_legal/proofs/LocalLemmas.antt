@@ -24,8 +24,8 @@ use Rattle.tau_past.specs.LocalLaws.{SameDecisionsAt}
 use Rattle.tau_past.proofs.Agreement.{decisions_local, point-same}
 use Rattle.tau_states.specs.Opening.{opening_states}
 use Rattle.tau_eval.specs.Eff.{Eff}
-use Rattle.tau_rules.specs.Turns.{HasBehaviour, start, created, HasBody, HasValue, post, message, Replies, RepliesOf, before, another, reply, TurnHas}
-use Rattle.tau_rules.specs.Fits.{Arrives, ArrivesLate, LacksNumber, Fits, IsStable, IsVolatile}
+use Rattle.tau_legal.specs.Turns.{HasBehaviour, start, created, HasBody, HasValue, post, message, Replies, RepliesOf, before, another, reply, TurnHas}
+use Rattle.tau_legal.specs.Fits.{Arrives, ArrivesLate, LacksNumber, Fits, IsStable, IsVolatile}
 
 module _ {T U : Run} where
   pub behaviour-same : (P : Program) (t k b : ℕ) → Agree T U k → t < born T k → HasBehaviour P T t b → HasBehaviour P U t b

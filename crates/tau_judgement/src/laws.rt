@@ -1,0 +1,28 @@
+//! Laws of decisions on views, each the contract of a function that does nothing.
+ghost use Rattle.tau_judgement.specs.Laws.{FallsAlike, DropsAlike, FreeAlike, ViewsAreSettled, MergedViewsAreSettled, VerdictsAgree, FreedomAgrees};
+
+use tau_view::View;
+
+/// On merged views a Fallen point is known exactly where one is by what was heard.
+pub fn falls_and_drops_agree()
+    ensures falls { FallsAlike }
+    ensures drops { DropsAlike }
+{}
+
+/// Where the rules are kept, a transactor is free on its view exactly where it is by what it has heard.
+pub fn freedom_agrees()
+    ensures { FreeAlike }
+{}
+
+/// Where the rules are kept, each point of the known past of a Closed point is firm, on the view of what was heard and on
+/// a transactor's merged with a message's.
+pub fn views_are_settled()
+    ensures own { ViewsAreSettled }
+    ensures merged { MergedViewsAreSettled }
+{}
+
+/// Whatever a type of view drops, the decisions on its views are those by what was heard.
+pub fn decisions_agree<V: View>()
+    ensures verdict { VerdictsAgree V.drops_edge V.drops_root }
+    ensures freedom { FreedomAgrees V.drops_edge V.drops_root }
+{}

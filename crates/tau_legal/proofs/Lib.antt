@@ -1,0 +1,4 @@
+pub mod SafetyLemmas
+pub mod LocalLemmas
+pub mod TraceLemmas
+pub mod ValueLemmas

@@ -1,0 +1,4 @@
+pub mod Turns
+pub mod Fits
+pub mod Traces
+pub mod Laws

@@ -1,5 +1,0 @@
-use Rattle.tau_rules.proofs.TraceLemmas.{empty_complete as the_law}
-use Rattle.tau_rules.proofs.laws.empty_traces_are_complete.Goals as goal
-
-pub returns : goal.returns
-returns c = the_law

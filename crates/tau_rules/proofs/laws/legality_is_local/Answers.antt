@@ -1,5 +1,0 @@
-use Rattle.tau_rules.proofs.TraceLemmas.{legal_same as the_law}
-use Rattle.tau_rules.proofs.laws.legality_is_local.Goals as goal
-
-pub returns : goal.returns
-returns c = the_law
