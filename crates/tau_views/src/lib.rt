@@ -1,0 +1,7 @@
+//! The views of a run's transactors and of its messages in flight, kept step by step (docs/rules.md, "Views"; docs/definitions.md,
+//! "View of what was heard").
+#![tactic(auto)]
+
+mod views;
+
+pub use views::{ViewChange, Views};
