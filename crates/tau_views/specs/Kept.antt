@@ -1,5 +1,6 @@
 -- The views that are kept of a run (docs/definitions.md, "View of what was heard").
-use Rattle.std.specs.Prelude.{◌≡◌, ◌↔◌, ℕ, ◌<◌, IsTrue, Option, Some, None, List, [], ◌∷◌, ◌++◌, length, slice_get, slice_set}
+use Rattle.std.specs.Prelude.{◌≡◌, ℕ, ◌<◌, IsTrue, Option, Some, None, List, length, map, slice_get}
+use Rattle.std.specs.Option.{option_map}
 use Rattle.tau_view.specs.Held.{Held}
 use Rattle.tau_view.specs.Trim.{EdgeTest, RootTest, trim}
 use Rattle.tau_trace.specs.declared.step.Step.{Step}
@@ -18,6 +19,13 @@ pub record IsTrimmed (de : EdgeTest) (dr : RootTest) (IsWhole : Held → Type 0)
   pub whole : Held
   pub is_whole : IsWhole whole
   pub is : h ≡ trim de dr whole
+
+-- what the views of transactors hold, and those of messages; of a message that isn't in flight there is none
+abbrev pub held_of : {V : Type 0} → (V → Held) → List V → List Held
+held_of held vs = map held vs
+
+abbrev pub letters_of : {V : Type 0} → (V → Held) → List (Option V) → List (Option Held)
+letters_of held vs = map (option_map held) vs
 
 -- a view of each transactor, and of each message that is in flight after the run
 pub record AreViews (de : EdgeTest) (dr : RootTest) (T : Run) (own : List Held) (letters : List (Option Held)) : Type 0 where
