@@ -41,7 +41,7 @@ pub record ViewAfterStep (T : Run) (t k : ℕ) (x : Held) : Type 0 where
   pub newborn : (u : ℕ) → IsNew T k t u → IsViewOf T u (suc k) (with_no_roots (with_newborn u x))
   pub take : (m : ℕ) (y : Held) → step_at T k ≡ Some (Take t m) → IsMessageView T m y → IsViewOf T t (suc k) (with_roots y.root (merged x y))
   pub drop : (m : ℕ) (y : Held) → step_at T k ≡ Some (Drop t m) → IsMessageView T m y → IsViewOf T t (suc k) (merged x y)
-  pub fall : (m : ℕ) (y : Held) → step_at T k ≡ Some (Fall t m) → IsMessageView T m y → IsViewOf T t (suc k) (with_no_roots (noted t (moved fall (history T t k)) (merged x y)))
+  pub fall_by : (m : ℕ) (y : Held) → step_at T k ≡ Some (Fall t m) → IsMessageView T m y → IsViewOf T t (suc k) (with_no_roots (noted t (moved fall (history T t k)) (merged x y)))
   pub void : (m : ℕ) → step_at T k ≡ Some (Void t m) → IsViewOf T t (suc k) x
   pub closing : Closes T t k → IsViewOf T t (suc k) (with_no_roots (noted t (moved close (history T t k)) x))
   pub falling : Falls T t k → HearsOfNone T k → IsViewOf T t (suc k) (with_no_roots (noted t (moved fall (history T t k)) x))

@@ -1,40 +1,71 @@
--- What the calls of the system answer.
-use Rattle.std.specs.Prelude.{◌≡◌, ℕ, List, [], Some}
-use Rattle.tau_value.specs.Val.{Val}
-use Rattle.tau_trace.specs.declared.step.Step.TheVariants.{Take}
-use Rattle.tau_trace.specs.Run.{Run, len}
-use Rattle.tau_trace.specs.Numbering.{Receives, Removes}
+-- What the calls of the system answer (docs/rules.md, "Steps").
+use Rattle.std.specs.Prelude.{◌≡◌, ◌≢◌, ℕ, suc, ◌<◌, IsTrue, Option, Some, None, ◌||◌}
+use Rattle.tau_value.specs.Value.{val_of}
+use Rattle.tau_tree.specs.declared.programs.Program.{Program}
+use Rattle.tau_trace.specs.declared.step.Step.{Step}
+use Rattle.tau_trace.specs.declared.step.Step.TheVariants.{Take, Drop, Fall, Void}
+use Rattle.tau_trace.specs.Steps.{actor, ends_turn, is_take}
+use Rattle.tau_trace.specs.Run.{Run, len, step_at, Does}
+use Rattle.tau_trace.specs.Numbering.{born, Receives, Removes}
 use Rattle.tau_trace.specs.Places.{IsFirst}
-use Rattle.tau_trace.specs.Turns.{IsOpenTurn}
-use Rattle.tau_eval.specs.Turn.{IsTurnOf}
+use Rattle.tau_trace.specs.Histories.{EndsAt, IsLiving}
+use Rattle.tau_trace.specs.Turns.{Turn, IsOpenTurn}
+use Rattle.tau_states.specs.Opening.{opening_states}
+use Rattle.tau_eval.specs.Turn.{with_reply}
 use Rattle.tau_eval.specs.Turn as jobs
+use Rattle.tau_legal.specs.Turns.{HasBody, HasValue, Replies, RepliesOf}
+use Rattle.tau_choice.specs.Choices.{IsStepOfTurn, goes_on}
+use Rattle.tau_rules.specs.declared.answers.Standing.{Standing}
+use Rattle.tau_rules.specs.declared.answers.Standing.TheVariants as standings
 use Rattle.tau_rules.specs.declared.answers.Delivered.{Delivered}
 use Rattle.tau_rules.specs.declared.answers.Delivered.TheVariants.{Began, Dropped, Fell, Voided}
+use Rattle.tau_rules.specs.declared.answers.Acted.{Acted}
+use Rattle.tau_rules.specs.declared.answers.Acted.TheVariants.{Reply, TurnOver, Redo}
 use Rattle.tau_rules.specs.declared.errors.DeliverError.{DeliverError}
-use Rattle.tau_rules.specs.declared.errors.DeliverError.TheVariants.{NotInFlight, Busy, NoMemory}
-use Rattle.tau_legal.specs.Turns.{HasBehaviour, HasValue}
+use Rattle.tau_rules.specs.declared.errors.DeliverError.TheVariants as deliver_errors
+use Rattle.tau_rules.specs.declared.errors.ActError.{ActError}
+use Rattle.tau_rules.specs.declared.errors.ActError.TheVariants as act_errors
+use Rattle.tau_rules.specs.declared.errors.FailError.{FailError}
+use Rattle.tau_rules.specs.declared.errors.FailError.TheVariants as fail_errors
+use Rattle.tau_rules.specs.declared.errors.LoseError.{LoseError}
+use Rattle.tau_rules.specs.declared.errors.LoseError.TheVariants as lose_errors
 use Rattle.tau_rules.specs.System.{Core, with_step}
 
--- a Take of the message was appended, and the job is that of the turn that it opens
-pub record IsBegun (old new : Core) (m : ℕ) (job : jobs.Turn) : Type 0 where
-  pub receiver : ℕ
-  pub behaviour : ℕ
-  pub value : Val
-  pub receives : Receives old.run m receiver
-  pub appended : new ≡ with_step old (Take receiver m)
-  pub has_behaviour : HasBehaviour old.program old.run receiver behaviour
-  pub has_value : HasValue old.program old.run m value
-  pub job_is : IsTurnOf old.program receiver behaviour (len old.run) value [] job
+-- the job is the record of a turn that is open after the run: the body of its transactor's behaviour, the number of nodes,
+-- its transactor, the place of its Take, the value of that message, and the replies since
+pub record IsOpenJob (P : Program) (T : Run) (job : jobs.Turn) : Type 0 where
+  pub message : ℕ
+  pub turn : Turn T job.who (len T) job.place message
+  pub body : HasBody P T job.who job.body
+  pub nodes : job.nodes ≡ P.nodes
+  pub value : HasValue P T message job.message
+  pub replies : RepliesOf T (opening_states P.starts) job.who (suc job.place) (len T) job.replies
 
--- so far each message that is delivered is taken
+-- the Take of the message at the end of the old run opened the turn of the job
+pub record IsBegun (old new : Core) (m : ℕ) (job : jobs.Turn) : Type 0 where
+  pub appended : new ≡ with_step old (Take job.who m)
+  pub place : job.place ≡ len old.run
+  pub opened : IsOpenJob new.program new.run job
+
+-- a step of the message was appended
 abbrev pub IsDelivered : Core → Core → ℕ → Delivered → Type 0
 IsDelivered old new m (Began job) = IsBegun old new m job
-IsDelivered old new m Dropped = ⊥
-IsDelivered old new m Fell = ⊥
-IsDelivered old new m Voided = ⊥
+IsDelivered old new m Dropped = (t : ℕ) × (new ≡ with_step old (Drop t m))
+IsDelivered old new m Fell = (t : ℕ) × (new ≡ with_step old (Fall t m))
+IsDelivered old new m Voided = (t : ℕ) × (new ≡ with_step old (Void t m))
 
 -- why a message isn't delivered: the named step took it, or the named turn of its receiver is open
 abbrev pub IsUndelivered : Run → ℕ → DeliverError → Type 0
-IsUndelivered T m (NotInFlight place) = IsFirst (Removes T m) (len T) (Some place)
-IsUndelivered T m (Busy turn) = (t : ℕ) × Receives T m t × IsOpenTurn T t (len T) (Some turn)
-IsUndelivered T m NoMemory = Unit {0}
+IsUndelivered T m (deliver_errors.NotInFlight place) = IsFirst (Removes T m) (len T) (Some place)
+IsUndelivered T m (deliver_errors.Busy turn) = (t : ℕ) × Receives T m t × IsOpenTurn T t (len T) (Some turn)
+IsUndelivered T m deliver_errors.NoMemory = Unit {0}
+
+-- the step of the pending's effect was appended, and the turn goes on with its reply
+pub record IsReplied (old new : Core) (pending : jobs.Turn) (step : Step) (reply : ℕ → Type 0) : Type 0 where
+  pub todo : ℕ
+
+-- what an effect led to: its step and the reply, after which the record of the turn is the pending's with that reply; its
+-- step, which ended the turn; or nothing, since another job is the record of the turn
+pub data IsActed (old new : Core) (pending : jobs.Turn) : Acted → Type 0 where
+  replied : {s : Step} → IsOpenJob old.program old.run pending → IsStepOfTurn old.program old.run pending.who s → IsTrue (goes_on s)
+      → new ≡ with_step old s → IsActed old new pending TurnOver

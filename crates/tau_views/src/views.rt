@@ -1,5 +1,6 @@
 //! The views of a run.
-ghost use Rattle.std.specs.Prelude.{◌≡◌, ◌↔◌, [], ◌<◌, IsTrue, IfOk, OnOk, length, slice_get};
+ghost use Rattle.std.specs.Prelude.{◌≡◌, ◌↔◌, [], ◌<◌, IsTrue, IfOk, OnOk, length, slice_get, vec_len};
+ghost use Rattle.std.specs.Vec.{vec_capacity};
 ghost use Rattle.std.specs.Option.{option_map};
 ghost use Rattle.tau_trace.specs.declared.opening.Opening.{Opening};
 ghost use Rattle.tau_trace.specs.Run.{len, appended};
@@ -9,7 +10,7 @@ ghost use Rattle.tau_past.specs.Decisions.{Verdict as VerdictAt, Free};
 ghost use Rattle.tau_past.specs.Safety.{KeepsRules};
 ghost use Rattle.tau_judgement.specs.Laws.{judged};
 ghost use Rattle.tau_views.specs.Kept.{AreViews, IsReady, held_of, letters_of};
-ghost use Rattle.tau_views.specs.Changes.{own_after, letters_after, HasRoom};
+ghost use Rattle.tau_views.specs.Changes.{own_after, letters_after, HasRoom, with_item, with_last, without_item, with_letter};
 
 use std::alloc::{AllocError, Global};
 use tau_fate::Verdict;
@@ -70,7 +71,7 @@ impl<V: View + Drop> Views<V> {
         ensures { IfOk result (λ c. AreViews V.drops_edge V.drops_root (appended trace.now.run step.now)
             (held_of V.held (own_after c self.now.own.items)) (letters_of V.held (letters_after c self.now.letters.items))) }
     {
-        let _given = (alloc, trace, step);
+        let _given = (alloc, trace.len(), step.actor());
         Err(AllocError)
     }
 
@@ -80,22 +81,16 @@ impl<V: View + Drop> Views<V> {
         ensures own { self.new.own.items ≡ own_after change self.old.own.items }
         ensures letters { self.new.letters.items ≡ letters_after change self.old.letters.items }
     {
-        if let Some((who, view)) = change.own {
-            if (who as usize) < self.own.len() {
-                self.own[who as usize] = view;
-            }
-        }
-        if let Some(view) = change.newborn {
-            self.own.push_reserved(view);
-        }
-        if let Some(message) = change.gone {
-            if (message as usize) < self.letters.len() {
-                self.letters[message as usize] = None;
-            }
-        }
-        if let Some(view) = change.letter {
-            self.letters.push_reserved(Some(view));
-        }
+        let ViewChange {
+            own,
+            newborn,
+            letter,
+            gone,
+        } = change;
+        set_view(&mut self.own, own);
+        add_view(&mut self.own, newborn);
+        take_letter(&mut self.letters, gone);
+        add_letter(&mut self.letters, letter);
     }
 
     /// The verdict on a message in flight at its receipt by `who` (docs/rules.md, "Verdict"). The error is want of memory.
@@ -112,7 +107,7 @@ impl<V: View + Drop> Views<V> {
         requires in_flight { InFlight trace.now.run message (len trace.now.run) }
         ensures { IfOk result (λ v. VerdictAt trace.now.run who (len trace.now.run) message (judged v)) }
     {
-        let _given = (alloc, trace, who, message);
+        let _given = (alloc, trace.len(), who, message);
         Err(AllocError)
     }
 
@@ -123,7 +118,7 @@ impl<V: View + Drop> Views<V> {
         requires exists { who < born trace.now.run (len trace.now.run) }
         ensures { IfOk result (λ free. IsTrue free ↔ Free trace.now.run who (len trace.now.run)) }
     {
-        let _given = (alloc, trace, who);
+        let _given = (alloc, trace.len(), who);
         Err(AllocError)
     }
 
@@ -132,5 +127,49 @@ impl<V: View + Drop> Views<V> {
         ensures { option_map (λ v. V.held v.now) result ≡ slice_get (held_of V.held self.now.own.items) who }
     {
         self.own.get(who as usize)
+    }
+}
+
+// Puts a view in the place of that of the transactor with this number.
+fn set_view<V: View + Drop>(views: &mut Vec<V>, view: Option<(u32, V)>)
+    ensures capacity { vec_capacity views.new ≡ vec_capacity views.old }
+    ensures items { views.new.items ≡ with_item view views.old.items }
+{
+    if let Some((who, view)) = view {
+        if (who as usize) < views.len() {
+            views[who as usize] = view;
+        }
+    }
+}
+
+// Adds a view, in the room that there is.
+fn add_view<V: View + Drop>(views: &mut Vec<V>, view: Option<V>)
+    requires { vec_len views.old < vec_capacity views.old }
+    ensures { views.new.items ≡ with_last view views.old.items }
+{
+    if let Some(view) = view {
+        views.push_reserved(view);
+    }
+}
+
+// Takes out the view of the message with this number.
+fn take_letter<V: View + Drop>(letters: &mut Vec<Option<V>>, message: Option<u32>)
+    ensures capacity { vec_capacity letters.new ≡ vec_capacity letters.old }
+    ensures items { letters.new.items ≡ without_item message letters.old.items }
+{
+    if let Some(message) = message {
+        if (message as usize) < letters.len() {
+            letters[message as usize] = None;
+        }
+    }
+}
+
+// Adds the view of a message, in the room that there is.
+fn add_letter<V: View + Drop>(letters: &mut Vec<Option<V>>, view: Option<V>)
+    requires { vec_len letters.old < vec_capacity letters.old }
+    ensures { letters.new.items ≡ with_letter view letters.old.items }
+{
+    if let Some(view) = view {
+        letters.push_reserved(Some(view));
     }
 }
