@@ -60,12 +60,56 @@ IsUndelivered T m (deliver_errors.NotInFlight place) = IsFirst (Removes T m) (le
 IsUndelivered T m (deliver_errors.Busy turn) = (t : ℕ) × Receives T m t × IsOpenTurn T t (len T) (Some turn)
 IsUndelivered T m deliver_errors.NoMemory = Unit {0}
 
--- the step of the pending's effect was appended, and the turn goes on with its reply
-pub record IsReplied (old new : Core) (pending : jobs.Turn) (step : Step) (reply : ℕ → Type 0) : Type 0 where
-  pub todo : ℕ
+-- the pending's job was the record of the turn, and the step of its effect was appended
+pub record IsStepped (old new : Core) (pending : jobs.Turn) (s : Step) : Type 0 where
+  pub was_open : IsOpenJob old.program old.run pending
+  pub step : IsStepOfTurn old.program old.run pending.who s
+  pub appended : new ≡ with_step old s
 
--- what an effect led to: its step and the reply, after which the record of the turn is the pending's with that reply; its
--- step, which ended the turn; or nothing, since another job is the record of the turn
-pub data IsActed (old new : Core) (pending : jobs.Turn) : Acted → Type 0 where
-  replied : {s : Step} → IsOpenJob old.program old.run pending → IsStepOfTurn old.program old.run pending.who s → IsTrue (goes_on s)
-      → new ≡ with_step old s → IsActed old new pending TurnOver
+-- nothing was appended: another job is the record of the turn that is open at the pending's place
+pub record IsRedone (old new : Core) (pending job : jobs.Turn) : Type 0 where
+  pub unchanged : new ≡ old
+  pub place : job.place ≡ pending.place
+  pub is_open : IsOpenJob old.program old.run job
+  pub differs : job ≢ pending
+
+-- what came of an effect: its step and the reply, after which the record of the turn is the pending's with that reply; its
+-- step, which ended the turn; or another job
+abbrev pub IsActed : Core → Core → jobs.Turn → Acted → Type 0
+IsActed old new pending (Reply r) =
+    (s : Step) × IsStepped old new pending s × IsTrue (goes_on s) × Replies old.run (opening_states old.program.starts) (len old.run) s (val_of r) × IsOpenJob new.program new.run (with_reply pending (val_of r))
+IsActed old new pending TurnOver = (s : Step) × IsStepped old new pending s × IsTrue (ends_turn s)
+IsActed old new pending (Redo job) = IsRedone old new pending job
+
+-- no turn that began at a place is open after the run
+abbrev pub NoTurnFrom : Run → ℕ → Type 0
+NoTurnFrom T place = (t m : ℕ) → ¬ Turn T t (len T) place m
+
+-- where the turn from a place ended: at its transactor's next step that ends a turn or begins one; at the length of the
+-- run where no Take stands at the place
+pub data IsTurnEnd (T : Run) (place : ℕ) : ℕ → Type 0 where
+  ended : {t m k : ℕ} → step_at T place ≡ Some (Take t m) → place < k → Does (λ s. ends_turn s || is_take s) T t k
+      → ((j : ℕ) → place < j → j < k → ¬ Does (λ s. ends_turn s || is_take s) T t j) → IsTurnEnd T place k
+  no_take : {k : ℕ} → ((t m : ℕ) → step_at T place ≢ Some (Take t m)) → k ≡ len T → IsTurnEnd T place k
+
+-- why an effect's step isn't made
+abbrev pub IsUnacted : Run → ℕ → ActError → Type 0
+IsUnacted T place (act_errors.Stale ended_by) = NoTurnFrom T place × IsTurnEnd T place ended_by
+IsUnacted T place act_errors.NoMemory = Unit {0}
+
+-- why a transactor doesn't fail
+abbrev pub IsUnfailed : Run → ℕ → FailError → Type 0
+IsUnfailed T t (fail_errors.Ended place) = (place < len T) × EndsAt T t place
+IsUnfailed T t fail_errors.NoMemory = Unit {0}
+
+-- why a message isn't lost
+abbrev pub IsUnlost : Run → ℕ → LoseError → Type 0
+IsUnlost T m (lose_errors.NotInFlight place) = IsFirst (Removes T m) (len T) (Some place)
+IsUnlost T m lose_errors.NoMemory = Unit {0}
+
+-- what a transactor is doing after the run; None where it doesn't exist
+abbrev pub IsStanding : Run → ℕ → Option Standing → Type 0
+IsStanding T t None = ¬ (t < born T (len T))
+IsStanding T t (Some standings.Idle) = (t < born T (len T)) × IsLiving T t (len T) × IsOpenTurn T t (len T) None
+IsStanding T t (Some (standings.Busy turn)) = (t < born T (len T)) × IsOpenTurn T t (len T) (Some turn)
+IsStanding T t (Some (standings.Ended place)) = (t < born T (len T)) × (place < len T) × EndsAt T t place

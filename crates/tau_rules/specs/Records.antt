@@ -1,5 +1,5 @@
 -- What the record of a transactor says.
-use Rattle.std.specs.Prelude.{◌≡◌, ℕ, suc, ◌<◌, Bool, ◌||◌, IsTrue, Option, Some, None, slice_get, slice_set, length, map, List, [], ◌∷◌, ◌++◌}
+use Rattle.std.specs.Prelude.{◌≡◌, ℕ, suc, ◌<◌, Bool, true, IsTrue, Option, Some, None, slice_get, slice_set, length, map, List, [], ◌∷◌, ◌++◌}
 use Rattle.tau_value.specs.declared.shared.Value.{Value}
 use Rattle.tau_value.specs.Value.{val_of}
 use Rattle.tau_tree.specs.declared.posts.Post.{Post}
@@ -10,10 +10,9 @@ use Rattle.tau_trace.specs.Numbering.{born, sent}
 use Rattle.tau_trace.specs.Turns.{Turn}
 use Rattle.tau_states.specs.Opening.{opening_states}
 use Rattle.tau_trace.specs.declared.step.Step.{Step}
-use Rattle.tau_trace.specs.declared.step.Step.TheVariants.{Take, Send}
+use Rattle.tau_trace.specs.declared.step.Step.TheVariants.{Take, Drop, Void, Send, New, Lose}
 use Rattle.tau_trace.specs.Steps.{ends_turn}
-use Rattle.tau_past.specs.Carried.{touches}
-use Rattle.tau_past.specs.KnownLaws.{keeps_pending}
+use Rattle.tau_choice.specs.Choices.{goes_on}
 use Rattle.tau_rules.specs.declared.records.Record.{Record}
 use Rattle.tau_rules.specs.declared.records.RecordChange.{RecordChange}
 use Rattle.tau_rules.specs.declared.records.RecordChange.TheVariants as changes
@@ -47,21 +46,24 @@ HasStarts ss rs = map (λ r. r.behaviour) rs ≡ map (λ s. s.behaviour) ss
 abbrev pub HasPosts : List Post → List Value → Type 0
 HasPosts qs vs = map val_of vs ≡ map (λ q. val_of q.value) qs
 
--- the record after a change: a turn begins with a message, has one reply more, or ends
+-- the record after a change: a turn begins with a message, has one reply more, or nothing changes
 abbrev pub IsChanged : RecordChange → Record → Record → Type 0
 IsChanged (changes.Begins v) r q = (q.behaviour ≡ r.behaviour) × (q.message ≡ v) × (q.replies ≡ [])
 IsChanged (changes.Replied x) r q = (q.behaviour ≡ r.behaviour) × (q.message ≡ r.message) × (q.replies ≡ r.replies ++ val_of x ∷ [])
-IsChanged changes.Ended r q = q ≡ r
+IsChanged changes.Kept r q = q ≡ r
 
--- the kinds of steps after which a turn goes on with a reply
-abbrev pub goes_on : Step → Bool
-goes_on s = touches s || keeps_pending s
+-- the kinds of steps after which no turn has begun or gone on with a reply
+abbrev pub keeps_record : Step → Bool
+keeps_record (Drop t m) = true
+keeps_record (Void t m) = true
+keeps_record (Lose m) = true
+keeps_record s = ends_turn s
 
--- the step of t at the end of the run changes its record so
-abbrev pub Changes : Program → Run → ℕ → Step → RecordChange → Type 0
-Changes P T t s (changes.Begins v) = (m : ℕ) × (s ≡ Take t m) × (m < sent T (len T)) × HasValue P T m (val_of v)
-Changes P T t s (changes.Replied x) = IsTrue (goes_on s) × Replies T (opening_states P.starts) (len T) s (val_of x)
-Changes P T t s changes.Ended = IsTrue (ends_turn s)
+-- the step at the end of the run changes its transactor's record so
+abbrev pub Changes : Program → Run → Step → RecordChange → Type 0
+Changes P T s (changes.Begins v) = (t : ℕ) × (m : ℕ) × (s ≡ Take t m) × HasValue P T m (val_of v)
+Changes P T s (changes.Replied x) = IsTrue (goes_on s) × Replies T (opening_states P.starts) (len T) s (val_of x)
+Changes P T s changes.Kept = IsTrue (keeps_record s)
 
 -- the values after a step: with that of a Send
 abbrev pub sent_value : Step → Option Value
@@ -72,10 +74,25 @@ abbrev pub with_sent : List Value → Option Value → List Value
 with_sent vs None = vs
 with_sent vs (Some v) = vs ++ v ∷ []
 
+-- the record of the transactor that a New makes
+abbrev pub IsNewborn : Step → Option Record → Type 0
+IsNewborn (New t b n v) found = (r : Record) × (found ≡ Some r) × (r.behaviour ≡ b)
+IsNewborn s found = found ≡ None
+
+-- the records with that of a newborn
+abbrev pub with_newborn : List Record → Option Record → List Record
+with_newborn rs None = rs
+with_newborn rs (Some r) = rs ++ r ∷ []
+
 -- the record of t has changed, and no other
-pub record HasChanged (c : RecordChange) (t : ℕ) (old new : List Record) : Type 0 where
+pub record IsOneChanged (c : RecordChange) (t : ℕ) (old new : List Record) : Type 0 where
   pub before : Record
   pub after : Record
   pub stood : slice_get old t ≡ Some before
   pub changed : IsChanged c before after
   pub is : new ≡ slice_set old t after
+
+-- the record of the transactor that makes the step has changed; where nobody makes it, none has
+abbrev pub HasChanged : RecordChange → Option ℕ → List Record → List Record → Type 0
+HasChanged c None old new = new ≡ old
+HasChanged c (Some t) old new = IsOneChanged c t old new

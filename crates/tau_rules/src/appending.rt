@@ -1,48 +1,55 @@
 //! One step more.
-ghost use Rattle.std.specs.Prelude.{◌≡◌, ◌<◌, IsTrue, Some, IfOk, OnOk, OnErr, vec_len};
+ghost use Rattle.std.specs.Prelude.{◌≡◌, ◌<◌, IfOk, OnOk, OnErr, vec_len};
 ghost use Rattle.std.specs.Vec.{vec_capacity};
-ghost use Rattle.tau_trace.specs.Steps.{actor};
 ghost use Rattle.tau_trace.specs.Run.{len};
-ghost use Rattle.tau_trace.specs.Numbering.{born};
 ghost use Rattle.tau_trace.specs.Known.{MayFollow};
 ghost use Rattle.tau_legal.specs.Fits.{Fits as FitsAt};
-ghost use Rattle.tau_rules.specs.Records.{Changes, sent_value, with_sent};
-ghost use Rattle.tau_rules.specs.System.{is_plain, with_step};
+ghost use Rattle.tau_rules.specs.Records.{Changes, sent_value, with_sent, with_newborn};
+ghost use Rattle.tau_rules.specs.System.{with_step};
 
 use crate::System;
-use crate::records::{RecordChange, change_record};
+use crate::records::{Record, RecordChange, change_record, newborn_of};
 use std::alloc::AllocError;
 use tau_trace::Step;
 use tau_value::Value;
+use tau_view::View;
 
-impl<'p> System<'p> {
-    // Appends a step of transactor `who`, with what it changes in the transactor's record. All memory is taken before the
+impl<'p, V: View + Drop> System<'p, V> {
+    // Appends a step, with what it changes in the record of the transactor that makes it. All memory is taken before the
     // first change.
-    pub(crate) fn append(
-        &mut self,
-        step: Step,
-        who: u32,
-        change: RecordChange,
-    ) -> Result<(), AllocError>
-        requires exists { who < born self.old.run (len self.old.run) }
-        requires actor { actor step ≡ Some who }
+    pub(crate) fn append(&mut self, step: Step, change: RecordChange) -> Result<(), AllocError>
         requires known { MayFollow self.old.run step }
         requires fits { FitsAt self.old.program self.old.run (len self.old.run) step }
-        requires plain { IsTrue (is_plain step) }
-        requires change { Changes self.old.program self.old.run who step change }
+        requires change { Changes self.old.program self.old.run step change }
         ensures ok { OnOk result (self.new ≡ with_step self.old step) }
         ensures err { OnErr result (self.new ≡ self.old) }
     {
         let states = self.states.prepare(&step)?;
+        let views = self.views.prepare(self.alloc, &self.trace, &step)?;
         let sent = sent_copy(&step)?;
+        let newborn = newborn_of(self.alloc, &step);
         self.trace.reserve()?;
         self.states.reserve()?;
+        self.views.reserve()?;
         self.values.reserve(1)?;
-        change_record(self.alloc, &mut self.records, who, change)?;
+        self.records.reserve(1)?;
+        change_record(self.alloc, &mut self.records, step.actor(), change)?;
+        keep_newborn(&mut self.records, newborn);
         self.trace.push_spare(step);
         self.states.apply(states);
+        self.views.apply(views);
         keep_sent(&mut self.values, sent);
         Ok(())
+    }
+}
+
+// Adds the record of a transactor that the step makes, in the room that there is.
+fn keep_newborn(records: &mut Vec<Record>, newborn: Option<Record>)
+    requires { vec_len records.old < vec_capacity records.old }
+    ensures { records.new.items ≡ with_newborn records.old.items newborn }
+{
+    if let Some(record) = newborn {
+        records.push_reserved(record);
     }
 }
 

@@ -2,16 +2,21 @@
 ghost use Rattle.std.specs.Prelude.{◌≡◌, ◌<◌, IfOk, IfErr};
 ghost use Rattle.tau_trace.specs.Run.{len};
 ghost use Rattle.tau_trace.specs.Numbering.{sent};
-ghost use Rattle.tau_rules.specs.Answers.{IsDelivered, IsUndelivered};
+ghost use Rattle.tau_past.specs.Decisions.{Verdict as VerdictAt, takes};
+ghost use Rattle.tau_legal.specs.Fits.{Arrives};
+ghost use Rattle.tau_rules.specs.Answers.{IsDelivered, IsUndelivered, IsBegun};
 
 use crate::records::RecordChange;
 use crate::{DeliverError, Delivered, System};
-use tau_eval::begin;
+use std::alloc::AllocError;
+use tau_eval::{Job, begin};
+use tau_fate::Verdict;
 use tau_trace::Step;
+use tau_view::View;
 
-impl<'p> System<'p> {
-    /// Delivers a message to its receiver: appends the Take, and gives the job of the turn that it opens (docs/rules.md,
-    /// "Steps"). So far nothing falls, so no message is dropped, makes fall, or comes too late.
+impl<'p, V: View + Drop> System<'p, V> {
+    /// Delivers a message to its receiver: appends its Take, Drop, Fall or Void, and gives with a Take the job of the turn
+    /// that it opens (docs/rules.md, "Steps").
     /// `NotInFlight` comes exactly where the named step took the message; otherwise `Busy` exactly where the named turn of
     /// the receiver is open. After an error the system is as it was.
     pub fn deliver(&mut self, message: u32) -> Result<Delivered<'p>, DeliverError>
@@ -30,20 +35,46 @@ impl<'p> System<'p> {
         if let Some(turn) = self.trace.open_turn(who) {
             return Err(DeliverError::Busy { turn });
         }
+        if self.trace.end_of(who).is_some() {
+            self.append(Step::Void { who, message }, RecordChange::Kept)?;
+            return Ok(Delivered::Voided);
+        }
+        match self.views.verdict(self.alloc, &self.trace, who, message)? {
+            Verdict::Take => Ok(Delivered::Began(self.begin_turn(who, message)?)),
+            Verdict::Drop { .. } => {
+                self.append(Step::Drop { who, message }, RecordChange::Kept)?;
+                Ok(Delivered::Dropped)
+            }
+            Verdict::Fall { .. } => {
+                self.append(Step::Fall { who, message }, RecordChange::Kept)?;
+                Ok(Delivered::Fell)
+            }
+        }
+    }
+
+    // Appends the Take of a message that its receiver can take, and gives the job of its turn.
+    fn begin_turn(&mut self, who: u32, message: u32) -> Result<Job<'p>, AllocError>
+        requires few { len self.old.run < 1000000 }
+        requires arrives { Arrives self.old.run who message (len self.old.run) }
+        requires verdict { VerdictAt self.old.run who (len self.old.run) message takes }
+        ensures ok { IfOk result (IsBegun self.old self.new message) }
+        ensures err { IfErr result (λ e. self.new ≡ self.old) }
+    {
         let behaviour = self.records[who as usize].behaviour;
         let value = &self.values[message as usize];
+        let turn = self.trace.len();
         let job = begin(
             self.alloc,
             self.program,
             who,
             behaviour,
-            self.trace.len(),
+            turn,
             value.copy()?,
         )?;
         let change = RecordChange::Begins {
             message: value.copy()?,
         };
-        self.append(Step::Take { who, message }, who, change)?;
-        Ok(Delivered::Began(job))
+        self.append(Step::Take { who, message }, change)?;
+        Ok(job)
     }
 }

@@ -1,10 +1,12 @@
 //! The rules of a run: which step fits, and which is legal, after the steps before it (docs/rules.md, "Steps").
 #![tactic(auto)]
 
+mod acting;
 mod answers;
 mod appending;
 mod delivering;
 mod errors;
+mod failing;
 mod records;
 mod system;
 

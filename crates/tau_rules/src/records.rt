@@ -1,8 +1,10 @@
 //! What the system keeps of each transactor's turns.
-ghost use Rattle.std.specs.Prelude.{◌≡◌, ◌<◌, length, OnOk, OnErr};
-ghost use Rattle.tau_rules.specs.Records.{IsChanged, HasChanged};
+ghost use Rattle.std.specs.Prelude.{◌≡◌, ◌<◌, Some, None, length, IfSome, IsNone, OnOk, OnErr, vec_len};
+ghost use Rattle.std.specs.Vec.{vec_capacity};
+ghost use Rattle.tau_rules.specs.Records.{IsChanged, HasChanged, IsNewborn};
 
 use std::alloc::{AllocError, Global};
+use tau_trace::Step;
 use tau_value::{Value, Values};
 
 /// A transactor's behaviour, and its open turn if it has one: the value of the message, and the replies so far. Without
@@ -21,11 +23,22 @@ pub(crate) enum RecordChange {
     Begins { message: Value },
     /// The turn goes on with a reply.
     Replied { reply: Value },
-    /// The turn ends.
-    Ended,
+    /// Nothing: the step ends a turn, or leaves it as it is.
+    Kept,
 }
 
 impl Record {
+    /// The record of a transactor without a turn.
+    pub(crate) fn idle(alloc: Global, behaviour: u32) -> Record
+        ensures { result.behaviour ≡ behaviour }
+    {
+        Record {
+            behaviour,
+            message: Value::Unit,
+            replies: Values::new(alloc),
+        }
+    }
+
     /// Takes a change. Without memory the record stays as it was.
     pub(crate) fn take(&mut self, alloc: Global, change: RecordChange) -> Result<(), AllocError>
         ensures ok { OnOk result (IsChanged change self.old self.new) }
@@ -41,21 +54,35 @@ impl Record {
                 Ok(()) => Ok(()),
                 Err((_reply, failed)) => Err(failed),
             },
-            RecordChange::Ended => Ok(()),
+            RecordChange::Kept => Ok(()),
         }
     }
 }
 
-/// Changes the record of a transactor. Without memory the records stay as they were.
+/// Changes the record of the transactor that makes a step, if one does. Without memory the records stay as they were.
 pub(crate) fn change_record(
     alloc: Global,
     records: &mut Vec<Record>,
-    who: u32,
+    who: Option<u32>,
     change: RecordChange,
 ) -> Result<(), AllocError>
-    requires { who < length records.old.items }
+    requires { IfSome who (λ t. t < length records.old.items) }
+    ensures capacity { vec_capacity records.new ≡ vec_capacity records.old }
     ensures ok { OnOk result (HasChanged change who records.old.items records.new.items) }
     ensures err { OnErr result (records.new.items ≡ records.old.items) }
 {
-    records[who as usize].take(alloc, change)
+    match who {
+        Some(who) => records[who as usize].take(alloc, change),
+        None => Ok(()),
+    }
+}
+
+/// The record of the transactor that a New makes.
+pub(crate) fn newborn_of(alloc: Global, step: &Step) -> Option<Record>
+    ensures { IsNewborn step.now result }
+{
+    match step {
+        Step::New { behaviour, .. } => Some(Record::idle(alloc, *behaviour)),
+        _ => None,
+    }
 }

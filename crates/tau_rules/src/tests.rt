@@ -3,6 +3,7 @@ use crate::System;
 use std::alloc::Global;
 use std::process::Abort;
 use tau_tree::{Behaviours, Posts, Program, Script, Starts};
+use tau_view::FullView;
 
 /// A program of one node and nothing else.
 fn nobody(alloc: Global) -> Program {
@@ -20,7 +21,7 @@ fn opens(alloc: Global) -> Option<u32> {
     if !program.sound(alloc).ok()? {
         return None;
     }
-    let system = System::open(alloc, &program).ok()?;
+    let system: System<'_, FullView> = System::open(alloc, &program).ok()?;
     if system.state_of(0).is_some() || system.saved_of(0).is_some() {
         return None;
     }
