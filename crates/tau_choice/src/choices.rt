@@ -41,6 +41,6 @@ pub fn chosen(
     requires freedom { IsTrue (asks_freedom_by (eff_of effect.now)) → (IsTrue is_free ↔ Free trace.now.run who (len trace.now.run)) }
     ensures { IfOk result (IsChoiceOf trace.now.run states.now.records who (eff_of effect.now)) }
 {
-    let _given = (effect, who, trace, states, is_free);
+    let _given = (effect.has_reply(), who, trace.len(), states.is_stable(who), is_free);
     Err(AllocError)
 }

@@ -37,7 +37,6 @@ impl<'p, V: View + Drop> Model for System<'p, V> {
     ghost use Rattle.std.specs.Coded.{codes};
     ghost use Rattle.tau_value.specs.Val.{val_code};
     ghost use Rattle.tau_tree.specs.Code.{code_code};
-    ghost use Rattle.std.specs.Prelude.{◌×◌};
     ghost use Rattle.tau_views.specs.Kept.{AreViews, held_of, letters_of};
     ghost use Rattle.tau_rules.specs.System.{Core, IsSystem};
 
