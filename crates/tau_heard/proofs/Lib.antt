@@ -1,0 +1,5 @@
+pub mod Facts
+pub mod Unions
+pub mod OwnSteps
+pub mod StepKinds
+pub mod ViewSteps
