@@ -36,7 +36,7 @@ pub zero_bound : (T : Run) (H : ℕ → Type 0) (u : ℕ) → ((j : ℕ) → H j
 zero_bound T H u none = record { steps = λ j acts. (λ h. absurd (none j h acts), λ l. absurd (omega (arith, l))); last = inl refl }
 
 -- a history that stands exactly where it is known, and what is told
-told_of : (T : Run) (H : ℕ → Type 0) (owner : Option ℕ) (u : ℕ) (o : Option Timeline) → ((h : Timeline) → (o ≡ Some h) ↔ IsKnownHistory T H owner u h) → (a : ℕ) × Bound T H u a → Told T H owner u o
+pub told_of : (T : Run) (H : ℕ → Type 0) (owner : Option ℕ) (u : ℕ) (o : Option Timeline) → ((h : Timeline) → (o ≡ Some h) ↔ IsKnownHistory T H owner u h) → (a : ℕ) × Bound T H u a → Told T H owner u o
 told_of T H owner u None f b = absent refl (λ p. let e : None ≡ Some (history T u b.0) = (f (history T u b.0)).1 (record { present = p; bound = b.0; is_bound = b.1; is = refl }) in cc)
 told_of T H owner u (Some h) f b =
     let k : IsKnownHistory T H owner u h = (f h).0 refl in

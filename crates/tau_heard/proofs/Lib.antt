@@ -3,3 +3,7 @@ pub mod Unions
 pub mod OwnSteps
 pub mod StepKinds
 pub mod ViewSteps
+pub mod Openings
+pub mod Comparisons
+pub mod Locality
+pub mod HeardLaws

@@ -1,4 +1,4 @@
-use Rattle.tau_heard.proofs.ViewSteps.{views_step_by_step as the_law}
+use Rattle.tau_heard.proofs.HeardLaws.{views_step_by_step as the_law}
 use Rattle.tau_heard.proofs.laws.views_step_by_step.Goals as goal
 
 pub returns : goal.returns
