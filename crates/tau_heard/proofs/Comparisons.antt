@@ -1,5 +1,5 @@
 -- The histories of a view beside those of a transactor and of other views.
-use Rattle.std.proofs.Common.{◌≡◌, ◌⊎◌, ℕ, suc, ◌<◌, ◌≤◌, Option, Some, None, refl, sym, ap, ◌∙◌, subst, arith}
+use Rattle.std.proofs.Common.{◌≡◌, ℕ, suc, ◌<◌, Option, Some, None, refl, sym, subst, arith}
 use Rattle.tau_history.specs.Timeline.{Timeline}
 use Rattle.tau_history.specs.Order.{AreComparable}
 use Rattle.tau_view.specs.Held.{Held}
@@ -14,7 +14,6 @@ use Rattle.tau_trace.proofs.Lists.{same_some}
 use Rattle.tau_trace.proofs.Once.{new-rises}
 use Rattle.tau_past.specs.Carried.{Pending, SentWith}
 use Rattle.tau_past.specs.Heard.{Heard, HeardBy, HeardTogether}
-use Rattle.tau_past.specs.KnownLaws.{HasBounds}
 use Rattle.tau_past.proofs.BoundLemmas.{has_bounds}
 use Rattle.tau_past.proofs.Known.{acts_known, heard_before}
 use Rattle.tau_heard.specs.Views.{IsPresent, is_owner, by_step, by_birth, IsKnownHistory, IsView, IsViewOf, IsMessageView}
@@ -22,6 +21,7 @@ use Rattle.tau_heard.specs.Laws.{ViewsHaveTheOwnHistory, ViewsLackTheUnborn, Vie
 use Rattle.tau_heard.proofs.Facts.{told_of, told_own}
 use Rattle.tau_heard.proofs.Unions.{comparable_at, view_union}
 
+-- the view of a transactor has its own history as it is at the place
 pub views_have_the_own_history : ViewsHaveTheOwnHistory
 views_have_the_own_history T t k x w there v =
     let bounds = has_bounds T k w in
@@ -38,6 +38,7 @@ unborn_absent T t k w there (by_birth {j = j} {by = by} h n) =
     let before = heard_before T t k j w there h in
     omega (arith, n.made, new-rises T j by (born T k) n, born-grows T (suc j) k (omega (arith, before)))
 
+-- a view has no history of who doesn't exist yet
 pub views_lack_the_unborn : ViewsLackTheUnborn
 views_lack_the_unborn T t k x w there v = by (x.history (born T k)) refl where
   by : (o : Option Timeline) → x.history (born T k) ≡ o → x.history (born T k) ≡ None
@@ -49,10 +50,12 @@ known_comparable : (T : Run) (H G : ℕ → Type 0) (owner other : Option ℕ) (
 known_comparable T H G owner other u h k a b =
     subst (λ z. AreComparable z k) (sym a.is) (subst (AreComparable (history T u a.bound)) (sym b.is) (comparable_at T u a.bound b.bound))
 
+-- the histories of a transactor's view and a message's are comparable
 pub views_are_comparable : ViewsAreComparable
 views_are_comparable T t k m x y w there exists v vm u g h e f =
     known_comparable T (Heard T t k) (HeardBy T m) (Some t) None u g h ((v.history u g).0 e) ((vm.history u h).0 f)
 
+-- and the message's precede those of the merged view
 pub merged_views_are_later : MergedViewsAreLater
 merged_views_are_later T t k m x y w there exists v vm =
     right_precedes x.history y.history (views_are_comparable T t k m x y w there exists v vm)

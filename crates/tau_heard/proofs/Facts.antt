@@ -1,5 +1,5 @@
 -- The facts of a view, told for each transactor and each pair of points.
-use Rattle.std.proofs.Common.{◌≡◌, ◌↔◌, inl, inr, ⊎_elim, ℕ, ◌<◌, IsTrue, Option, Some, None, refl, sym, ap, ◌∙◌, subst, arith}
+use Rattle.std.proofs.Common.{◌≡◌, ◌↔◌, inl, inr, ⊎_elim, ℕ, IsTrue, Option, Some, None, refl, sym, ap, ◌∙◌, subst, arith}
 use Rattle.tau_history.specs.Timeline.{Timeline}
 use Rattle.tau_points.specs.declared.point.Point.{Point}
 use Rattle.tau_points.specs.Reach.{IsWithin}
@@ -42,6 +42,7 @@ told_of T H owner u (Some h) f b =
     let k : IsKnownHistory T H owner u h = (f h).0 refl in
     present {a = k.bound} (ap Some k.is) k.present k.is_bound
 
+-- and what is told stands exactly where it is known
 known_of : (T : Run) (H : ℕ → Type 0) (owner : Option ℕ) (u : ℕ) (o : Option Timeline) → Told T H owner u o → (h : Timeline) → (o ≡ Some h) ↔ IsKnownHistory T H owner u h
 known_of T H owner u o (absent e n) h = (λ f. let both : None ≡ Some h = sym e ∙ f in absurd (cc), λ k. absurd (n k.present))
 known_of T H owner u o (present {a = a} e p b) h = (

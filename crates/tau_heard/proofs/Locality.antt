@@ -1,13 +1,11 @@
 -- Views of runs that agree below a place.
-use Rattle.std.proofs.Common.{◌≡◌, ◌⊎◌, ◌↔◌, inl, inr, ⊎_elim, ℕ, suc, ◌<◌, ◌≤◌, Option, Some, None, refl, sym, ap, ◌∙◌, subst, arith}
+use Rattle.std.proofs.Common.{◌≡◌, ◌↔◌, inl, inr, ⊎_elim, ℕ, suc, ◌<◌, ◌≤◌, Option, Some, None, sym, ap, ◌∙◌, arith}
 use Rattle.std.specs.Prelude.{option_and_then}
-use Rattle.tau_history.specs.Timeline.{Timeline, interval}
+use Rattle.tau_history.specs.Timeline.{Timeline}
 use Rattle.tau_points.specs.declared.point.Point.{Point}
 use Rattle.tau_view.specs.Held.{Held}
 use Rattle.tau_trace.specs.Steps.{actor}
 use Rattle.tau_trace.specs.Run.{Run, Agree, step_at, ActsAt}
-use Rattle.tau_trace.specs.Numbering.{born, sent}
-use Rattle.tau_trace.specs.Histories.{history}
 use Rattle.tau_trace.specs.Known.{WellFormed}
 use Rattle.tau_trace.proofs.Agreement.{agree_sym, agree_below, history-same, is_new-same, does-same}
 use Rattle.tau_past.specs.Carried.{is_set, Pending, Carried, SentWith, TakesBy, by_set, by_new}
@@ -18,9 +16,11 @@ use Rattle.tau_past.proofs.Known.{heard_before, heard_by_before}
 use Rattle.tau_heard.specs.Views.{IsPresent, is_owner, by_step, by_birth, IsKnownHistory, TakesIn, IsView}
 use Rattle.tau_heard.specs.Laws.{ViewsAreLocal}
 
+-- who acts at a place, in the other run
 acts-same : (T U : Run) (t j : ℕ) → step_at T j ≡ step_at U j → ActsAt T t j → ActsAt U t j
 acts-same T U t j e a = ap (option_and_then actor) (sym e) ∙ a
 
+-- what the step there carries
 carried-same : (T U : Run) (j : ℕ) (q : Point) → WellFormed T → WellFormed U → Agree T U (suc j) → Carried T j q → Carried U j q
 carried-same T U j q w z a c = record {
   by = c.by;
@@ -28,6 +28,7 @@ carried-same T U j q w z a c = record {
   pending = ((decisions_local T U j w z (agree_below j (omega arith) a)).pending c.by q).0 c.pending;
 }
 
+-- which points take which by it
 takes-same : (T U : Run) (j : ℕ) (p q : Point) → WellFormed T → WellFormed U → Agree T U (suc j) → TakesBy T j p q → TakesBy U j p q
 takes-same T U j p q w z a (by_set {t = t} d e c ne) =
     by_set (does-same is_set t j (a.steps j (omega arith)) d) (e ∙ point-same t j (agree_below j (omega arith) a)) (carried-same T U j q w z a c) ne
@@ -82,6 +83,7 @@ view-same T U k H G owner roots others x w z agree below same alike v = record {
   below_too : (j : ℕ) → G j → j < k
   below_too j g = below j ((same j).1 g)
 
+-- views read the opening and the steps before their place alone
 pub views_are_local : ViewsAreLocal
 views_are_local T U k w z agree =
     let local = decisions_local T U k w z agree in

@@ -1,15 +1,12 @@
 -- Views at the opening.
-use Rattle.std.proofs.Common.{◌≡◌, ◌≢◌, ◌⊎◌, ◌↔◌, inl, inr, ⊎_elim, ℕ, ◌<◌, ◌≤◌, Bool, true, false, ltb, cond, length, IsTrue, Option, Some, None, refl, sym, ap, ◌∙◌, subst, arith}
+use Rattle.std.proofs.Common.{◌≡◌, ◌↔◌, ⊎_elim, ℕ, ◌<◌, Bool, true, false, ltb, cond, length, IsTrue, Option, Some, None, refl, sym, ap, ◌∙◌, subst, arith}
 use Rattle.std.proofs.lemmas.Bool.Decides.{nat_tests}
-use Rattle.tau_history.specs.Timeline.{Timeline, opening, newborn}
+use Rattle.tau_history.specs.Timeline.{opening, newborn}
 use Rattle.tau_points.specs.declared.point.Point.{Point}
 use Rattle.tau_points.proofs.Reach.{least}
-use Rattle.tau_view.specs.Held.{Held, Histories}
 use Rattle.tau_view.specs.Rules.{nothing, noted, noted_in}
-use Rattle.tau_trace.specs.Run.{Run, starts, ActsAt}
-use Rattle.tau_trace.specs.Numbering.{born, sent, IsOrigin}
+use Rattle.tau_trace.specs.Run.{Run, starts}
 use Rattle.tau_trace.specs.Histories.{history}
-use Rattle.tau_trace.specs.Known.{WellFormed}
 use Rattle.tau_trace.proofs.Counted.{history-zero}
 use Rattle.tau_trace.proofs.LivingLemmas.{equal_or_not}
 use Rattle.tau_trace.proofs.Lists.{same_some}
@@ -18,9 +15,9 @@ use Rattle.tau_past.specs.KnownLaws.{HasOpenTurn}
 use Rattle.tau_past.specs.Heard.{Needs, OriginOf, Heard, HeardBy}
 use Rattle.tau_past.proofs.Expected.{nothing_at_first, posts_carry_nothing}
 use Rattle.tau_past.proofs.PendingLemmas.{pending_turn}
-use Rattle.tau_heard.specs.Views.{IsPresent, is_owner, by_step, by_birth, TakesIn, IsViewOf, IsMessageView}
+use Rattle.tau_heard.specs.Views.{IsPresent, is_owner, by_step, by_birth, TakesIn}
 use Rattle.tau_heard.specs.Laws.{StartsOpenAlone, PostsHaveHeardNothing}
-use Rattle.tau_heard.proofs.Facts.{Told, absent, present, zero_bound, told_as, view_of}
+use Rattle.tau_heard.proofs.Facts.{Told, absent, present, zero_bound, view_of}
 use Rattle.tau_heard.proofs.OwnSteps.{noted-same, noted-other}
 
 -- in a set without places the owner alone is present
@@ -40,6 +37,7 @@ start_history T t lt = history-zero T t ∙ by (ltb t (starts T)) refl where
   by true e = refl
   by false e = absurd (grind (arith, nat_tests))
 
+-- at the opening a start has heard of itself alone
 pub starts_open_alone : StartsOpenAlone
 starts_open_alone T t w lt =
     view_of T (Heard T t 0) (Some t) (Pending T t 0) (noted t opening nothing)
@@ -63,6 +61,7 @@ starts_open_alone T t w lt =
 post_heard_nothing : (T : Run) (m : ℕ) → m < length T.opening.targets → (j : ℕ) → ¬ HeardBy T m j
 post_heard_nothing T m lt = least (Needs T) (OriginOf T m) (λ i. ⊥) (record { starts = λ i o. omega (arith, lt, o.origin.made); follows = λ x y h n. h })
 
+-- the view of a post is empty
 pub posts_have_heard_nothing : PostsHaveHeardNothing
 posts_have_heard_nothing T m lt =
     view_of T (HeardBy T m) None (SentWith T m) nothing

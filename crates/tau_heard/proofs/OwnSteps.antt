@@ -1,5 +1,5 @@
 -- The facts of a set of places that holds the earlier steps of a transactor, with one step of it more.
-use Rattle.std.proofs.Common.{◌≡◌, ◌≢◌, ◌⊎◌, ◌↔◌, inl, inr, ⊎_elim, ℕ, suc, ◌<◌, ◌≤◌, Bool, true, false, eqb, ltb, cond, not, ◌&&◌, IsTrue, IsFalse, Option, Some, None, refl, sym, ap, ◌∙◌, subst, eq-eqb, arith}
+use Rattle.std.proofs.Common.{◌≡◌, ◌≢◌, ◌⊎◌, ◌↔◌, inl, inr, ⊎_elim, ℕ, suc, ◌<◌, Bool, true, false, eqb, ltb, cond, not, ◌&&◌, IsTrue, Option, Some, refl, sym, ap, ◌∙◌, subst, eq-eqb, arith}
 use Rattle.std.proofs.lemmas.Bool.Decides.{nat_tests}
 use Rattle.tau_history.specs.Timeline.{Timeline, Move, keep, moved, opening, newborn}
 use Rattle.tau_points.specs.declared.point.Point.{Point}
@@ -10,8 +10,8 @@ use Rattle.tau_view.proofs.Sets.{or_cases, or_left, or_right, and_left, and_righ
 use Rattle.tau_trace.specs.declared.step.Step.{Step}
 use Rattle.tau_trace.specs.declared.step.Step.TheVariants.{Set, New}
 use Rattle.tau_trace.specs.Run.{Run, step_at, starts, ActsAt, Does}
-use Rattle.tau_trace.specs.Numbering.{born, IsNew}
-use Rattle.tau_trace.specs.Histories.{history, opened, move_at}
+use Rattle.tau_trace.specs.Numbering.{IsNew}
+use Rattle.tau_trace.specs.Histories.{history, move_at}
 use Rattle.tau_trace.specs.Points.{point_at}
 use Rattle.tau_trace.specs.Known.{WellFormed}
 use Rattle.tau_trace.proofs.Agreement.{born-grows}
@@ -20,7 +20,7 @@ use Rattle.tau_trace.proofs.Lists.{same_some}
 use Rattle.tau_trace.proofs.LivingLemmas.{equal_or_not}
 use Rattle.tau_trace.proofs.Quiet.{acts}
 use Rattle.tau_past.specs.Carried.{is_set, Pending, Carried, TakesBy, by_set, by_new, first_point}
-use Rattle.tau_past.specs.KnownLaws.{With, HoldsStepsBefore, Bound}
+use Rattle.tau_past.specs.KnownLaws.{With, HoldsStepsBefore}
 use Rattle.tau_past.proofs.BoundLemmas.{bounds_with_step}
 use Rattle.tau_past.proofs.HeardLemmas.{new_acts}
 use Rattle.tau_past.proofs.Known.{acts_known}
@@ -37,15 +37,18 @@ is_plain s = true
 chosen_same : (t : ℕ) (o p : Option Timeline) → cond (eqb t t) o p ≡ o
 chosen_same t o p = ap (λ b. cond b o p) (eq-eqb t t refl)
 
+-- and what it chooses for another number
 chosen_other : (u t : ℕ) (o p : Option Timeline) → u ≢ t → cond (eqb u t) o p ≡ p
 chosen_other u t o p ne = by (eqb u t) refl where
   by : (b : Bool) → eqb u t ≡ b → cond b o p ≡ p
   by true e = absurd (ne (grind (arith, nat_tests)))
   by false e = refl
 
+-- the history that was noted
 pub noted-same : (t : ℕ) (h : Timeline) (hs : Histories) → noted_in t h hs t ≡ Some h
 noted-same t h hs = chosen_same t (Some h) (hs t)
 
+-- and those of others
 pub noted-other : (u t : ℕ) (h : Timeline) (hs : Histories) → u ≢ t → noted_in t h hs u ≡ hs u
 noted-other u t h hs ne = chosen_other u t (Some h) (hs u) ne
 
@@ -57,17 +60,21 @@ same_actor T k t u a b = same_some (sym a ∙ b)
 does_step : (T : Run) (t k : ℕ) (test : Step → Bool) (s : Step) → Does test T t k → step_at T k ≡ Some s → IsTrue (test s)
 does_step T t k test s d e = subst (λ z. IsTrue (test z)) (same_some (sym d.stands ∙ e)) d.passes
 
+-- a Set isn't plain
 set_not_plain : (s : Step) → IsTrue (is_set s) → IsTrue (is_plain s) → ⊥
 set_not_plain (Set t v) a b = cc
 set_not_plain s a b = cc
 
+-- by a plain step no point takes another
 pub plain_takes_none : (T : Run) (t k : ℕ) → Does is_plain T t k → (p q : Point) → ¬ TakesBy T k p q
 plain_takes_none T t k d p q (by_set {t = u} e f c ne) = set_not_plain e.step e.passes (does_step T t k is_plain e.step d e.stands)
 plain_takes_none T t k d p q (by_new {by = by} n f c ne) = let h : false ≡ true = does_step T t k is_plain (New by n.behaviour n.node n.state) d n.stands in cc
 
+-- and nobody is made
 pub plain_makes_none : (T : Run) (t k : ℕ) → Does is_plain T t k → (by u : ℕ) → ¬ IsNew T k by u
 plain_makes_none T t k d by u n = let h : false ≡ true = does_step T t k is_plain (New by n.behaviour n.node n.state) d n.stands in cc
 
+-- a Set makes nobody
 pub set_makes_none : (T : Run) (t k : ℕ) → Does is_set T t k → (by u : ℕ) → ¬ IsNew T k by u
 set_makes_none T t k d by u n = let h : false ≡ true = does_step T t k is_set (New by n.behaviour n.node n.state) d n.stands in cc
 
@@ -79,9 +86,9 @@ new_same T k by other u v a b = a.made ∙ sym b.made
 edges_to_tell : (a : Point) (root : Points) (p q : Point) → IsTrue (edges_to a root p q) ↔ ((p ≡ a) × IsTrue (root q) × (q ≢ p))
 edges_to_tell a root p q = (
   λ h.
-  let first : p ≡ a = is_same p a (and_left (same_point p a) _ h) in
-  let rest = and_right (same_point p a) (root q && not (same_point q a)) h in
-  (first, and_left (root q) _ rest, λ e. differs (same_point q a) (and_right (root q) (not (same_point q a)) rest) (same_of q a (e ∙ first))),
+      let first : p ≡ a = is_same p a (and_left (same_point p a) _ h) in
+      let rest = and_right (same_point p a) (root q && not (same_point q a)) h in
+      (first, and_left (root q) _ rest, λ e. differs (same_point q a) (and_right (root q) (not (same_point q a)) rest) (same_of q a (e ∙ first))),
   λ t. and_both (same_point p a) _ (same_of p a t.0) (and_both (root q) (not (same_point q a)) t.1 (apart (same_point q a) (λ s. t.2 (is_same q a s ∙ sym t.0)))),
 ) where
   differs : (b : Bool) → IsTrue (not b) → IsTrue b → ⊥

@@ -30,42 +30,50 @@ hears_none T t k test f d = ap (option_and_then heard_by) d.stands ∙ f d.step 
 pub keeps_history : (T : Run) (t k : ℕ) (test : Step → Bool) → ((b : Bool) (s : Step) → IsTrue (test s) → move_of b s ≡ keep) → Does test T t k → move_at T t k ≡ keep
 keeps_history T t k test f d = move_at-own T t k d.step d.stands d.by ∙ f (history T t k).stable d.step d.passes
 
+-- the kinds that touch and do nothing else touch
 pub touching_touches : (s : Step) → IsTrue (only_touches s) → IsTrue (touches s)
 touching_touches (Get t) h = refl
 touching_touches (Skip t) h = refl
 touching_touches (Ask t a) h = refl
 touching_touches s h = absurd (cc)
 
+-- no point takes another by them
 pub touching_plain : (s : Step) → IsTrue (only_touches s) → IsTrue (is_plain s)
 touching_plain (Get t) h = refl
 touching_plain (Skip t) h = refl
 touching_plain (Ask t a) h = refl
 touching_plain s h = absurd (cc)
 
+-- they hear of no message
 pub touching_hears_none : (s : Step) → IsTrue (only_touches s) → heard_by s ≡ None
 touching_hears_none (Get t) h = refl
 touching_hears_none (Skip t) h = refl
 touching_hears_none (Ask t a) h = refl
 touching_hears_none s h = absurd (cc)
 
+-- and keep the history
 pub touching_keeps : (b : Bool) (s : Step) → IsTrue (only_touches s) → move_of b s ≡ keep
 touching_keeps b (Get t) h = refl
 touching_keeps b (Skip t) h = refl
 touching_keeps b (Ask t a) h = refl
 touching_keeps b s h = absurd (cc)
 
+-- a Set touches
 pub set_touches : (s : Step) → IsTrue (is_set s) → IsTrue (touches s)
 set_touches (Set t v) h = refl
 set_touches s h = absurd (cc)
 
+-- a Set hears of no message
 pub set_hears_none : (s : Step) → IsTrue (is_set s) → heard_by s ≡ None
 set_hears_none (Set t v) h = refl
 set_hears_none s h = absurd (cc)
 
+-- and keeps the history
 pub set_keeps : (b : Bool) (s : Step) → IsTrue (is_set s) → move_of b s ≡ keep
 set_keeps b (Set t v) h = refl
 set_keeps b s h = absurd (cc)
 
+-- the ending kinds are plain
 pub ending_plain : (s : Step) → IsTrue (ends_turn s) → IsTrue (is_plain s)
 ending_plain (Fall t m) h = refl
 ending_plain (Done t) h = refl
@@ -89,6 +97,7 @@ ending_quiet b (Trap t c) h e = refl
 ending_quiet b (Fail t) h e = refl
 ending_quiet b s h e = absurd (cc)
 
+-- an ending step that keeps the history hears of no message
 pub ending_hears_none : (T : Run) (t k : ℕ) → Does ends_turn T t k → move_at T t k ≡ keep → HearsOfNone T k
 ending_hears_none T t k d e = ap (option_and_then heard_by) d.stands ∙ ending_quiet (history T t k).stable d.step d.passes (sym (move_at-own T t k d.step d.stands d.by) ∙ e)
 

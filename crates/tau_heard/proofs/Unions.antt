@@ -6,11 +6,11 @@ use Rattle.tau_history.proofs.Before.{later_preceded}
 use Rattle.tau_history.proofs.Order.{antisymmetric}
 use Rattle.tau_points.specs.declared.point.Point.{Point}
 use Rattle.tau_view.specs.Edges.{both_edges}
-use Rattle.tau_view.specs.Held.{Held, Histories, Edges}
-use Rattle.tau_view.specs.Rules.{later_history, merged_in, merged}
+use Rattle.tau_view.specs.Held.{Held, Edges}
+use Rattle.tau_view.specs.Rules.{later_history, merged}
 use Rattle.tau_view.proofs.Later.{later-then, later-else}
 use Rattle.tau_view.proofs.Sets.{or_cases, or_left, or_right}
-use Rattle.tau_trace.specs.Run.{Run, ActsAt}
+use Rattle.tau_trace.specs.Run.{Run}
 use Rattle.tau_trace.specs.Histories.{history}
 use Rattle.tau_trace.proofs.PointLemmas.{chain}
 use Rattle.tau_past.specs.KnownLaws.{Union, Bound}
@@ -27,6 +27,7 @@ later_right a b p = by (ranks_before a b) refl where
       let is = later-else a b e in
       is ∙ antisymmetric a b p (subst (Precedes b) is (later_preceded a b (inl p)).1)
 
+-- and where the second precedes the first, the first is
 pub later_left : (a b : Timeline) → Precedes b a → later_of a b ≡ a
 later_left a b p = by (ranks_before a b) refl where
   by : (r : Bool) → ranks_before a b ≡ r → later_of a b ≡ a
@@ -35,19 +36,22 @@ later_left a b p = by (ranks_before a b) refl where
       is ∙ antisymmetric b a p (subst (Precedes a) is (later_preceded a b (inr p)).0)
   by false e = later-else a b e
 
+-- of two places one is up to the other
 up_to : (a b : ℕ) → (a ≤ b) ⊎ (b ≤ a)
 up_to a b = grind arith
 
+-- the greater of two places
 max_left : (a b : ℕ) → b ≤ a → max a b ≡ a
 max_left a b le = grind arith
 
 max_right : (a b : ℕ) → a ≤ b → max a b ≡ b
 max_right a b le = grind arith
 
--- any two histories of one transactor are comparable, and the later one is that at the greater place
+-- any two histories of one transactor are comparable
 pub comparable_at : (T : Run) (u a b : ℕ) → AreComparable (history T u a) (history T u b)
 comparable_at T u a b = ⊎_elim (λ le. inl (chain T u a b le)) (λ le. inr (chain T u b a le)) (up_to a b)
 
+-- and the later one is that at the greater place
 pub later_at : (T : Run) (u a b : ℕ) → later_of (history T u a) (history T u b) ≡ history T u (max a b)
 later_at T u a b = ⊎_elim
     (λ le. later_right (history T u a) (history T u b) (chain T u a b le) ∙ ap (history T u) (sym (max_right a b le)))

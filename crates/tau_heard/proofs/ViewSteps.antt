@@ -1,5 +1,5 @@
 -- What becomes of the view of what was heard, step by step.
-use Rattle.std.proofs.Common.{◌≡◌, ◌⊎◌, ◌↔◌, inl, inr, ⊎_elim, ℕ, suc, ◌<◌, ◌≤◌, Bool, false, IsTrue, Option, Some, None, refl, sym, ap, ◌∙◌, subst, arith}
+use Rattle.std.proofs.Common.{◌≡◌, ◌↔◌, inl, inr, ⊎_elim, ℕ, suc, ◌<◌, false, IsTrue, Option, Some, None, refl, ap, subst, arith}
 use Rattle.std.specs.Prelude.{option_and_then}
 use Rattle.tau_history.specs.Timeline as timeline
 use Rattle.tau_history.specs.Timeline.{Timeline, newborn, moved, keep, close}
@@ -27,8 +27,8 @@ use Rattle.tau_past.proofs.BoundLemmas.{has_bounds}
 use Rattle.tau_past.proofs.HeardLemmas.{origin_acts, new_acts, heard_after_step, heard_with_sender}
 use Rattle.tau_past.proofs.Known.{acts_known, hears_known, heard_before}
 use Rattle.tau_past.proofs.PendingLemmas.{pending_turn, pending_after_step}
-use Rattle.tau_heard.specs.Views.{IsPresent, is_owner, by_step, by_birth, IsView, IsViewOf, IsMessageView}
-use Rattle.tau_heard.specs.Laws.{only_touches, with_newborn, ViewAfterStep, ViewsStepByStep}
+use Rattle.tau_heard.specs.Views.{IsPresent, is_owner, by_step, by_birth, IsViewOf, IsMessageView}
+use Rattle.tau_heard.specs.Laws.{only_touches, with_newborn, ViewsStepByStep}
 use Rattle.tau_heard.proofs.Facts.{Knows, knows, view_of, with_owner, view_same}
 use Rattle.tau_heard.proofs.StepKinds.{does_of, does_as, hears_none, keeps_history, touching_touches, touching_plain, touching_hears_none, touching_keeps, set_touches, set_hears_none, set_keeps, ending_plain, ending_hears_none, falling_ends}
 use Rattle.tau_heard.proofs.OwnSteps.{is_plain, carried_pending, set_makes_none, set_takes, new_takes, kept_told, newborn_told, more_edges, kept_step, noted_step}
@@ -40,6 +40,7 @@ owner_moves T H owner t u here (is_owner e) = subst (IsPresent T H owner) (same_
 owner_moves T H owner t u here (by_step h a) = by_step h a
 owner_moves T H owner t u here (by_birth h n) = by_birth h n
 
+-- who is present without an owner is so with one
 no_owner_moves : (T : Run) (H : ℕ → Type 0) (owner : Option ℕ) (u : ℕ) → IsPresent T H None u → IsPresent T H owner u
 no_owner_moves T H owner u (is_owner e) = absurd (cc)
 no_owner_moves T H owner u (by_step h a) = by_step h a
@@ -253,6 +254,7 @@ module _ (T : Run) (t k : ℕ) (x : Held) (w : WellFormed T) (there : t < born T
       (kept_facts (does_as T t k ends_turn is_plain ending_plain d) move)
       (ended_roots d)
 
+-- the view of a transactor after each kind of step
 pub views_step_by_step : ViewsStepByStep
 views_step_by_step T t k x w there v = record {
   other = after_other T t k x w there v;
