@@ -3,7 +3,6 @@ use Rattle.std.proofs.Common.{◌≢◌, inr, ℕ, ◌<◌, max, Some, refl}
 use Rattle.tau_history.specs.declared.fate.Fate.TheVariants.{Ahead}
 use Rattle.tau_points.specs.declared.point.Point.{Point}
 use Rattle.tau_view.specs.Held.{Held, fate_in}
-use Rattle.tau_view.specs.Rules.{merged}
 use Rattle.tau_trace.specs.Run.{Run}
 use Rattle.tau_trace.specs.Numbering.{born, sent}
 use Rattle.tau_trace.specs.Points.{point_at}
@@ -13,14 +12,9 @@ use Rattle.tau_past.specs.Heard.{Heard, HeardBy, HeardTogether}
 use Rattle.tau_past.specs.KnownLaws.{Bound}
 use Rattle.tau_past.proofs.BoundLemmas.{has_bounds, union_bound}
 use Rattle.tau_past.proofs.HeardLemmas.{heard_sets_closed, sent_touched}
-use Rattle.tau_heard.specs.Views.{IsView, IsViewOf, IsMessageView}
+use Rattle.tau_heard.specs.Views.{IsView, IsViewOf}
 use Rattle.tau_judgement.proofs.Fates.{IsViewOfClosed, own_reached}
 use Rattle.tau_judgement.proofs.Pasts.{touched_reached}
-
--- a transactor's view and a message's, merged, are the view of what both have heard
-abbrev pub MergedViewsAreTogether : Type 0
-MergedViewsAreTogether = (T : Run) (t k m : ℕ) (x y : Held) → WellFormed T → t < born T k → m < sent T k → IsViewOf T t k x → IsMessageView T m y
-    → IsView T (HeardTogether T t k m) (Some t) (Pending T t k) (merged x y)
 
 module _ (T : Run) (t k : ℕ) (w : WellFormed T) (exists : t < born T k) where
   -- the view of what t has heard, and t's own point on it

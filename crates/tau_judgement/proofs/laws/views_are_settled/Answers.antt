@@ -1,4 +1,3 @@
-use Rattle.tau_heard.proofs.HeardLaws.{merged_is_together}
 use Rattle.tau_judgement.proofs.JudgementLaws.{views_are_settled, merged_views_are_settled}
 use Rattle.tau_judgement.proofs.laws.views_are_settled.Goals as goal
 
@@ -6,4 +5,4 @@ pub returns-clause-own : goal.returns-clause-own
 returns-clause-own c = views_are_settled
 
 pub returns-clause-merged : goal.returns-clause-merged
-returns-clause-merged c = merged_views_are_settled merged_is_together
+returns-clause-merged c = merged_views_are_settled
