@@ -94,11 +94,9 @@ fn choice_of_set(value: &Value, who: u32, states: &States) -> Result<Choice, All
             reply: Value::Unit,
         });
     }
+    let value = value.copy()?;
     Ok(Choice::GoesOn {
-        step: Step::Set {
-            who,
-            value: value.copy()?,
-        },
+        step: Step::Set { who, value },
         reply: Value::Unit,
     })
 }

@@ -3,6 +3,7 @@ use crate::choices::choice_of_checkpoint;
 use crate::{Choice, asks_freedom, chosen};
 use std::alloc::Global;
 use std::process::Abort;
+use std::test::Fail;
 use tau_eval::Effect;
 use tau_sexpr::{Word, are_word_bytes};
 use tau_states::States;
@@ -75,31 +76,43 @@ fn choice(alloc: Global, effect: &Effect) -> Option<Choice> {
     chosen(effect, 0, &trace, &states, false).ok()
 }
 
-#[test]
-fn a_get_gives_the_state(rt: HostRuntime) {
-    let gives = match choice(rt.alloc(), &Effect::Get) {
-        Some(Choice::GoesOn { step, reply }) => {
+/// Whether it is a Get of the start, and the reply is the state.
+fn is_get(choice: &Choice) -> bool {
+    match choice {
+        Choice::GoesOn { step, reply } => {
             matches!(step, Step::Get { who: 0 }) && reply.same(&Value::Int(10))
         }
-        _ => false,
-    };
-    assert!(rt; gives);
+        Choice::Ends { .. } => false,
+    }
+}
+
+/// Whether it is a New of the start, and the reply is the name of transactor 1.
+fn is_first_new(choice: &Choice) -> bool {
+    match choice {
+        Choice::GoesOn { step, reply } => {
+            matches!(step, Step::New { who: 0, .. }) && reply.same(&Value::Name(1))
+        }
+        Choice::Ends { .. } => false,
+    }
 }
 
 #[test]
-fn a_new_gives_the_next_name(rt: HostRuntime) {
+fn a_get_gives_the_state(rt: HostRuntime) -> Result<(), Fail> {
+    let choice = choice(rt.alloc(), &Effect::Get).ok_or("no choice")?;
+    assert!(rt; is_get(&choice));
+    Ok(())
+}
+
+#[test]
+fn a_new_gives_the_next_name(rt: HostRuntime) -> Result<(), Fail> {
     let new = Effect::New {
         behaviour: 0,
         node: 0,
         state: Value::Int(4),
     };
-    let gives = match choice(rt.alloc(), &new) {
-        Some(Choice::GoesOn { step, reply }) => {
-            matches!(step, Step::New { who: 0, .. }) && reply.same(&Value::Name(1))
-        }
-        _ => false,
-    };
-    assert!(rt; gives);
+    let choice = choice(rt.alloc(), &new).ok_or("no choice")?;
+    assert!(rt; is_first_new(&choice));
+    Ok(())
 }
 
 #[test]

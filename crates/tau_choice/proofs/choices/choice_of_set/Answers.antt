@@ -6,4 +6,4 @@ pub returns-then-is_stable : goal.returns-then-is_stable
 returns-then-is_stable c = lemmas.skip_fits c.args.states.now.records c.args.who c.is_stable.result c.requires c.is_stable.ensures.stable (val_of c.args.value.now) c.if-is_stable.true
 
 pub returns : goal.returns
-returns c = lemmas.set_fits c.args.states.now.records c.args.who c.is_stable.result c.requires c.is_stable.ensures.stable c.in_ok-copy.field-0 c.args.value.now c.if-is_stable.false c.in_ok-copy.ensures
+returns c = lemmas.set_fits c.args.states.now.records c.args.who c.is_stable.result c.requires c.is_stable.ensures.stable c.in_ok-value.value c.args.value.now c.if-is_stable.false c.in_ok-value.ensures
