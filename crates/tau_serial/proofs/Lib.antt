@@ -1,0 +1,4 @@
+pub mod Messages
+pub mod Turns
+pub mod Jobs
+pub mod Workers

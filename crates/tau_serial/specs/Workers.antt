@@ -1,5 +1,7 @@
 -- What a worker keeps of a run.
 use Rattle.std.specs.Prelude.{◌≡◌, ◌==◌, ℕ, Bool, false, if◌then◌else◌, Option, Some, None}
+use Rattle.tau_value.specs.declared.shared.Value.{Value}
+use Rattle.tau_value.specs.Value.{val_of}
 use Rattle.tau_tree.specs.declared.programs.Program.{Program}
 use Rattle.tau_trace.specs.declared.step.Step.{Step}
 use Rattle.tau_trace.specs.Run.{Run, len}
@@ -9,6 +11,8 @@ use Rattle.tau_script.specs.declared.cursor.Cursor.{Cursor}
 use Rattle.tau_script.specs.Cursors.{CursorAt, IsCurrent, IsDueAt}
 use Rattle.tau_legal.specs.Traces.{Fitting, Legal}
 use Rattle.tau_eval.specs.Turn as jobs
+use Rattle.tau_rules.specs.declared.answers.Delivered.{Delivered}
+use Rattle.tau_rules.specs.declared.answers.Delivered.TheVariants.{Began, Dropped, Fell, Voided}
 use Rattle.tau_rules.specs.Answers.{IsOpenJob}
 use Rattle.tau_serial.specs.Flight.{NoneInFlightBelow}
 
@@ -49,3 +53,15 @@ is_job_of t (Some job) = job.who == t
 
 abbrev pub without_job_of : ℕ → Option jobs.Turn → Option jobs.Turn
 without_job_of t job = if is_job_of t job then None else job
+
+-- the job after the step of its effect: with the reply; none where the step ended the turn
+abbrev pub after_reply : jobs.Turn → Option Value → Option jobs.Turn
+after_reply job None = None
+after_reply job (Some reply) = Some (jobs.with_reply job (val_of reply))
+
+-- the job of the turn that a receipt opened
+abbrev pub begun_by : Delivered → Option jobs.Turn
+begun_by (Began job) = Some job
+begun_by Dropped = None
+begun_by Fell = None
+begun_by Voided = None

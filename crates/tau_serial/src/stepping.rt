@@ -8,16 +8,17 @@ ghost use Rattle.tau_trace.specs.Numbering.{born, InFlight};
 ghost use Rattle.tau_trace.specs.Histories.{IsLiving};
 ghost use Rattle.tau_legal.specs.Traces.{Legal, Complete};
 ghost use Rattle.tau_rules.specs.System.{with_step};
-ghost use Rattle.tau_serial.specs.Workers.{Works, HasAsked, is_job_of, without_job_of};
+ghost use Rattle.tau_serial.specs.Workers.{Works, HasAsked, after_reply, begun_by, is_job_of, without_job_of};
 
 use crate::flight::least_in_flight;
 use std::alloc::{AllocError, Global};
 use tau_compact::PrunedView;
-use tau_eval::Job;
+use tau_eval::{Job, Pending};
 use tau_rules::{ActError, Acted, DeliverError, Delivered, FailError, LoseError, System};
 use tau_script::{Cursor, passed};
 use tau_trace::{Step, Trace};
 use tau_tree::Program;
+use tau_value::Value;
 
 /// A worker: the system, the cursor of the script, the job of the open turn, and a number below which no message is in
 /// flight.
@@ -177,10 +178,23 @@ impl<'p> Worker<'p> {
             Ok(pending) => pending,
             Err((_job, failed)) => return Err(failed),
         };
-        match self.system.act(&pending) {
-            Ok(Acted::Reply(reply)) => Ok(Some(pending.resume(reply))),
+        let reply = self.make_effect(&pending)?;
+        Ok(job_after(pending, reply))
+    }
+
+    // Makes the step of an effect of the open turn, and gives the reply where the turn goes on.
+    fn make_effect(&mut self, pending: &Pending<'p>) -> Result<Option<Value>, AllocError>
+        requires few { len self.old.system.run < 1000000 }
+        requires asked { HasAsked self.old.system.program self.old.system.run self.old.cursor (Some pending.now) self.old.least None }
+        ensures works { IfOk result (λ reply. Works self.new.system.program self.new.system.run self.new.cursor (after_reply pending.now reply) self.new.least) }
+        ensures program { IfOk result (λ _. self.new.system.program ≡ self.old.system.program) }
+        ensures stepped { IfOk result (λ _. len self.new.system.run ≡ suc (len self.old.system.run)) }
+    {
+        match self.system.act(pending) {
+            Ok(Acted::Reply(reply)) => Ok(Some(reply)),
             Ok(Acted::TurnOver) => Ok(None),
-            Ok(Acted::Redo(_)) | Err(ActError::Stale { .. }) => unreachable!(),
+            Ok(Acted::Redo(_)) => unreachable!(),
+            Err(ActError::Stale { .. }) => unreachable!(),
             Err(ActError::NoMemory) => Err(AllocError),
         }
     }
@@ -213,8 +227,7 @@ impl<'p> Worker<'p> {
         ensures stepped { IfOk result (λ _. len self.new.system.run ≡ suc (len self.old.system.run)) }
     {
         match self.system.deliver(message) {
-            Ok(Delivered::Began(job)) => Ok(Some(job)),
-            Ok(Delivered::Dropped | Delivered::Fell | Delivered::Voided) => Ok(None),
+            Ok(delivered) => Ok(job_begun(delivered)),
             Err(DeliverError::NotInFlight { .. } | DeliverError::Busy { .. }) => unreachable!(),
             Err(DeliverError::NoMemory) => Err(AllocError),
         }
@@ -228,5 +241,25 @@ fn is_of(job: &Option<Job<'_>>, who: u32) -> bool
     match job {
         Some(job) => job.who() == who,
         None => false,
+    }
+}
+
+// The job with the reply to its effect; `None` where the effect ended the turn.
+fn job_after<'p>(pending: Pending<'p>, reply: Option<Value>) -> Option<Job<'p>>
+    ensures { result ≡ after_reply pending.entry reply }
+{
+    match reply {
+        Some(reply) => Some(pending.resume(reply)),
+        None => None,
+    }
+}
+
+// The job of the turn that a receipt opened, if it opened one.
+fn job_begun<'p>(delivered: Delivered<'p>) -> Option<Job<'p>>
+    ensures { result ≡ begun_by delivered.entry }
+{
+    match delivered {
+        Delivered::Began(job) => Some(job),
+        Delivered::Dropped | Delivered::Fell | Delivered::Voided => None,
     }
 }
