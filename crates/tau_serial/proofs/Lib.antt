@@ -2,3 +2,4 @@ pub mod Messages
 pub mod Turns
 pub mod Jobs
 pub mod Workers
+pub mod Completeness

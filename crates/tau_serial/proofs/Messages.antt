@@ -34,3 +34,7 @@ none_below_after T s n h =
         not_removed = λ j b r. f.not_removed j (omega (arith, b, len-appended T s)) (removes-same m j (agree_below (suc j) b agree) r);
       });
     }
+
+-- none is in flight where the least one would be beyond the last
+pub none_in_flight : (T : Run) (n : ℕ) → NoneInFlightBelow T n → sent T (len T) ≤ n → (m : ℕ) → ¬ InFlight T m (len T)
+none_in_flight T n h le m f = h.none m (omega (arith, f.exists)) f

@@ -80,7 +80,10 @@ impl<'p> Worker<'p> {
         ensures complete { IsTrue result → Complete self.new.system.program self.new.system.run }
         ensures incomplete { IsFalse result → ¬ Complete self.new.system.program self.new.system.run }
     {
-        self.due().is_none() && self.job.is_none() && self.next_message().is_none()
+        if self.due().is_some() || self.job.is_some() {
+            return false;
+        }
+        self.next_message().is_none()
     }
 
     /// The trace of the run.
