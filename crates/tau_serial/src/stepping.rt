@@ -112,6 +112,7 @@ impl<'p> Worker<'p> {
             self.system.trace(),
         )
     }
+
     // Makes a due step.
     fn make_due(&mut self, step: &Step) -> Result<(), AllocError>
         requires asked { HasAsked self.old.system.program self.old.system.run self.old.cursor self.old.job self.old.least (Some step.now) }
@@ -209,6 +210,7 @@ impl<'p> Worker<'p> {
         ensures job { self.new.job ≡ self.old.job }
         ensures asked { HasAsked self.new.system.program self.new.system.run self.new.cursor None self.new.least None }
         ensures some { IfSome result (λ m. InFlight self.new.system.run m (len self.new.system.run)) }
+        ensures least { IfSome result (λ m. (k : ℕ) → k < m → ¬ InFlight self.new.system.run k (len self.new.system.run)) }
         ensures none { IsNone result → (m : ℕ) → ¬ InFlight self.new.system.run m (len self.new.system.run) }
     {
         let trace = self.system.trace();

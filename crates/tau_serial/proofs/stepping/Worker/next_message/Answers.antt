@@ -1,4 +1,4 @@
-use Rattle.std.proofs.Common.{◌≤◌, ℕ, arith, subst}
+use Rattle.std.proofs.Common.{◌<◌, ◌≤◌, ℕ, arith, subst}
 use Rattle.tau_trace.specs.Run.{Run, len}
 use Rattle.tau_trace.specs.Numbering.{sent, InFlight}
 use Rattle.tau_serial.proofs.Messages.{none_in_flight}
@@ -10,3 +10,8 @@ returns-else-self-sent-clause-none c _ =
     let n : ℕ = c.least_in_flight-self.result in
     let le : sent T (len T) ≤ n = omega (arith, c.sent.ensures, c.if-self-sent.false) in
     subst (λ (U : Run). (m : ℕ) → ¬ InFlight U m (len U)) c.trace-trace.ensures.run (none_in_flight T n c.least_in_flight-self.ensures.below le)
+
+pub returns-then-self-sent-clause-least : goal.returns-then-self-sent-clause-least
+returns-then-self-sent-clause-least c =
+    let n : ℕ = c.least_in_flight-self.result in
+    subst (λ (U : Run). (k : ℕ) → k < n → ¬ InFlight U k (len U)) c.trace-trace.ensures.run c.least_in_flight-self.ensures.below.none
