@@ -1,9 +1,9 @@
 //! The run that one worker makes of a program, on the caller's thread.
 #![tactic(auto)]
 
-mod run;
+mod worker;
 
-pub use run::{Serial, run};
+pub use worker::{Serial, run};
 
 #[cfg(test)]
 mod tests;

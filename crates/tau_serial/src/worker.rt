@@ -30,6 +30,6 @@ pub fn run(alloc: Global, program: &Program, limit: u32) -> Result<Serial, Alloc
     ensures stopped { IfOk result (λ r. IsFalse r.is_complete
         → (¬ Complete program.now r.trace.run) × (len r.trace.run ≡ limit)) }
 {
-    let _given = (alloc, program, limit);
+    let _given = (alloc, program.nodes, limit);
     Err(AllocError)
 }
