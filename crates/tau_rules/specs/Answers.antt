@@ -4,7 +4,7 @@ use Rattle.tau_value.specs.Value.{val_of}
 use Rattle.tau_tree.specs.declared.programs.Program.{Program}
 use Rattle.tau_trace.specs.declared.step.Step.{Step}
 use Rattle.tau_trace.specs.declared.step.Step.TheVariants.{Take, Drop, Fall, Void}
-use Rattle.tau_trace.specs.Steps.{actor, ends_turn, is_take}
+use Rattle.tau_trace.specs.Steps.{ends_turn, is_take}
 use Rattle.tau_trace.specs.Run.{Run, len, step_at, Does}
 use Rattle.tau_trace.specs.Numbering.{born, Receives, Removes}
 use Rattle.tau_trace.specs.Places.{IsFirst}

@@ -1,6 +1,5 @@
-use Rattle.std.proofs.Common.{◌≡◌, ◌<◌, ℕ, Some, sym, subst}
+use Rattle.std.proofs.Common.{◌<◌, ℕ, Some, sym, subst}
 use Rattle.tau_fate.specs.declared.verdict.Verdict as fates
-
 use Rattle.tau_trace.specs.declared.step.Step.TheVariants.{Drop, Fall, Void}
 use Rattle.tau_trace.specs.Run.{Run, len}
 use Rattle.tau_trace.specs.Numbering.{sent, Receives}
