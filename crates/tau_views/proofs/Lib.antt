@@ -8,3 +8,5 @@ pub mod Hearing
 pub mod Touching
 pub mod Making
 pub mod Leaving
+pub mod Opens
+pub mod Judges

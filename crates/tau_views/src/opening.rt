@@ -55,7 +55,7 @@ fn post_views<V: View + Drop>(alloc: Global, posts: usize) -> Result<Vec<Option<
     ensures { IfOk result (λ v. ArePosts V.drops_edge V.drops_root (letters_of V.held v.items) posts) }
 {
     let mut views = Vec::with_capacity(alloc, posts)?;
-    for _ in 0..posts {
+    for _post in 0..posts {
         views.push(Some(V::empty(alloc)))?;
     }
     Ok(views)
