@@ -1,0 +1,9 @@
+pub mod Facts
+pub mod Unions
+pub mod OwnSteps
+pub mod StepKinds
+pub mod ViewSteps
+pub mod Openings
+pub mod Comparisons
+pub mod Locality
+pub mod HeardLaws
