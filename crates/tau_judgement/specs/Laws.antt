@@ -1,10 +1,9 @@
 -- What views decide is what was decided by what was heard, each the contract of a function of the crate.
-use Rattle.std.specs.Prelude.{◌≡◌, ◌↔◌, ℕ, ◌<◌}
-use Rattle.tau_points.specs.declared.point.Point.{Point}
-use Rattle.tau_view.specs.Held.{Held, Points, only}
+use Rattle.std.specs.Prelude.{◌↔◌, ℕ, ◌<◌}
+use Rattle.tau_view.specs.Held.{Held, only}
 use Rattle.tau_view.specs.Rules.{merged}
 use Rattle.tau_view.specs.Past.{SomeFallen, SomeNotFirm, Settled}
-use Rattle.tau_view.specs.Trim.{EdgeTest, RootTest, trim, DropsSettledEdges, DropsClosedRoots, DropsForGood}
+use Rattle.tau_view.specs.Trim.{EdgeTest, RootTest, trim}
 use Rattle.tau_fate.specs.declared.verdict.Verdict as fates
 use Rattle.tau_fate.specs.declared.verdict.Verdict.TheVariants as verdicts
 use Rattle.tau_fate.specs.declared.freedom.Freedom.{Freedom}
