@@ -1,4 +1,3 @@
-pub mod Laws
 pub mod Trimmed
 pub mod Appended
 pub mod Lists

@@ -17,7 +17,7 @@ use Rattle.tau_trace.proofs.Lists.{same_some, slice_get-push_cases}
 use Rattle.tau_heard.specs.Views.{IsViewOf, IsMessageView}
 use Rattle.tau_views.specs.Kept.{IsTrimmed, AreViews}
 use Rattle.tau_views.specs.Opened.{AreStarts, ArePosts}
-use Rattle.tau_views.proofs.Laws.{starts_open_alone, posts_have_heard_nothing}
+use Rattle.tau_heard.proofs.HeardLaws.{starts_open_alone, posts_have_heard_nothing}
 use Rattle.tau_views.proofs.Lists.{element}
 
 -- the run without steps
