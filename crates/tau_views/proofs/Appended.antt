@@ -73,10 +73,12 @@ module _ (T : Run) (s : Step) where
     pub new_flies : (m : ℕ) → sent T (len T) ≤ m → m < sent (appended T s) (suc (len T)) → InFlight (appended T s) m (suc (len T))
     new_flies m g l = record {
       exists = l;
-      not_removed = λ j b r. omega (arith,
+      not_removed = λ j b r. omega (
+        arith,
         removes_sent (appended T s) m j (well_formed_then.known j) r,
         sent-grows (appended T s) j (len T) (omega arith),
-        sent_here);
+        sent_here,
+      );
     }
 
     pub own_stays : (t : ℕ) (x : Held) → t < born T (len T) → IsViewOf T t (len T) x → IsViewOf (appended T s) t (len T) x

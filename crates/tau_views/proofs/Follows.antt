@@ -63,25 +63,25 @@ module _ (de : EdgeTest) (dr : RootTest) (T : Run) (s : Step) (own : List Held) 
   own_views None f t h e = stays_after f t h e
   own_views (Some c) f t h e = ⊎_elim
       (λ (is : t ≡ c.0).
-        let P : ℕ → Type 0 = λ i. i < length own in
-        let within : c.0 < length own = subst P is (inside (slice_get_within (set own c.0 c.1) t h e)) in
-        let same : c.1 ≡ h = same_some (sym (slice_get-set_same own c.0 c.1 within) ∙ ap (slice_get (set own c.0 c.1)) (sym is) ∙ e) in
-        let Q : ℕ → Held → Type 0 = λ i k. IsTrimmed de dr (IsViewOf (appended T s) i (suc (len T))) k in
-        subst (λ i. Q i h) (sym is) (subst (Q c.0) same f.1))
+      let P : ℕ → Type 0 = λ i. i < length own in
+      let within : c.0 < length own = subst P is (inside (slice_get_within (set own c.0 c.1) t h e)) in
+      let same : c.1 ≡ h = same_some (sym (slice_get-set_same own c.0 c.1 within) ∙ ap (slice_get (set own c.0 c.1)) (sym is) ∙ e) in
+      let Q : ℕ → Held → Type 0 = λ i k. IsTrimmed de dr (IsViewOf (appended T s) i (suc (len T))) k in
+      subst (λ i. Q i h) (sym is) (subst (Q c.0) same f.1))
       (λ ne. other_after t h (sym (slice_get-set_other own c.0 t c.1 ne) ∙ e) (λ a. ne (same_some (sym a ∙ f.0))))
       (equal_or_not t c.0)
     where
-    inside : t < length (set own c.0 c.1) → t < length own
-    inside l = omega (arith, l, length-with_item (Some c) own)
+      inside : t < length (set own c.0 c.1) → t < length own
+      inside l = omega (arith, l, length-with_item (Some c) own)
 
   all_views : (o : Option (ℕ × Held)) (n : Option Held) → OwnFollows de dr T s o → NewbornFollows de dr T s n → (t : ℕ) (h : Held) → slice_get (with_last n (with_item o own)) t ≡ Some h → IsTrimmed de dr (IsViewOf (appended T s) t (suc (len T))) h
   all_views o None f g t h e = own_views o f t h e
   all_views o (Some k) f g t h e = ⊎_elim
       (λ a. own_views o f t h a)
       (λ b.
-        let is : born T (len T) ≡ t = omega (arith, b.0, length-with_item o own, views.transactors) in
-        let Q : ℕ → Held → Type 0 = λ i x. IsTrimmed de dr (IsViewOf (appended T s) i (suc (len T))) x in
-        subst (λ i. Q i h) is (subst (Q (born T (len T))) b.1 g.1))
+      let is : born T (len T) ≡ t = omega (arith, b.0, length-with_item o own, views.transactors) in
+      let Q : ℕ → Held → Type 0 = λ i x. IsTrimmed de dr (IsViewOf (appended T s) i (suc (len T))) x in
+      subst (λ i. Q i h) is (subst (Q (born T (len T))) b.1 g.1))
       (slice_get-push_cases (with_item o own) k h t e)
 
   count_own : (o : Option (ℕ × Held)) (n : Option Held) → NewbornFollows de dr T s n → length (with_last n (with_item o own)) ≡ born (appended T s) (suc (len T))
@@ -103,10 +103,10 @@ module _ (de : EdgeTest) (dr : RootTest) (T : Run) (s : Step) (own : List Held) 
   all_letters o (Some k) g m h e = ⊎_elim
       (λ a. old_letter o m h a)
       (λ b.
-        let is : sent T (len T) ≡ m = omega (arith, b.0, length-without_item o letters, views.messages) in
-        let same : k ≡ h = same_some b.1 in
-        let Q : ℕ → Held → Type 0 = λ i x. IsTrimmed de dr (IsMessageView (appended T s) i) x in
-        subst (λ i. Q i h) is (subst (Q (sent T (len T))) same g.1))
+      let is : sent T (len T) ≡ m = omega (arith, b.0, length-without_item o letters, views.messages) in
+      let same : k ≡ h = same_some b.1 in
+      let Q : ℕ → Held → Type 0 = λ i x. IsTrimmed de dr (IsMessageView (appended T s) i) x in
+      subst (λ i. Q i h) is (subst (Q (sent T (len T))) same g.1))
       (slice_get-push_cases (without_item o letters) (Some k) (Some h) m e)
 
   -- messages that were there before the step

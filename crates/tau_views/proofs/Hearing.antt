@@ -35,9 +35,9 @@ merged_history T t m x y w few exists sent_before own message =
     let then = well_formed_then T (Drop t m) w may in
     let after = (after_step T (Drop t m) w may t x exists own).drop m y (here T (Drop t m)) (message_stays T (Drop t m) w may m y sent_before message) in
     let same : history (appended T (Drop t m)) t (suc (len T)) ≡ history T t (len T) =
-        history-suc (appended T (Drop t m)) t (len T)
-        ∙ ap (λ a. moved a (history (appended T (Drop t m)) t (len T))) (move_at-own (appended T (Drop t m)) t (len T) (Drop t m) (here T (Drop t m)) refl)
-        ∙ sym (history-same t (len T) (agree_appended T (Drop t m))) in
+    history-suc (appended T (Drop t m)) t (len T)
+    ∙ ap (λ a. moved a (history (appended T (Drop t m)) t (len T))) (move_at-own (appended T (Drop t m)) t (len T) (Drop t m) (here T (Drop t m)) refl)
+    ∙ sym (history-same t (len T) (agree_appended T (Drop t m))) in
     views_have_the_own_history (appended T (Drop t m)) t (suc (len T)) (merged x y) then (omega (arith, exists, born_then T (Drop t m))) after ∙ ap Some same
 
 module _ (de : EdgeTest) (dr : RootTest) {V : Type 0} (held : V → Held) (v : Views V) (T : Run) (s : Step) (next : IsNext de dr held v T s) (t m : ℕ) (h l : Held)

@@ -68,8 +68,8 @@ module _ (de : EdgeTest) (dr : RootTest) where
       is = same_some (posting.letter m (Some h) e);
     };
     in_flight = λ m f.
-      let x = element letters m (omega (arith, f.exists, sent_first)) in
-      (trim de dr nothing, x.1 ∙ ap Some (posting.letter m x.0 x.1));
+        let x = element letters m (omega (arith, f.exists, sent_first)) in
+        (trim de dr nothing, x.1 ∙ ap Some (posting.letter m x.0 x.1));
     gone = λ m l not. absurd (not (record { exists = l; not_removed = λ j b. absurd (omega arith) }));
   } where
     sent_first : length letters ≡ sent (opened o) 0

@@ -93,11 +93,7 @@ pub(crate) fn after_take<V: View + Drop>(view: &V, letter: &V) -> Result<V, Allo
 }
 
 /// The first point of a new transactor depends on the roots, and the view has the transactor's history.
-pub(crate) fn after_new<V: View + Drop>(
-    alloc: Global,
-    view: &V,
-    made: u32,
-) -> Result<V, AllocError>
+pub(crate) fn after_new<V: View + Drop>(alloc: Global, view: &V, made: u32) -> Result<V, AllocError>
     requires { MayNote made timeline.newborn (V.held view.now).history }
     ensures { IfOk result (λ v. IsAfter V.drops_edge V.drops_root (with_newborn made) (V.held view.now) (V.held v)) }
 {

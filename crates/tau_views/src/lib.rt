@@ -13,5 +13,5 @@ mod views;
 
 pub use views::{ViewChange, Views};
 
-
-
+#[cfg(test)]
+mod tests;
