@@ -6,3 +6,4 @@ pub mod RecordLemmas
 pub mod MessageLemmas
 pub mod SystemLemmas
 pub mod DeliverLemmas
+pub mod ReadingLemmas
