@@ -1,3 +1,4 @@
 pub mod TurnLemmas
 pub mod SystemLemmas
 pub mod DeliverLemmas
+pub mod ActLemmas

@@ -9,6 +9,7 @@ mod errors;
 mod failing;
 mod records;
 mod system;
+mod turns;
 
 pub use answers::{Acted, Delivered, Standing};
 pub use errors::{ActError, DeliverError, FailError, LoseError};
