@@ -8,6 +8,8 @@ use Rattle.tau_trace.specs.Run.{Run, len, step_at}
 use Rattle.tau_states.specs.Opening.{opening_states}
 use Rattle.tau_legal.specs.Turns.{Replies}
 use Rattle.tau_choice.specs.Choices.{IsStepOfTurn, goes_on}
+use Rattle.tau_choice.specs.declared.choices.Choice.{Choice}
+use Rattle.tau_choice.specs.declared.choices.Choice.TheVariants.{GoesOn, Ends}
 use Rattle.tau_rules.specs.declared.answers.Acted.{Acted}
 use Rattle.tau_rules.specs.declared.answers.Acted.TheVariants.{Reply, TurnOver, Redo}
 use Rattle.tau_rules.specs.System.{Core, with_step}
@@ -27,3 +29,8 @@ abbrev pub IsMade : Core → Core → ℕ → Acted → Type 0
 IsMade old new t (Reply r) = (s : Step) × IsMadeBy old new t s × IsTrue (goes_on s) × Replies old.run (opening_states old.program.starts) (len old.run) s (val_of r)
 IsMade old new t TurnOver = (s : Step) × IsMadeBy old new t s × IsTrue (ends_turn s)
 IsMade old new t (Redo job) = ⊥
+
+-- the step that is chosen
+abbrev pub step_of : Choice → Step
+step_of (GoesOn s reply) = s
+step_of (Ends s) = s

@@ -4,13 +4,14 @@ ghost use Rattle.tau_value.specs.Value.{val_of};
 ghost use Rattle.tau_tree.specs.Sound.{bodies};
 ghost use Rattle.tau_tree.specs.Expr.{code_of};
 ghost use Rattle.tau_trace.specs.Run.{len};
+ghost use Rattle.tau_trace.specs.Known.{IsKnownAt};
 ghost use Rattle.tau_past.specs.Decisions.{Free};
 ghost use Rattle.tau_eval.specs.Effect.{eff_of};
 ghost use Rattle.tau_eval.specs.Turn.{IsTurnOf};
 ghost use Rattle.tau_legal.specs.Turns.{TurnHas};
 ghost use Rattle.tau_choice.specs.Choices.{asks_freedom as asks_freedom_by, IsChoice};
 ghost use Rattle.tau_rules.specs.Answers.{IsActed, IsUnacted};
-ghost use Rattle.tau_rules.specs.Acting.{IsMade};
+ghost use Rattle.tau_rules.specs.Acting.{IsMade, step_of};
 
 use crate::records::{Record, RecordChange};
 use crate::turns::{is_open, taker, turn_end};
@@ -75,7 +76,8 @@ impl<'p, V: View + Drop> System<'p, V> {
     // The step of the next effect of the open turn of a transactor, and its reply.
     fn choice(&self, who: u32, effect: &Effect) -> Result<Choice, AllocError>
         requires { TurnHas self.now.program self.now.run who (len self.now.run) (eff_of effect.now) }
-        ensures { IfOk result (IsChoice self.now.program self.now.run who) }
+        ensures choice { IfOk result (IsChoice self.now.program self.now.run who) }
+        ensures known { IfOk result (λ c. IsKnownAt self.now.run (len self.now.run) (step_of c)) }
     {
         let is_free = self.freedom(who, effect)?;
         chosen(effect, who, &self.trace, &self.states, is_free)
