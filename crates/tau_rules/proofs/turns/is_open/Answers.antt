@@ -1,4 +1,4 @@
-use Rattle.std.proofs.Common.{◌≡◌, Some, eq-eqb, eqb-true, subst, sym}
+use Rattle.std.proofs.Common.{Some, eq-eqb, eqb-true, subst}
 use Rattle.tau_trace.specs.Turns.{IsOpenTurn}
 use Rattle.tau_trace.specs.Run.{len}
 use Rattle.tau_rules.proofs.ActLemmas.{open_is}

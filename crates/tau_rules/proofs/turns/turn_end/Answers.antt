@@ -1,4 +1,4 @@
-use Rattle.std.proofs.Common.{◌<◌, ◌≤◌, arith}
+use Rattle.std.proofs.Common.{arith}
 use Rattle.tau_trace.specs.Run.{len}
 use Rattle.tau_rules.proofs.ActLemmas.{turn_ended, still_open, IsUnbounded}
 use Rattle.tau_rules.proofs.turns.turn_end.Goals as goal

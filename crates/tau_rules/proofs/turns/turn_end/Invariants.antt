@@ -1,4 +1,4 @@
-use Rattle.std.proofs.Common.{◌<◌, ◌≤◌}
+use Rattle.std.proofs.Common.{◌<◌}
 use Rattle.tau_rules.proofs.ActLemmas.{IsUnbounded}
 use Rattle.tau_rules.proofs.turns.turn_end.Given as goal
 

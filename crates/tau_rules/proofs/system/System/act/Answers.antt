@@ -99,5 +99,5 @@ returns-clause-ok g c =
     let inside_kept : IsKept inside = record { sound = c.self.invariant.0.sound; well_formed = c.self.invariant.0.well_formed; fitting = c.self.invariant.0.fitting } in
     let kept : IsKept c.args.self.now = subst IsKept c.self.view_is inside_kept in
     IfOk-weaker c.make_step.result (IsMade c.args.self.now c.make_step.new.self t) (IsActed c.args.self.now c.make_step.new.self job)
-        (acted c.args.self.now c.make_step.new.self kept c.requires.few t job is.who was_open)
-        c.make_step.ensures.ok
+    (acted c.args.self.now c.make_step.new.self kept c.requires.few t job is.who was_open)
+    c.make_step.ensures.ok

@@ -1,4 +1,4 @@
-use Rattle.std.proofs.Common.{◌<◌, IfOk, subst, sym, arith}
+use Rattle.std.proofs.Common.{IfOk, subst, sym, arith}
 use Rattle.std.proofs.lemmas.Result.{IfOk-weaker}
 use Rattle.tau_tree.specs.declared.programs.Program.{Program}
 use Rattle.tau_trace.specs.Run.{Run, len}
@@ -27,5 +27,5 @@ returns-clause-known g c =
     let kept : IsKept core = record { sound = c.self.invariant.0.sound; well_formed = c.self.invariant.0.well_formed; fitting = c.self.invariant.0.fitting } in
     subst (λ (k : Core). IfOk c.chosen.result (λ (x : Choice). IsKnownAt k.run (len k.run) (step_of x))) c.self.view_is
     (IfOk-weaker c.chosen.result (IsChoiceOf T c.self.inside.states.records c.args.who (eff_of c.args.effect.now)) (λ x. IsKnownAt T (len T) (step_of x))
-        (λ x h. choice_known core kept c.args.who x (h P c.self.invariant.0.states_hold has))
-        c.chosen.ensures)
+    (λ x h. choice_known core kept c.args.who x (h P c.self.invariant.0.states_hold has))
+    c.chosen.ensures)

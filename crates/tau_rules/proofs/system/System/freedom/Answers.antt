@@ -1,6 +1,5 @@
-use Rattle.std.proofs.Common.{◌<◌, subst, sym}
+use Rattle.std.proofs.Common.{subst, sym}
 use Rattle.tau_trace.specs.Run.{len}
-use Rattle.tau_trace.specs.Numbering.{born}
 use Rattle.tau_eval.specs.Effect.{eff_of}
 use Rattle.tau_legal.specs.Turns.{TurnHas}
 use Rattle.tau_legal.proofs.SafetyLemmas.{keeps_rules}
