@@ -1,7 +1,6 @@
 -- The turn from a place: whose it is, whether it is open, and where it ended.
-use Rattle.std.proofs.Common.{◌≡◌, ◌⊎◌, ⊎_elim, ℕ, ◌+◌, ◌<◌, ◌≤◌, true, IsTrue, IsFalse, Option, Some, None, refl, sym, ap, ◌∙◌, subst, arith}
+use Rattle.std.proofs.Common.{◌≡◌, ◌⊎◌, ⊎_elim, ℕ, ◌<◌, Some, None, refl, sym, ◌∙◌, subst, arith}
 use Rattle.std.specs.Prelude.{◌||◌}
-use Rattle.tau_trace.specs.declared.step.Step.{Step}
 use Rattle.tau_trace.specs.declared.step.Step.TheVariants.{Take}
 use Rattle.tau_trace.specs.Steps.{ends_turn, is_take}
 use Rattle.tau_trace.specs.Run.{Run, Does, step_at, len}

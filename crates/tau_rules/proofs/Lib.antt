@@ -7,6 +7,6 @@ pub mod MessageLemmas
 pub mod SystemLemmas
 pub mod DeliverLemmas
 pub mod ActLemmas
-pub mod JobLemmas
-pub mod StepLemmas
-pub mod ActedLemmas
+pub mod ActLemmasOfJobs
+pub mod ActLemmasOfSteps
+pub mod ActLemmasOfAnswers

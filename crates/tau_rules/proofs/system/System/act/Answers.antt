@@ -1,4 +1,4 @@
-use Rattle.std.proofs.Common.{◌≡◌, ◌<◌, ◌∙◌, ℕ, Some, None, length, refl, sym, ap, subst, arith}
+use Rattle.std.proofs.Common.{ℕ, Some, None, refl, subst, arith}
 use Rattle.std.proofs.lemmas.Result.{IfOk-weaker}
 use Rattle.tau_value.specs.Value.{val_of}
 use Rattle.tau_tree.specs.declared.programs.Program.{Program}
@@ -9,11 +9,12 @@ use Rattle.tau_eval.specs.Turn.{Turn, IsTurnOf}
 use Rattle.tau_rules.specs.declared.records.Record.{Record}
 use Rattle.tau_rules.specs.Records.{IsRecord}
 use Rattle.tau_rules.specs.System.{Core}
-use Rattle.tau_rules.specs.Answers.{IsOpenJob, IsActed, IsUnacted, NoTurnFrom, IsTurnEnd, no_take}
+use Rattle.tau_rules.specs.Answers.{IsOpenJob, IsActed, NoTurnFrom, IsTurnEnd, no_take}
 use Rattle.tau_rules.specs.Acting.{IsTaker, IsMade}
-use Rattle.tau_rules.proofs.ActLemmas.{none_from, none_without_take}
-use Rattle.tau_rules.proofs.JobLemmas.{taker_within_records, taker_record, behaviour_exists, record_open}
-use Rattle.tau_rules.proofs.ActedLemmas.{IsKept, effect_of_job, acted}
+use Rattle.tau_rules.proofs.DeliverLemmas.{behaviour_exists}
+use Rattle.tau_rules.proofs.ActLemmas.{none_without_take}
+use Rattle.tau_rules.proofs.ActLemmasOfJobs.{taker_within_records, taker_record, record_open}
+use Rattle.tau_rules.proofs.ActLemmasOfAnswers.{IsKept, effect_of_job, acted}
 use Rattle.tau_rules.proofs.system.System.act.Goals as goal
 
 pub returns-in_default-clause-err : goal.returns-in_default-clause-err

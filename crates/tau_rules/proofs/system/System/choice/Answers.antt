@@ -9,8 +9,8 @@ use Rattle.tau_choice.specs.Choices.{IsChoiceOf}
 use Rattle.tau_choice.specs.declared.choices.Choice.{Choice}
 use Rattle.tau_rules.specs.System.{Core}
 use Rattle.tau_rules.specs.Acting.{step_of}
-use Rattle.tau_rules.proofs.JobLemmas.{turn_exists}
-use Rattle.tau_rules.proofs.ActedLemmas.{IsKept, choice_known}
+use Rattle.tau_rules.proofs.ActLemmasOfJobs.{turn_exists}
+use Rattle.tau_rules.proofs.ActLemmasOfAnswers.{IsKept, choice_known}
 use Rattle.tau_rules.proofs.system.System.choice.Goals as goal
 
 pub chosen-requires-clause-exists : goal.chosen-requires-clause-exists

@@ -4,7 +4,7 @@ use Rattle.tau_eval.specs.Effect.{eff_of}
 use Rattle.tau_legal.specs.Turns.{TurnHas}
 use Rattle.tau_legal.proofs.SafetyLemmas.{keeps_rules}
 use Rattle.tau_rules.specs.System.{Core}
-use Rattle.tau_rules.proofs.JobLemmas.{turn_exists}
+use Rattle.tau_rules.proofs.ActLemmasOfJobs.{turn_exists}
 use Rattle.tau_rules.proofs.system.System.freedom.Goals as goal
 
 pub is_free-requires-clause-rules : goal.is_free-requires-clause-rules

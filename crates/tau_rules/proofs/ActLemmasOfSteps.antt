@@ -1,5 +1,5 @@
 -- The step of an open turn: what it names exists, and after a reply the record of the turn is the job with that reply.
-use Rattle.std.proofs.Common.{◌≡◌, ◌⊎◌, ⊎_elim, ℕ, suc, ◌+◌, ◌<◌, ◌≤◌, Bool, true, false, IsTrue, IsFalse, Option, Some, None, List, [], ◌∷◌, ◌++◌, length, refl, sym, ap, ◌∙◌, subst, arith}
+use Rattle.std.proofs.Common.{◌≡◌, ◌⊎◌, ⊎_elim, ℕ, suc, ◌<◌, true, false, IsTrue, IsFalse, Some, [], ◌∷◌, ◌++◌, length, refl, sym, ap, ◌∙◌, subst, arith}
 use Rattle.std.specs.Prelude.{◌||◌, option_and_then}
 use Rattle.tau_value.specs.declared.shared.Value.{Value}
 use Rattle.tau_value.specs.Val.{Val}
@@ -22,14 +22,14 @@ use Rattle.tau_eval.specs.Eff.{Eff}
 use Rattle.tau_eval.specs.Known.{IsKnown, IsKnownEffect}
 use Rattle.tau_eval.specs.Turn as jobs
 use Rattle.tau_eval.specs.Turn.{with_reply}
-use Rattle.tau_legal.specs.Turns.{HasBody, HasValue, Replies, RepliesOf, reply, TurnHas}
+use Rattle.tau_legal.specs.Turns.{Replies, RepliesOf, reply, TurnHas}
 use Rattle.tau_legal.proofs.LocalLemmas.{replies-same, replies_of-same, body-same, value-same}
 use Rattle.tau_legal.proofs.TraceLemmas.{known_at_end}
 use Rattle.tau_legal.proofs.ValueLemmas.{turn_effect_known}
 use Rattle.tau_choice.specs.Choices.{IsStepOfTurn, is_of_turn, goes_on}
 use Rattle.tau_rules.specs.Answers.{IsOpenJob}
 use Rattle.tau_legal.specs.Fits.{Fits}
-use Rattle.tau_rules.proofs.JobLemmas.{turn_exists, behaviours_counted}
+use Rattle.tau_rules.proofs.ActLemmasOfJobs.{turn_exists, behaviours_counted}
 
 known_value : (n : ℕ) (v : Value) → IsKnown n (val_of v) → IsKnownValue n v
 known_value n v k = record { in_bounds = k.0; names = k.1 }

@@ -1,27 +1,26 @@
 -- What came of an effect, from what came of the next effect of an open turn.
-use Rattle.std.proofs.Common.{◌≡◌, ℕ, ◌<◌, IsTrue, Some, refl, sym, ap, ◌∙◌, subst, arith}
+use Rattle.std.proofs.Common.{◌≡◌, ℕ, ◌<◌, Some, sym, ap, ◌∙◌, subst}
 use Rattle.tau_value.specs.Value.{val_of}
 use Rattle.tau_tree.specs.Sound.{Sound}
 use Rattle.tau_trace.specs.declared.step.Step.{Step}
 use Rattle.tau_trace.specs.Run.{len, appended}
-use Rattle.tau_trace.specs.Known.{WellFormed, MayFollow, IsKnownAt}
-use Rattle.tau_trace.specs.Turns.{IsOpenTurn}
+use Rattle.tau_trace.specs.Known.{WellFormed, IsKnownAt}
 use Rattle.tau_trace.proofs.Indexing.{well_formed_appended}
 use Rattle.tau_eval.specs.Eff.{Eff}
 use Rattle.tau_eval.specs.Turn as jobs
 use Rattle.tau_eval.specs.Turn.{next_in, with_reply}
 use Rattle.tau_legal.specs.Turns.{TurnHas}
 use Rattle.tau_legal.specs.Traces.{Fitting}
-use Rattle.tau_choice.specs.Choices.{IsStepOfTurn, IsChoice, goes_on}
+use Rattle.tau_choice.specs.Choices.{IsStepOfTurn, IsChoice}
 use Rattle.tau_choice.specs.declared.choices.Choice.{Choice}
 use Rattle.tau_choice.specs.declared.choices.Choice.TheVariants.{GoesOn, Ends}
 use Rattle.tau_rules.specs.declared.answers.Acted.{Acted}
 use Rattle.tau_rules.specs.declared.answers.Acted.TheVariants.{Reply, TurnOver, Redo}
-use Rattle.tau_rules.specs.System.{Core, with_step}
+use Rattle.tau_rules.specs.System.{Core}
 use Rattle.tau_rules.specs.Answers.{IsOpenJob, IsStepped, IsActed}
 use Rattle.tau_rules.specs.Acting.{IsMade, IsMadeBy, step_of}
-use Rattle.tau_rules.proofs.JobLemmas.{job_effect}
-use Rattle.tau_rules.proofs.StepLemmas.{step_known, job_goes_on}
+use Rattle.tau_rules.proofs.ActLemmasOfJobs.{job_effect}
+use Rattle.tau_rules.proofs.ActLemmasOfSteps.{step_known, job_goes_on}
 
 -- what is kept of a system: its program is sound, and its run is well formed and fits
 pub record IsKept (k : Core) : Type 0 where

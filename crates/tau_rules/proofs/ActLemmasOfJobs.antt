@@ -1,14 +1,12 @@
 -- The job of an open turn: its transactor exists, its next effect is that of the turn, and the record of its transactor gives it.
-use Rattle.std.proofs.Common.{◌≡◌, ◌⊎◌, ⊎_elim, ℕ, zero, suc, ◌+◌, ◌<◌, ◌≤◌, Option, Some, None, List, [], ◌∷◌, length, refl, sym, ap, ◌∙◌, subst, arith}
+use Rattle.std.proofs.Common.{◌≡◌, ℕ, zero, suc, ◌<◌, Some, List, [], ◌∷◌, length, refl, sym, ap, ◌∙◌, subst, arith}
 use Rattle.std.specs.Prelude.{slice_get, slice_index_or, map}
-use Rattle.tau_value.specs.Val.{Val}
 use Rattle.tau_value.specs.Value.{val_of}
 use Rattle.tau_tree.specs.declared.programs.Program.{Program}
 use Rattle.tau_tree.specs.Behaviour.{NamedCode}
 use Rattle.tau_tree.specs.Code.{Code}
-use Rattle.tau_tree.specs.Sound.{Sound}
-use Rattle.tau_trace.specs.declared.step.Step.TheVariants.{Take, New}
-use Rattle.tau_trace.specs.Run.{Run, step_at, len}
+use Rattle.tau_trace.specs.declared.step.Step.TheVariants.{Take}
+use Rattle.tau_trace.specs.Run.{Run, len}
 use Rattle.tau_trace.specs.Numbering.{born}
 use Rattle.tau_trace.specs.Turns.{Turn, IsOpenTurn}
 use Rattle.tau_trace.specs.Known.{WellFormed}
@@ -19,13 +17,14 @@ use Rattle.tau_eval.specs.Eff.{Eff}
 use Rattle.tau_eval.specs.Meaning.{next}
 use Rattle.tau_eval.specs.Turn as jobs
 use Rattle.tau_eval.specs.Turn.{IsTurnOf, next_in}
-use Rattle.tau_legal.specs.Turns.{HasBehaviour, start, created, HasBody, HasValue, RepliesOf, TurnHas}
-use Rattle.tau_legal.proofs.ValueLemmas.{at_all}
+use Rattle.tau_legal.specs.Turns.{HasBehaviour, HasBody, HasValue, RepliesOf, TurnHas}
 use Rattle.tau_legal.proofs.TraceLemmas.{below_length}
 use Rattle.tau_rules.specs.declared.records.Record.{Record}
 use Rattle.tau_rules.specs.Records.{IsRecord, AreRecords}
 use Rattle.tau_rules.specs.Answers.{IsOpenJob}
 use Rattle.tau_rules.specs.Acting.{IsTaker}
+use Rattle.tau_rules.proofs.OpeningLemmas.{length-map}
+use Rattle.tau_rules.proofs.DeliverLemmas.{index_get}
 
 -- the transactor of a Take exists
 pub taker_exists : (T : Run) → WellFormed T → (t place : ℕ) → IsTaker T place (Some t) → t < born T (len T)
@@ -38,26 +37,9 @@ taker_exists T w t place taker =
 pub turn_exists : (P : Program) (T : Run) → WellFormed T → (t : ℕ) (e : Eff) → TurnHas P T t (len T) e → t < born T (len T)
 turn_exists P T w t e h = taker_exists T w t h.place (h.message, h.turn.takes)
 
-length-map : {A B : Type 0} (f : A → B) (xs : List A) → length (map f xs) ≡ length xs
-length-map f [] = refl
-length-map f (x ∷ xs) = ap suc (length-map f xs)
-
 -- the opening has as many behaviours as the program
 pub behaviours_counted : (P : Program) (T : Run) → T.opening ≡ program_opening P → length T.opening.behaviours ≡ length P.behaviours
 behaviours_counted P T opens = ap (λ o. length o.behaviours) opens ∙ length-map (λ x. x.name) P.behaviours
-
--- the behaviour of a transactor exists
-pub behaviour_exists : (P : Program) (T : Run) → Sound P → WellFormed T → T.opening ≡ program_opening P → (t b : ℕ) → HasBehaviour P T t b → b < length P.behaviours
-behaviour_exists P T sound w opens t b (start {s = s} e is) = omega (arith, is, at_all (λ x. x.behaviour < length P.behaviours) P.starts t s sound.start_behaviours e)
-behaviour_exists P T sound w opens t b (created {j = j} {by = by} n is) =
-    let known = (w.known j (New by n.behaviour n.node n.state) n.stands).1 in
-    omega (arith, known, is, behaviours_counted P T opens)
-
--- what is read by an index that is within a list stands there
-pub index_get : {A : Type 0} (xs : List A) (k : ℕ) (x : A) → k < length xs → x ≡ slice_index_or xs k x → slice_get xs k ≡ Some x
-index_get [] k x lt e = absurd (omega arith)
-index_get (y ∷ ys) zero x lt e = ap Some (sym e)
-index_get (y ∷ ys) (suc k) x lt e = index_get ys k x (omega arith) e
 
 -- a body by its place is that of the behaviour there
 behaviour_of_body : (bs : List NamedCode) (k : ℕ) (body : Code) → slice_get (map (λ x. x.body) bs) k ≡ Some body → (c : NamedCode) × (slice_get bs k ≡ Some c) × (c.body ≡ body)
