@@ -1,23 +1,23 @@
 -- What `run` writes for a program that it could read, and what its text determines.
-use Rattle.std.proofs.Common.{◌≡◌, ◌⊎◌, inl, inr, ℕ, ◌≤◌, Bool, true, false, List, [], ◌∷◌, ◌++◌, Some, IsTrue, IsFalse, All, refl, sym, ◌∙◌, subst}
+use Rattle.std.proofs.Common.{◌≡◌, inl, inr, ℕ, ◌≤◌, Bool, true, false, List, [], ◌∷◌, IsTrue, IsFalse, All, refl, sym, subst}
 use Rattle.std.proofs.lemmas.List.Elements.{All-nil, All-cons, All-append}
 use Rattle.tau_sexpr.specs.Tree.{Tree}
 use Rattle.tau_tree.specs.declared.programs.Program.{Program}
 use Rattle.tau_trace.specs.declared.step.Step.TheVariants.{Take, Drop, Fall, Checkpoint, Hold}
-use Rattle.tau_trace.specs.Run.{Run, len, step_at}
+use Rattle.tau_trace.specs.Run.{Run, len}
 use Rattle.tau_trace.specs.Known.{WellFormed}
 use Rattle.tau_legal.specs.Traces.{Legal, Complete}
 use Rattle.tau_legal.proofs.TraceLemmas.{legal_safe}
-use Rattle.tau_report.specs.Report.{IsSavedForm, SavedForms, none, without, with_one, counts_form, IsReport}
+use Rattle.tau_report.specs.Report.{SavedForms, none, without, with_one, counts_form, IsReport}
 use Rattle.tau_text.specs.RunText.{IsRunText, IsReadBack}
 use Rattle.tau_text.specs.Laws.{Tells}
 use Rattle.tau_text.proofs.Telling.{texts_tell}
 use Rattle.tau_cli.specs.declared.statuses.Status.{Status}
-use Rattle.tau_cli.specs.declared.statuses.Status.TheVariants.{Done, Stopped, Words, Input, ReadFault, WriteFault, NoMemory}
+use Rattle.tau_cli.specs.declared.statuses.Status.TheVariants.{Done, Stopped}
 use Rattle.tau_cli.specs.Input.{IsProgram}
 use Rattle.tau_cli.specs.Status.{end_of}
 use Rattle.tau_cli.specs.Runs.{step_limit, EndsAs, IsDecided, IsReportLine, RunsAs}
-use Rattle.tau_cli.specs.Laws.{IsSameRun, TextsTellRuns}
+use Rattle.tau_cli.specs.Laws.{TextsTellRuns}
 
 -- each step of a legal run is decided by what was heard
 decided : (P : Program) (T : Run) → Legal P T → IsDecided T
