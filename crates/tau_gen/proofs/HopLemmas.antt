@@ -1,8 +1,8 @@
 -- The body of `hop` keeps the rules of bodies.
 use Rattle.std.proofs.Common.{◌≡◌, ℕ, zero, suc, ◌+◌, ◌<◌, ◌≤◌, ℤ, pos, List, [], ◌∷◌, map, refl, arith}
 use Rattle.std.specs.List.{range_with_len}
-use Rattle.tau_tree.specs.Code.{Code, unit, int, msg, start, list, if_else, seq, apply, get, set, send, stabilize, checkpoint, rollback, inside}
-use Rattle.tau_tree.specs.Parts.{depth_of, IsBoundIn, AllBoundIn, Throughout, AllThroughout, arity}
+use Rattle.tau_tree.specs.Code.{Code, unit, int, msg, start, if_else, get, set, send, stabilize, checkpoint, rollback, inside}
+use Rattle.tau_tree.specs.Parts.{depth_of, IsBoundIn, Throughout, AllThroughout, arity}
 use Rattle.tau_tree.specs.Checks.{KeepsRules}
 use Rattle.tau_tree.specs.declared.expressions.Operation.{Operation}
 use Rattle.tau_tree.specs.declared.expressions.Operation.TheVariants as prims

@@ -1,5 +1,5 @@
 -- Each generated program is sound.
-use Rattle.std.proofs.Common.{◌≡◌, ◌≢◌, ℕ, zero, suc, ◌+◌, ◌*◌, ◌%◌, ◌<◌, ◌≤◌, List, [], ◌∷◌, length, map, refl, sym, subst, arith}
+use Rattle.std.proofs.Common.{◌≡◌, ◌≢◌, ℕ, zero, suc, ◌+◌, ◌<◌, ◌≤◌, [], ◌∷◌, length, refl, sym, subst, arith}
 use Rattle.std.specs.Prelude.{codes}
 use Rattle.std.specs.List.{All, AllPairs, range_with_len}
 use Rattle.std.proofs.lemmas.List.Elements.{All-map}
@@ -14,7 +14,7 @@ use Rattle.tau_tree.specs.Parts.{depth_of, IsBoundIn, Throughout, HasNames, Name
 use Rattle.tau_tree.specs.Sound.{Sound, FailsBelow}
 use Rattle.tau_tree.proofs.SoundLemmas.{KeepsEach, each_from_rules}
 use Rattle.tau_gen.specs.Hop.{hop_body}
-use Rattle.tau_gen.specs.Generated.{word, start_at, post_at, script_of, starts, posts_of, generated}
+use Rattle.tau_gen.specs.Generated.{start_at, post_at, script_of, starts, posts_of, generated}
 use Rattle.tau_gen.proofs.HopLemmas.{hop_keeps, hop_bound, hop_shallow}
 use Rattle.tau_gen.proofs.StartLemmas.{starts_names, names_named, names_distinct}
 

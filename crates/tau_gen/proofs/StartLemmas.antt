@@ -1,5 +1,5 @@
 -- The names of the starts.
-use Rattle.std.proofs.Common.{◌≡◌, ◌≢◌, ℕ, ◌<◌, true, List, length, get_or, drop, map, refl, sym, ap, ◌∙◌, subst, arith}
+use Rattle.std.proofs.Common.{◌≡◌, ◌≢◌, ℕ, ◌<◌, true, List, get_or, drop, map, refl, sym, ap, ◌∙◌, arith}
 use Rattle.std.specs.Fmt.{decimal, digits}
 use Rattle.std.specs.List.{All, AllPairs, list_all, range_with_len}
 use Rattle.std.proofs.lemmas.Fmt.{decimal_injective}

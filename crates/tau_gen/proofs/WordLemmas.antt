@@ -1,11 +1,9 @@
 -- Words drawn one after another.
-use Rattle.std.proofs.Common.{◌≡◌, ℕ, zero, suc, ◌+◌, ◌*◌, ◌%◌, ℤ, pos, [], ◌∷◌, List, refl, ap, ◌∙◌, arith}
+use Rattle.std.proofs.Common.{◌≡◌, ℕ, suc, ◌+◌, ◌*◌, ◌%◌, ℤ, pos, [], ◌∷◌, refl, ap, ◌∙◌, arith}
 use Rattle.rand_core.specs.Pcg32Seed.{pcg32_seed}
 use Rattle.rand_pcg.specs.Lcg.{Lcg}
 use Rattle.rand_pcg.specs.Pcg.{pcg32, pcg32_of_seed}
 use Rattle.tau_value.specs.declared.shared.Value.TheVariants.{Int}
-use Rattle.tau_tree.specs.declared.posts.Post.{Post}
-use Rattle.tau_tree.specs.declared.entries.Entry.{Entry}
 use Rattle.tau_tree.specs.declared.entries.Failure.TheVariants.{Fail, Lose}
 use Rattle.tau_gen.specs.Generated.{after, word, post_at, script_of}
 

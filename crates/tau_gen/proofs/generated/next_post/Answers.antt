@@ -1,5 +1,5 @@
-use Rattle.std.proofs.Common.{◌≡◌, ◌%◌, pos, arith}
-use Rattle.std.proofs.lemmas.Int.{ints, to_z-of_z}
+use Rattle.std.proofs.Common.{arith}
+use Rattle.std.proofs.lemmas.Int.{to_z-of_z}
 use Rattle.tau_gen.proofs.WordLemmas.{post_drawn, after_post}
 use Rattle.tau_gen.proofs.generated.next_post.Goals as goal
 
