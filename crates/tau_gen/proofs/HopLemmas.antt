@@ -12,6 +12,7 @@ use Rattle.tau_gen.specs.Hop.{of_two, in_turn, at_multiples, all_starts, pass_on
 abbrev Keeps : Code → Type 0
 Keeps = KeepsRules 16 1
 
+-- an integer keeps them
 keeps_int : (z : ℤ) → Keeps (int z)
 keeps_int z = record {
   names = tt;
@@ -23,6 +24,7 @@ keeps_int z = record {
   short_text = tt;
 }
 
+-- unit keeps them
 keeps_unit : Keeps unit
 keeps_unit = record {
   names = tt;
@@ -34,6 +36,7 @@ keeps_unit = record {
   short_text = tt;
 }
 
+-- the message keeps them
 keeps_msg : Keeps msg
 keeps_msg = record {
   names = tt;
@@ -45,6 +48,7 @@ keeps_msg = record {
   short_text = tt;
 }
 
+-- `get` keeps them
 keeps_get : Keeps get
 keeps_get = record {
   names = tt;
@@ -56,6 +60,7 @@ keeps_get = record {
   short_text = tt;
 }
 
+-- `stabilize` keeps them
 keeps_stabilize : Keeps stabilize
 keeps_stabilize = record {
   names = tt;
@@ -67,6 +72,7 @@ keeps_stabilize = record {
   short_text = tt;
 }
 
+-- `checkpoint` keeps them
 keeps_checkpoint : Keeps checkpoint
 keeps_checkpoint = record {
   names = tt;
@@ -78,6 +84,7 @@ keeps_checkpoint = record {
   short_text = tt;
 }
 
+-- `rollback` keeps them
 keeps_rollback : Keeps rollback
 keeps_rollback = record {
   names = tt;
@@ -89,6 +96,7 @@ keeps_rollback = record {
   short_text = tt;
 }
 
+-- the name of a start keeps them where there is that start
 keeps_start : (n : ℕ) → n < 16 → Keeps (start n)
 keeps_start n lt = record {
   names = tt;
@@ -100,6 +108,7 @@ keeps_start n lt = record {
   short_text = tt;
 }
 
+-- an operation of two arguments keeps them where its arguments do
 keeps_two : (p : Operation) (a b : Code) → 2 ≡ arity p → Throughout Keeps a → Throughout Keeps b → Throughout Keeps (of_two p a b)
 keeps_two p a b e one two = (
   record {
@@ -114,6 +123,7 @@ keeps_two p a b e one two = (
   (one, (two, tt)),
 )
 
+-- an `if` keeps them where its parts do
 keeps_if : (t y n : Code) → Throughout Keeps t → Throughout Keeps y → Throughout Keeps n → Throughout Keeps (if_else t y n)
 keeps_if t y n test one two = (
   record {
@@ -130,6 +140,7 @@ keeps_if t y n test one two = (
   two,
 )
 
+-- a `seq` with an item keeps them where its items do
 keeps_seq : (c : Code) (cs : List Code) → Throughout Keeps c → AllThroughout Keeps (inside cs) → Throughout Keeps (in_turn (c ∷ cs))
 keeps_seq c cs one others = (
   record {
@@ -144,6 +155,7 @@ keeps_seq c cs one others = (
   (one, others),
 )
 
+-- a `set` keeps them where its value does
 keeps_set : (v : Code) → Throughout Keeps v → Throughout Keeps (set v)
 keeps_set v one = (
   record {
@@ -158,6 +170,7 @@ keeps_set v one = (
   one,
 )
 
+-- a `send` keeps them where its receiver and value do
 keeps_send : (t v : Code) → Throughout Keeps t → Throughout Keeps v → Throughout Keeps (send t v)
 keeps_send t v one two = (
   record {
@@ -173,10 +186,12 @@ keeps_send t v one two = (
   two,
 )
 
+-- names of starts in order keep them, up to the last start
 keeps_starts : (a n : ℕ) → a + n ≤ 16 → AllThroughout Keeps (inside (map start (range_with_len a n)))
 keeps_starts a zero h = tt
 keeps_starts a (suc n) h = (keeps_start a (omega arith), keeps_starts (a + 1) n (omega arith))
 
+-- the list of all starts keeps them
 keeps_all_starts : Throughout Keeps all_starts
 unfolding all_starts
 keeps_all_starts = (
@@ -192,12 +207,14 @@ keeps_all_starts = (
   keeps_starts 0 16 (omega arith),
 )
 
+-- what is done at multiples of a number keeps them where the deed does
 keeps_multiples : (k : ℤ) (c : Code) → Throughout Keeps c → Throughout Keeps (at_multiples k c)
 keeps_multiples k c one =
     let rest = keeps_two prims.Rem msg (int k) refl keeps_msg (keeps_int k) in
     let divides = keeps_two prims.Same (of_two prims.Rem msg (int k)) (int (pos 0)) refl rest (keeps_int (pos 0)) in
     keeps_if _ c unit divides one keeps_unit
 
+-- passing a message on keeps them
 keeps_passing : Throughout Keeps pass_on
 keeps_passing =
     let product = keeps_two prims.Mul msg (int (pos 5)) refl keeps_msg (keeps_int (pos 5)) in
@@ -206,6 +223,7 @@ keeps_passing =
     let less = keeps_two prims.Sub msg (int (pos 1)) refl keeps_msg (keeps_int (pos 1)) in
     keeps_send _ _ to less
 
+-- what is done with a message of at least 1 keeps them
 keeps_other : Throughout Keeps other_hop
 unfolding other_hop
 keeps_other =

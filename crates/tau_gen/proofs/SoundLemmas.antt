@@ -23,10 +23,12 @@ only : {X : Type 0} → (P : X → Type 0) (x : X) → P x → All P (x ∷ [])
 only P x h zero d lt = h
 only P x h (suc k) d lt = absurd (omega arith)
 
+-- there are 16 starts
 pub starts_length : length starts ≡ 16
 unfolding starts
 starts_length = length-map-range_with_len start_at 0 16
 
+-- there are 32 posts
 pub posts_length : (number : ℕ) → length (posts_of number) ≡ 32
 unfolding posts_of
 posts_length number = length-map-range_with_len (post_at number) 0 32
@@ -41,12 +43,14 @@ of_posts : (P : Post → Type 0) (number : ℕ) → ((i : ℕ) → P (post_at nu
 unfolding posts_of
 of_posts P number h = All-map P (post_at number) (range_with_len 0 32) (λ k d lt. h _)
 
+-- the nodes that fail are below 4
 failing : (number : ℕ) → All (λ (e : Entry). FailsBelow 4 e.failure) (script_of number)
 failing number zero d lt = tt
 failing number (suc zero) d lt = omega arith
 failing number (suc (suc zero)) d lt = omega arith
 failing number (suc (suc (suc k))) d lt = absurd (omega arith)
 
+-- the rules for the body, one by one
 each : KeepsEach 16 1 hop_body
 each = each_from_rules 16 1 hop_body hop_keeps
 

@@ -12,10 +12,12 @@ use Rattle.tau_gen.specs.Generated.{start_name, starts}
 abbrev pub names : List (List ℕ)
 names = map start_name (range_with_len 0 16)
 
+-- they are the names of the starts
 pub starts_names : map (λ s. s.name) starts ≡ names
 unfolding starts
 starts_names = refl
 
+-- the test for a name passes at each
 all_named : list_all is_name names ≡ true
 unfolding digits
 all_named = refl

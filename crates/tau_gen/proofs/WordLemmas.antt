@@ -18,6 +18,7 @@ unfolding word
 word_drawn number k before now w at drawn =
     ap (λ (p : ℕ × Lcg). p.0) drawn ∙ ap (λ (g : Lcg). (pcg32 g).0) at
 
+-- the generator that is left then has given a word more
 after_one : (number k : ℕ) (before now : Lcg) (w : ℕ) → before ≡ after number k → (w, now) ≡ pcg32 before → now ≡ after number (suc k)
 unfolding after
 after_one number k before now w at drawn =
