@@ -1,9 +1,8 @@
 -- What holds of a message that is delivered, and of the turn that it opens.
-use Rattle.std.proofs.Common.{◌≡◌, ℕ, zero, suc, ◌+◌, ◌<◌, true, false, Option, Some, None, List, [], ◌∷◌, length, refl, sym, ap, ◌∙◌, subst, arith}
+use Rattle.std.proofs.Common.{◌≡◌, ℕ, zero, suc, ◌<◌, true, false, Option, Some, None, List, [], ◌∷◌, length, refl, sym, ap, ◌∙◌, subst, arith}
 use Rattle.std.specs.Prelude.{slice_get, slice_index_or, map, is_some}
 use Rattle.tau_value.specs.Val.{Val}
 use Rattle.tau_tree.specs.Behaviour.{NamedCode}
-use Rattle.tau_tree.specs.Code.{Code}
 use Rattle.tau_tree.specs.declared.programs.Program.{Program}
 use Rattle.tau_tree.specs.Sound.{Sound}
 use Rattle.tau_trace.specs.declared.step.Step.TheVariants.{Take, Send, New}

@@ -10,3 +10,4 @@ pub mod ActLemmas
 pub mod ActLemmasOfJobs
 pub mod ActLemmasOfSteps
 pub mod ActLemmasOfAnswers
+pub mod ReadingLemmas

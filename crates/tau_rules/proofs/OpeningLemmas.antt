@@ -1,5 +1,5 @@
 -- What a system keeps when it opens.
-use Rattle.std.proofs.Common.{◌≡◌, ℕ, zero, suc, ◌+◌, ◌<◌, false, Some, List, [], ◌∷◌, length, refl, sym, ap, ◌∙◌, arith}
+use Rattle.std.proofs.Common.{◌≡◌, ℕ, zero, suc, false, Some, List, [], ◌∷◌, length, refl, sym, ap, ◌∙◌, arith}
 use Rattle.std.specs.Prelude.{slice_get, map}
 use Rattle.std.specs.Option.{option_map_or}
 use Rattle.tau_value.specs.declared.shared.Value.{Value}

@@ -1,7 +1,7 @@
 -- The records after one step more.
-use Rattle.std.proofs.Common.{◌≡◌, ◌≢◌, ◌⊎◌, inl, inr, ⊎_elim, ℕ, zero, suc, ◌+◌, ◌<◌, IsTrue, Bool, true, false, cond, Option, Some, None, List, [], ◌∷◌, ◌++◌, length, refl, sym, ap, ◌∙◌, subst, arith}
+use Rattle.std.proofs.Common.{◌≡◌, ◌≢◌, ◌⊎◌, inl, inr, ⊎_elim, ℕ, zero, suc, ◌+◌, ◌<◌, IsTrue, false, cond, Option, Some, None, List, [], ◌∷◌, length, refl, sym, ap, ◌∙◌, subst, arith}
 use Rattle.std.proofs.lemmas.List.{length-append}
-use Rattle.std.specs.Prelude.{slice_get, slice_set, ◌||◌}
+use Rattle.std.specs.Prelude.{slice_get, slice_set}
 use Rattle.tau_value.specs.declared.shared.Value.{Value}
 use Rattle.tau_value.specs.Value.{val_of}
 use Rattle.tau_tree.specs.declared.programs.Program.{Program}
@@ -26,7 +26,7 @@ use Rattle.tau_legal.proofs.TraceLemmas.{below_length}
 use Rattle.tau_rules.specs.declared.records.Record.{Record}
 use Rattle.tau_rules.specs.declared.records.RecordChange.{RecordChange}
 use Rattle.tau_rules.specs.declared.records.RecordChange.TheVariants as changes
-use Rattle.tau_rules.specs.Records.{IsRecord, AreRecords, IsChanged, Changes, keeps_record, IsNewborn, with_newborn, IsOneChanged, HasChanged}
+use Rattle.tau_rules.specs.Records.{IsRecord, AreRecords, IsChanged, Changes, keeps_record, IsNewborn, with_newborn, HasChanged}
 use Rattle.tau_rules.proofs.IdleLemmas.{ended_idle}
 use Rattle.tau_rules.proofs.TurnLemmas.{record_kept, record_replied, record_ended, record_idle, record_begun, record_newborn}
 

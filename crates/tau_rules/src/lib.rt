@@ -7,6 +7,7 @@ mod appending;
 mod delivering;
 mod errors;
 mod failing;
+mod reading;
 mod records;
 mod system;
 mod turns;

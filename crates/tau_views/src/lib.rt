@@ -2,6 +2,16 @@
 //! "View of what was heard").
 #![tactic(auto)]
 
+mod after;
+mod applying;
+mod judging;
+mod kinds;
+mod opening;
+mod preparing;
+mod reading;
 mod views;
 
 pub use views::{ViewChange, Views};
+
+#[cfg(test)]
+mod tests;

@@ -1,4 +1,4 @@
-use Rattle.std.proofs.Common.{◌≡◌, ◌<◌, ℕ, [], arith, refl, sym, subst}
+use Rattle.std.proofs.Common.{◌<◌, ℕ, [], arith, refl, sym, subst}
 use Rattle.std.specs.Prelude.{length}
 use Rattle.tau_value.specs.declared.shared.Value.{Value}
 use Rattle.tau_value.specs.Value.{val_of}
@@ -66,5 +66,5 @@ returns-clause-ok g c =
     let value : HasValue P T m (val_of c.in_ok-copy.field-0) = subst (λ (v : Value). HasValue P T m (val_of v)) (sym c.in_ok-copy.ensures) has in
     let job : IsTurnOf P who b (len T) (val_of c.in_ok-copy.field-0) [] c.in_ok-job.job = subst (λ (n : ℕ). IsTurnOf P who b n (val_of c.in_ok-copy.field-0) [] c.in_ok-job.job) c.len-turn.ensures.len c.in_ok-job.ensures in
     let parts = subst (λ (k : Core). (who < born k.run (len k.run)) × (m < sent k.run (len k.run)) × HasBehaviour k.program k.run who b × HasValue k.program k.run m (val_of c.in_ok-copy.field-0) × IsTurnOf k.program who b (len k.run) (val_of c.in_ok-copy.field-0) [] c.in_ok-job.job) c.self.view_is
-        (exists, arrives.in_flight.exists, behaviour, value, job) in
+    (exists, arrives.in_flight.exists, behaviour, value, job) in
     has_begun c.args.self.now c.append.new.self who b m (val_of c.in_ok-copy.field-0) c.in_ok-job.job parts.0 parts.1 parts.2 parts.3 parts.4 c.in_ok-append.ensures.ok

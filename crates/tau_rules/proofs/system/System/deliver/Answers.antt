@@ -1,9 +1,8 @@
-use Rattle.std.proofs.Common.{◌≡◌, ◌<◌, ℕ, Some, sym, subst}
+use Rattle.std.proofs.Common.{◌<◌, ℕ, Some, sym, subst}
 use Rattle.tau_fate.specs.declared.verdict.Verdict as fates
-
 use Rattle.tau_trace.specs.declared.step.Step.TheVariants.{Drop, Fall, Void}
 use Rattle.tau_trace.specs.Run.{Run, len}
-use Rattle.tau_trace.specs.Numbering.{sent, Receives}
+use Rattle.tau_trace.specs.Numbering.{sent, Receives, InFlight}
 use Rattle.tau_trace.specs.Known.{MayFollow}
 use Rattle.tau_trace.specs.Turns.{IsOpenTurn}
 use Rattle.tau_past.specs.Decisions.{drops, falls, Verdict}
@@ -16,8 +15,11 @@ use Rattle.tau_rules.proofs.system.System.deliver.Goals as goal
 
 pub returns-in-Some-open_turn-clause-err : goal.returns-in-Some-open_turn-clause-err
 returns-in-Some-open_turn-clause-err g c =
-    subst (λ (k : Core). (x : ℕ) × Receives k.run c.args.message x × IsOpenTurn k.run x (len k.run) (Some c.in-Some-open_turn.turn)) c.self.view_is
-    (c.in-Some-target.who, c.in-Some-target.ensures.target, c.in-Some-open_turn.ensures)
+    let T : Run = c.self.inside.trace.run in
+    let there : c.args.message < sent T (len T) = subst (λ (k : Core). c.args.message < sent k.run (len k.run)) (sym c.self.view_is) c.requires.exists in
+    let in_flight : InFlight T c.args.message (len T) = record { exists = there; not_removed = c.in_default.ensures } in
+    subst (λ (k : Core). (x : ℕ) × Receives k.run c.args.message x × IsOpenTurn k.run x (len k.run) (Some c.in-Some-open_turn.turn) × InFlight k.run c.args.message (len k.run)) c.self.view_is
+    (c.in-Some-target.who, c.in-Some-target.ensures.target, c.in-Some-open_turn.ensures, in_flight)
 
 pub append-requires-clause-known : goal.append-requires-clause-known
 append-requires-clause-known g c =
