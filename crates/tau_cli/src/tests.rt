@@ -141,7 +141,7 @@ fn line_of(alloc: Global, status: Status) -> Option<String> {
 fn tells_how_it_ended(rt: HostRuntime) -> Result<(), Fail> {
     let alloc = rt.alloc();
     let words = line_of(alloc, Status::Words).ok_or("no memory")?;
-    assert_eq!(rt; words.as_str(), "tau: usage: tau print");
+    assert_eq!(rt; words.as_str(), "tau: usage: tau run|print");
     let fault = Status::Input { fault: 10, at: 205 };
     let input = line_of(alloc, fault).ok_or("no memory")?;
     assert_eq!(rt; input.as_str(), "tau: input fault 10 at 205");

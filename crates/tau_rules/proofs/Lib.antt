@@ -7,3 +7,7 @@ pub mod MessageLemmas
 pub mod SystemLemmas
 pub mod DeliverLemmas
 pub mod ReadingLemmas
+pub mod ActLemmas
+pub mod ActLemmasOfJobs
+pub mod ActLemmasOfSteps
+pub mod ActLemmasOfAnswers

@@ -10,6 +10,7 @@ mod failing;
 mod reading;
 mod records;
 mod system;
+mod turns;
 
 pub use answers::{Acted, Delivered, Standing};
 pub use errors::{ActError, DeliverError, FailError, LoseError};
