@@ -1,9 +1,9 @@
 //! What is read of a system.
 ghost use Rattle.std.specs.Prelude.{◌≡◌, ◌↔◌, ◌<◌, IsSome, IfSome};
 ghost use Rattle.tau_trace.specs.Run.{len};
-ghost use Rattle.tau_trace.specs.Numbering.{born};
+ghost use Rattle.tau_trace.specs.Numbering.{born, InFlight};
 ghost use Rattle.tau_trace.specs.Histories.{history};
-ghost use Rattle.tau_heard.specs.Views.{IsViewOf};
+ghost use Rattle.tau_heard.specs.Views.{IsViewOf, IsMessageView};
 ghost use Rattle.tau_views.specs.Kept.{IsTrimmed};
 ghost use Rattle.tau_rules.specs.Answers.{IsStanding};
 
@@ -35,6 +35,15 @@ impl<'p, V: View + Drop> System<'p, V> {
         ensures view { IfSome result (λ v. IsTrimmed V.drops_edge V.drops_root (IsViewOf self.now.run who (len self.now.run)) (V.held v.now)) }
     {
         self.views.view_of(who)
+    }
+
+    /// The view of a message: what it has heard, without what this type of view drops; `None` exactly where it isn't in
+    /// flight (docs/definitions.md, "View of what was heard").
+    pub fn message_view(&self, message: u32) -> Option<&V>
+        ensures in_flight { IsSome result ↔ InFlight self.now.run message (len self.now.run) }
+        ensures view { IfSome result (λ v. IsTrimmed V.drops_edge V.drops_root (IsMessageView self.now.run message) (V.held v.now)) }
+    {
+        self.views.message_view(message)
     }
 
     /// The history of a transactor; `None` exactly where it doesn't exist (docs/rules.md, "Histories").
