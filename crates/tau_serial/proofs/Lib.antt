@@ -1,0 +1,5 @@
+pub mod Messages
+pub mod Turns
+pub mod Jobs
+pub mod Workers
+pub mod Completeness

@@ -5,6 +5,7 @@ ghost use Rattle.tau_trace.specs.Run.{len};
 ghost use Rattle.tau_trace.specs.Known.{WellFormed};
 ghost use Rattle.tau_legal.specs.Traces.{Legal, Complete};
 
+use crate::stepping::Worker;
 use std::alloc::{AllocError, Global};
 use tau_trace::Trace;
 use tau_tree::Program;
@@ -30,6 +31,18 @@ pub fn run(alloc: Global, program: &Program, limit: u32) -> Result<Serial, Alloc
     ensures stopped { IfOk result (λ r. IsFalse r.is_complete
         → (¬ Complete program.now r.trace.run) × (len r.trace.run ≡ limit)) }
 {
-    let _given = (alloc, program.nodes, limit);
-    Err(AllocError)
+    let mut worker = Worker::open(alloc, program)?;
+    for _ in 0..limit {
+        if !worker.step()? {
+            return Ok(Serial {
+                trace: worker.into_trace(),
+                is_complete: true,
+            });
+        }
+    }
+    let is_complete = worker.is_complete();
+    Ok(Serial {
+        trace: worker.into_trace(),
+        is_complete,
+    })
 }
