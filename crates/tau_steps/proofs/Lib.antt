@@ -1,1 +1,2 @@
-
+pub mod TellsLemmas
+pub mod RowLemmas

@@ -79,6 +79,7 @@ impl Place<'_> {
 
     /// The number of a node that is there.
     pub(crate) fn node(self, form: &Form) -> Result<u32, ItemError>
+        requires { IsPlace self }
         ensures { TellsItem self.entry role.node item.node (tree_of form.now) result }
     {
         match count_in(form) {
