@@ -1,2 +1,4 @@
 pub mod TellsLemmas
 pub mod RowLemmas
+pub mod KindLemmas
+pub mod StepLemmas
