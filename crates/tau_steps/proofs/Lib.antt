@@ -2,3 +2,5 @@ pub mod TellsLemmas
 pub mod RowLemmas
 pub mod KindLemmas
 pub mod StepLemmas
+pub mod LoopLemmas
+pub mod LawLemmas

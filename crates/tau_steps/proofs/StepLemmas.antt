@@ -49,7 +49,7 @@ told_step p f h k fs answer e ek t =
     subst P (sym e) (told_row p h fs answer (subst Q ek t))
 
 -- the roles of a step's items are those of its kind
-roles-step : (b m : ℕ) (s : Step) → roles_of b m (kind_of s) ≡ Some (map role_of (items_of b m s))
+pub roles-step : (b m : ℕ) (s : Step) → roles_of b m (kind_of s) ≡ Some (map role_of (items_of b m s))
 roles-step b m (Take t x) = refl
 roles-step b m s = refl
 
