@@ -257,3 +257,7 @@ module _ (o : Opening) (fs : List Tree) (T U : Run) (mt : MeansSteps o fs T) (mu
       let opening : T.opening ≡ U.opening = mt.opening ∙ sym mu.opening in
       let steps : T.steps ≡ U.steps = same_elements T.steps U.steps same_at in
       λ i. record { opening = opening i; steps = steps i }
+
+-- a printed trace is read back
+pub read_back : (T U : Run) (fs : List Tree) → WellFormed T → ((k : ℕ) → IsWrittenAt T k) → ((k : ℕ) → slice_get fs k ≡ step_form_at T k) → MeansSteps T.opening fs U → U ≡ T
+read_back T U fs w written forms means = one_run T.opening fs U T means (printed_trace T fs w written forms)

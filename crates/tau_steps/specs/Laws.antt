@@ -20,3 +20,7 @@ PrintedTracesMeanThemselves = (T : Run) (fs : List Tree) → WellFormed T → ((
 -- forms mean the steps of one run at most
 abbrev pub FormsMeanOneRun : Type 0
 FormsMeanOneRun = (o : Opening) (fs : List Tree) (T U : Run) → MeansSteps o fs T → MeansSteps o fs U → T ≡ U
+
+-- what the forms that the steps of a trace are printed as mean is the trace
+abbrev pub PrintedTracesAreReadBack : Type 0
+PrintedTracesAreReadBack = (T U : Run) (fs : List Tree) → WellFormed T → ((k : ℕ) → IsWrittenAt T k) → ((k : ℕ) → slice_get fs k ≡ step_form_at T k) → MeansSteps T.opening fs U → U ≡ T

@@ -7,6 +7,7 @@ ghost use Rattle.tau_steps.specs.Faults as role;
 ghost use Rattle.tau_steps.specs.Meaning as item;
 ghost use Rattle.tau_steps.specs.Meaning.{count_at};
 ghost use Rattle.tau_steps.specs.Reading.{IsPlace, TellsItem, both_of};
+ghost use Rattle.tau_steps.specs.declared.items.Place.{Place};
 
 use crate::errors::ItemError;
 use std::alloc::Global;
@@ -106,54 +107,54 @@ impl Place<'_> {
             Err(ValueError::NoMemory) => Err(ItemError::NoMemory),
         }
     }
+}
 
-    /// Tests that a form is the number that the step makes.
-    pub(crate) fn next(self, form: &Form, number: u32) -> Result<(), ItemError>
-        ensures { TellsItem self.entry (role.next number) (λ _. item.next number) (tree_of form.now) result }
-    {
-        match count_in(form) {
-            Some(count) => {
-                if count == u64::from(number) {
-                    Ok(())
-                } else {
-                    Err(ItemError::Unknown)
-                }
+/// Tests that a form is the number that the step makes.
+pub(crate) fn next(form: &Form, number: u32) -> Result<(), ItemError>
+    ensures { (p : Place) → TellsItem p (role.next number) (λ _. item.next number) (tree_of form.now) result }
+{
+    match count_in(form) {
+        Some(count) => {
+            if count == u64::from(number) {
+                Ok(())
+            } else {
+                Err(ItemError::Unknown)
             }
-            None => Err(ItemError::Shape),
         }
+        None => Err(ItemError::Shape),
     }
+}
 
-    /// A code, 1 to 8.
-    pub(crate) fn code(self, form: &Form) -> Result<u8, ItemError>
-        ensures { TellsItem self.entry role.code item.code (tree_of form.now) result }
-    {
-        match count_in(form) {
-            Some(count) => {
-                if 1 <= count && count <= 8 {
-                    Ok(count as u8)
-                } else {
-                    Err(ItemError::Shape)
-                }
+/// A code, 1 to 8.
+pub(crate) fn code(form: &Form) -> Result<u8, ItemError>
+    ensures { (p : Place) → TellsItem p role.code item.code (tree_of form.now) result }
+{
+    match count_in(form) {
+        Some(count) => {
+            if 1 <= count && count <= 8 {
+                Ok(count as u8)
+            } else {
+                Err(ItemError::Shape)
             }
-            None => Err(ItemError::Shape),
         }
+        None => Err(ItemError::Shape),
     }
+}
 
-    /// A truth.
-    pub(crate) fn truth(self, form: &Form) -> Result<bool, ItemError>
-        ensures { TellsItem self.entry role.truth item.truth (tree_of form.now) result }
-    {
-        let Form::Word(word) = form else {
-            return Err(ItemError::Shape);
-        };
-        if word.bytes() == b"true".as_slice() {
-            return Ok(true);
-        }
-        if word.bytes() == b"false".as_slice() {
-            return Ok(false);
-        }
-        Err(ItemError::Shape)
+/// A truth.
+pub(crate) fn truth(form: &Form) -> Result<bool, ItemError>
+    ensures { (p : Place) → TellsItem p role.truth item.truth (tree_of form.now) result }
+{
+    let Form::Word(word) = form else {
+        return Err(ItemError::Shape);
+    };
+    if word.bytes() == b"true".as_slice() {
+        return Ok(true);
     }
+    if word.bytes() == b"false".as_slice() {
+        return Ok(false);
+    }
+    Err(ItemError::Shape)
 }
 
 /// The number of a count, and the last of u64 where it is greater; `None` where a form is no count.

@@ -5,7 +5,7 @@ ghost use Rattle.tau_sexpr.specs.Tree.{inside};
 ghost use Rattle.tau_steps.specs.Reading.{IsPlace, TellsRow, TellsStep};
 
 use crate::errors::ItemError;
-use crate::items::{Place, both};
+use crate::items::{self, Place, both};
 use crate::kinds::{AloneKind, Kind, MessageKind, kind_of};
 use std::alloc::Global;
 use tau_sexpr::Form;
@@ -96,7 +96,7 @@ fn send(alloc: Global, items: &[Form], place: Place<'_>) -> Result<Step, ItemErr
         return Err(ItemError::Shape);
     };
     let content = both(place.transactor(to), place.value(alloc, value));
-    let made = both(place.next(number, place.messages), content);
+    let made = both(items::next(number, place.messages), content);
     let (who, (_, (to, value))) = both(place.transactor(who), made)?;
     Ok(Step::Send { who, to, value })
 }
@@ -111,7 +111,7 @@ fn new(alloc: Global, items: &[Form], place: Place<'_>) -> Result<Step, ItemErro
     };
     let home = both(place.node(node), place.value(alloc, state));
     let content = both(place.behaviour(behaviour), home);
-    let made = both(place.next(number, place.transactors), content);
+    let made = both(items::next(number, place.transactors), content);
     let (who, (_, (behaviour, (node, state)))) = both(place.transactor(who), made)?;
     Ok(Step::New {
         who,
@@ -129,7 +129,7 @@ fn ask(items: &[Form], place: Place<'_>) -> Result<Step, ItemError>
     let [who, answer] = items else {
         return Err(ItemError::Shape);
     };
-    let (who, answer) = both(place.transactor(who), place.truth(answer))?;
+    let (who, answer) = both(place.transactor(who), items::truth(answer))?;
     Ok(Step::Ask { who, answer })
 }
 
@@ -141,7 +141,7 @@ fn trap(items: &[Form], place: Place<'_>) -> Result<Step, ItemError>
     let [who, code] = items else {
         return Err(ItemError::Shape);
     };
-    let (who, code) = both(place.transactor(who), place.code(code))?;
+    let (who, code) = both(place.transactor(who), items::code(code))?;
     Ok(Step::Trap { who, code })
 }
 

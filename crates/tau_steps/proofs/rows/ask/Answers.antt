@@ -14,7 +14,7 @@ returns-in_default c =
 pub returns-in_err-who : goal.returns-in_err-who
 returns-in_err-who c =
     let p = err_from_is_err_and c.from_residual.result c.from_residual.ensures.1 in
-    rw (p.1, p.2) ((tells_ask c.args.place c.args.items.now c.who-item.result c.answer-item.result c.transactor.result c.truth.result c.both.result (omega arith) c.who-item.is c.answer-item.is c.transactor.ensures c.truth.ensures c.both.ensures).err c.in_err-who.field-0.0 c.in_err-who.was)
+    rw (p.1, p.2) ((tells_ask c.args.place c.args.items.now c.who-item.result c.answer-item.result c.transactor.result c.truth.result c.both.result (omega arith) c.who-item.is c.answer-item.is c.transactor.ensures (c.truth.ensures c.args.place) c.both.ensures).err c.in_err-who.field-0.0 c.in_err-who.was)
 
 pub returns : goal.returns
-returns c = (tells_ask c.args.place c.args.items.now c.who-item.result c.answer-item.result c.transactor.result c.truth.result c.both.result (omega arith) c.who-item.is c.answer-item.is c.transactor.ensures c.truth.ensures c.both.ensures).ok (c.in_ok-who.who, c.in_ok-who.answer) c.in_ok-who.was
+returns c = (tells_ask c.args.place c.args.items.now c.who-item.result c.answer-item.result c.transactor.result c.truth.result c.both.result (omega arith) c.who-item.is c.answer-item.is c.transactor.ensures (c.truth.ensures c.args.place) c.both.ensures).ok (c.in_ok-who.who, c.in_ok-who.answer) c.in_ok-who.was
