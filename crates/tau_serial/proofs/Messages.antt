@@ -1,11 +1,11 @@
 -- Messages in flight, the least of them, and after one more step.
-use Rattle.std.proofs.Common.{◌≡◌, ◌⊎◌, inl, inr, ⊎_elim, ℕ, suc, ◌+◌, ◌<◌, ◌≤◌, Option, Some, None, true, false, refl, sym, ap, ◌∙◌, subst, arith}
+use Rattle.std.proofs.Common.{◌≡◌, ◌⊎◌, ⊎_elim, ℕ, suc, ◌+◌, ◌<◌, ◌≤◌, Option, Some, None, true, subst, arith}
 use Rattle.std.specs.Option.{is_some}
 use Rattle.tau_trace.specs.declared.step.Step.{Step}
 use Rattle.tau_trace.specs.Run.{Run, len, appended}
 use Rattle.tau_trace.specs.Numbering.{sent, Removes, InFlight}
 use Rattle.tau_trace.specs.Places.{IsFirst}
-use Rattle.tau_trace.proofs.Agreement.{agree_sym, agree_below, agree_appended, sent-same, sent-grows, removes-same}
+use Rattle.tau_trace.proofs.Agreement.{agree_below, agree_appended, sent-same, sent-grows, removes-same}
 use Rattle.tau_trace.proofs.Indexing.{len-appended}
 use Rattle.tau_serial.specs.Flight.{NoneInFlightBelow}
 

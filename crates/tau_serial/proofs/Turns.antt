@@ -1,9 +1,9 @@
 -- Which turns are open after one more step.
-use Rattle.std.proofs.Common.{◌≡◌, ◌≢◌, ◌⊎◌, inl, inr, ⊎_elim, ℕ, suc, ◌<◌, true, false, IsTrue, Some, refl, sym, ap, ◌∙◌, subst, arith}
+use Rattle.std.proofs.Common.{◌≡◌, ◌≢◌, ◌⊎◌, inl, inr, ⊎_elim, ℕ, ◌<◌, true, false, IsTrue, Some, sym, ap, ◌∙◌, subst, arith}
 use Rattle.std.specs.Prelude.{option_and_then}
 use Rattle.tau_tree.specs.declared.programs.Program.{Program}
 use Rattle.tau_trace.specs.declared.step.Step.{Step}
-use Rattle.tau_trace.specs.declared.step.Step.TheVariants.{Take, Fail}
+use Rattle.tau_trace.specs.declared.step.Step.TheVariants.{Take}
 use Rattle.tau_trace.specs.Steps.{actor, ends_turn}
 use Rattle.tau_trace.specs.Run.{Run, step_at, len, appended, ActsAt}
 use Rattle.tau_trace.specs.Turns.{Turn}
@@ -14,7 +14,7 @@ use Rattle.tau_trace.proofs.Sequences.{cases_last}
 use Rattle.tau_past.proofs.PendingLemmas.{turns_after_step}
 use Rattle.tau_choice.specs.Choices.{is_of_turn}
 use Rattle.tau_eval.specs.Turn as jobs
-use Rattle.tau_serial.specs.Workers.{HasJob, IsOnlyJob}
+use Rattle.tau_serial.specs.Workers.{IsOnlyJob}
 
 -- the step begins no turn
 abbrev pub BeginsNone : Step → Type 0

@@ -1,5 +1,5 @@
 -- What a worker keeps, after each step.
-use Rattle.std.proofs.Common.{◌≡◌, ◌≢◌, ◌⊎◌, inl, inr, ⊎_elim, ℕ, suc, ◌+◌, ◌<◌, ◌≤◌, Bool, true, false, cond, eqb, eqb-true, eq-eqb, IsTrue, Option, Some, None, refl, sym, ap, ◌∙◌, subst, arith}
+use Rattle.std.proofs.Common.{◌≡◌, ◌≢◌, inl, inr, ℕ, suc, Bool, true, false, cond, eqb, eqb-true, eq-eqb, IsTrue, Option, Some, None, refl, sym, ap, ◌∙◌, subst}
 use Rattle.std.specs.Prelude.{IsFalse}
 use Rattle.tau_tree.specs.declared.programs.Program.{Program}
 use Rattle.tau_trace.specs.declared.step.Step.{Step}
@@ -8,25 +8,24 @@ use Rattle.tau_trace.specs.declared.step.Step.TheVariants.{Take, Get, Set, Skip,
 use Rattle.tau_trace.specs.Steps.{actor, ends_turn}
 use Rattle.tau_trace.specs.Run.{Run, len, appended}
 use Rattle.tau_trace.specs.Known.{WellFormed}
-use Rattle.tau_trace.specs.Turns.{Turn}
 use Rattle.tau_trace.proofs.Lists.{same_some}
 use Rattle.tau_trace.proofs.Agreement.{agree_sym, agree_appended, step_at-appended}
 use Rattle.tau_trace.proofs.Indexing.{len-appended}
 use Rattle.tau_script.specs.declared.cursor.Cursor.{Cursor}
 use Rattle.tau_script.specs.Cursors.{ComesTo, IsCurrent, moved_past, moved_past_due}
-use Rattle.tau_script.specs.Scripts.{IsDue, DueStep, NoneDue, Allows, is_failure}
+use Rattle.tau_script.specs.Scripts.{IsDue, Allows, is_failure}
 use Rattle.tau_script.proofs.Same.{goes_on as cursors_go_on}
 use Rattle.tau_legal.specs.Fits.{Fits}
 use Rattle.tau_legal.specs.Traces.{Fitting, Legal}
 use Rattle.tau_legal.proofs.LocalLemmas.{fits_same}
 use Rattle.tau_legal.proofs.TraceLemmas.{legal_grows}
-use Rattle.tau_choice.specs.Choices.{is_of_turn, IsStepOfTurn}
+use Rattle.tau_choice.specs.Choices.{is_of_turn}
 use Rattle.tau_eval.specs.Turn as jobs
 use Rattle.tau_rules.specs.System.{Core, with_step}
 use Rattle.tau_rules.specs.declared.answers.Delivered.{Delivered}
 use Rattle.tau_rules.specs.declared.answers.Delivered.TheVariants.{Began, Dropped, Fell, Voided}
 use Rattle.tau_rules.specs.Answers.{IsOpenJob, IsDelivered, IsBegun, IsStepped, IsRedone, NoTurnFrom}
-use Rattle.tau_serial.specs.Workers.{IsOnlyJob, HasJob, IsWorker, Works, HasAsked, without_job_of, begun_by}
+use Rattle.tau_serial.specs.Workers.{HasJob, IsWorker, Works, HasAsked, without_job_of, begun_by}
 use Rattle.tau_serial.proofs.Messages.{none_below_after}
 use Rattle.tau_serial.proofs.Turns.{BeginsNone, of_turn_begins_none, none_after, gone_after, only_after, only_begun}
 use Rattle.tau_serial.proofs.Jobs.{job_once, job_kept}

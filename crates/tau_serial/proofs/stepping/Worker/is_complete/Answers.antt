@@ -1,4 +1,4 @@
-use Rattle.std.proofs.Common.{◌≡◌, ◌∙◌, ℕ, Option, sym}
+use Rattle.std.proofs.Common.{◌∙◌, Option, sym}
 use Rattle.tau_trace.specs.Run.{Run}
 use Rattle.tau_eval.specs.Turn as jobs
 use Rattle.tau_tree.specs.declared.programs.Program.{Program}
@@ -12,7 +12,7 @@ returns-then-is_some-clause-incomplete c _ =
     let T : Run = c.due.new.self.system.run in
     let job : Option jobs.Turn = c.due.new.self.job in
     elim c.then-is_some.branch [
-      then-is_some-via-then-is_some w ↦ due_incomplete P T c.due.new.self.cursor job c.due.new.self.least c.due.result c.due.ensures.asked (sym c.is_some.ensures ∙ w.if-is_some.true)
+      | then-is_some-via-then-is_some w ↦ due_incomplete P T c.due.new.self.cursor job c.due.new.self.least c.due.result c.due.ensures.asked (sym c.is_some.ensures ∙ w.if-is_some.true)
       | then-is_some-via-else-is_some+then-is_some-2 w ↦ open_incomplete P T c.due.new.self.cursor job c.due.new.self.least c.due.result c.due.ensures.asked (sym w.is_some-else-is_some.ensures ∙ w.if-is_some-2.true)
     ]
 

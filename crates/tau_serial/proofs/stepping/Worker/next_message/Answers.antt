@@ -1,4 +1,4 @@
-use Rattle.std.proofs.Common.{◌≤◌, ◌≡◌, ℕ, arith, ap, subst}
+use Rattle.std.proofs.Common.{◌≤◌, ℕ, arith, subst}
 use Rattle.tau_trace.specs.Run.{Run, len}
 use Rattle.tau_trace.specs.Numbering.{sent, InFlight}
 use Rattle.tau_serial.proofs.Messages.{none_in_flight}

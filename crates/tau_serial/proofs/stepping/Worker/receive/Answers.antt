@@ -1,4 +1,4 @@
-use Rattle.std.proofs.Common.{◌≡◌, ◌∙◌, sym, subst, Option}
+use Rattle.std.proofs.Common.{sym, subst, Option}
 use Rattle.tau_rules.specs.System.{Core}
 use Rattle.tau_eval.specs.Turn as jobs
 use Rattle.tau_serial.specs.Workers.{Works, begun_by}
