@@ -12,6 +12,3 @@ mod reading;
 mod views;
 
 pub use views::{ViewChange, Views};
-
-#[cfg(test)]
-mod tests;
