@@ -1,6 +1,7 @@
 -- An open turn has one job; it stays the job where others make a step.
 use Rattle.std.proofs.Common.{◌≡◌, ◌≢◌, ℕ, suc, ◌<◌, List, [], ◌∷◌, ◌++◌, length, Some, refl, sym, ap, ◌∙◌, subst, arith}
-use Rattle.std.specs.Prelude.{slice_get, option_and_then, map}
+use Rattle.std.specs.Prelude.{slice_get}
+use Rattle.std.proofs.lemmas.List.{length-map}
 use Rattle.std.proofs.lemmas.Option.{slice_get_within}
 use Rattle.tau_value.specs.declared.shared.Value.{Value}
 use Rattle.tau_value.specs.Val.{Val}
@@ -12,12 +13,12 @@ use Rattle.tau_tree.specs.Code.{Code}
 use Rattle.tau_trace.specs.declared.step.Step.{Step}
 use Rattle.tau_trace.specs.declared.step.Step.TheVariants.{Take, Drop, Fall, Void, Get, Set, Skip, Send, New, Stabilize, Ask, Checkpoint, Hold, Rollback, Stay, Done, Trap, Fail, Lose}
 use Rattle.tau_trace.specs.Steps.{actor}
-use Rattle.tau_trace.specs.Run.{Run, step_at, len, appended, ActsAt}
+use Rattle.tau_trace.specs.Run.{Run, step_at, len, appended}
 use Rattle.tau_trace.specs.Numbering.{born, sent}
 use Rattle.tau_trace.specs.Points.{point_at}
 use Rattle.tau_trace.specs.Known.{WellFormed}
 use Rattle.tau_trace.proofs.Lists.{same_some}
-use Rattle.tau_trace.proofs.Agreement.{agree_appended, step_at-appended, born-grows, sent-grows}
+use Rattle.tau_trace.proofs.Agreement.{agree_appended, born-grows, sent-grows}
 use Rattle.tau_trace.proofs.Indexing.{len-appended}
 use Rattle.tau_trace.proofs.Once.{new_once, origin_once}
 use Rattle.tau_script.specs.Openings.{program_opening}
@@ -27,7 +28,7 @@ use Rattle.tau_eval.specs.Turn as jobs
 use Rattle.tau_legal.specs.Turns.{HasBehaviour, start, created, HasBody, HasValue, post, message, Replies, RepliesOf, before, another, reply}
 use Rattle.tau_legal.proofs.LocalLemmas.{body-same, value-same, replies_of-same}
 use Rattle.tau_rules.specs.Answers.{IsOpenJob}
-use Rattle.tau_serial.proofs.Turns.{stays_open}
+use Rattle.tau_serial.proofs.Turns.{not_acts, stays_open}
 
 same_behaviour : (a b c d x y : ℕ) (v w : Value) → New x a b v ≡ New y c d w → a ≡ c
 same_behaviour a b c d x y v w e = cc
@@ -35,17 +36,13 @@ same_behaviour a b c d x y v w e = cc
 same_sent : (a b x y : ℕ) (v w : Value) → Send x a v ≡ Send y b w → v ≡ w
 same_sent a b x y v w e = cc
 
--- a start is not made by a New, nor a post by a Send
-length-map : {A B : Type 0} (f : A → B) (xs : List A) → length (map f xs) ≡ length xs
-length-map f [] = refl
-length-map f (x ∷ xs) = ap suc (length-map f xs)
-
 module _ (P : Program) (T : Run) (opens : T.opening ≡ program_opening P) where
+  -- a start is made by no New, and a post by no Send
   few_starts : length P.starts ≡ length T.opening.names
-  few_starts = sym (ap (λ o. length o.names) opens ∙ length-map (λ s. s.name) P.starts)
+  few_starts = sym (ap (λ o. length o.names) opens ∙ length-map P.starts (λ s. s.name))
 
   few_posts : length P.posts ≡ length T.opening.targets
-  few_posts = sym (ap (λ o. length o.targets) opens ∙ length-map (λ q. q.to) P.posts)
+  few_posts = sym (ap (λ o. length o.targets) opens ∙ length-map P.posts (λ q. q.to))
 
   -- a transactor has one behaviour
   behaviour_once : (t b c : ℕ) → HasBehaviour P T t b → HasBehaviour P T t c → b ≡ c
@@ -130,9 +127,6 @@ job_once P T opens a b at f g =
     λ i. record { body = body i; nodes = nodes i; who = who i; place = at i; message = value i; replies = replies i }
 
 module _ (P : Program) (T : Run) (s : Step) (v : WellFormed T) (w : WellFormed (appended T s)) where
-  not_acts : (t : ℕ) → actor s ≢ Some t → ¬ ActsAt (appended T s) t (len T)
-  not_acts t ne a = ne (sym (ap (option_and_then actor) (step_at-appended T s)) ∙ a)
-
   -- an open job stays one where another transactor, or none, makes the step
   pub job_kept : (job : jobs.Turn) → actor s ≢ Some job.who → IsOpenJob P T job → IsOpenJob P (appended T s) job
   job_kept job ne h =
@@ -142,7 +136,7 @@ module _ (P : Program) (T : Run) (s : Step) (v : WellFormed T) (w : WellFormed (
       let opening : List Value = opening_states P.starts in
       let exists : job.who < born T (len T) = omega (arith, known.0, born-grows T job.place (len T) (omega arith)) in
       let was_sent : h.message < sent T (len T) = omega (arith, known.1, sent-grows T job.place (len T) (omega arith)) in
-      let longer : RepliesOf (appended T s) opening job.who (suc job.place) (suc (len T)) job.replies = another (omega arith) (not_acts job.who ne) (replies_of-same opening job.who (suc job.place) (len T) job.replies v w agree h.replies) in
+      let longer : RepliesOf (appended T s) opening job.who (suc job.place) (suc (len T)) job.replies = another (omega arith) (not_acts T s job.who ne) (replies_of-same opening job.who (suc job.place) (len T) job.replies v w agree h.replies) in
       record {
         message = h.message;
         turn = stays_open T s job.who job.place h.message ne h.turn;

@@ -42,7 +42,8 @@ module _ (T : Run) (s : Step) where
       (turns_after_step (appended T s) t (len T)).ending (record { step = s; stands = step_at-appended T s; by = by; passes = ends }) place m
       (subst (λ k. Turn (appended T s) t k place m) (len-appended T s) u)
 
-  not_acts : (t : ℕ) → actor s ≢ Some t → ¬ ActsAt (appended T s) t (len T)
+  -- who isn't the actor of the step makes no step there
+  pub not_acts : (t : ℕ) → actor s ≢ Some t → ¬ ActsAt (appended T s) t (len T)
   not_acts t ne a = ne (sym (ap (option_and_then actor) (step_at-appended T s)) ∙ a)
 
   -- the turns of others stay open

@@ -13,7 +13,7 @@ use Rattle.tau_trace.proofs.Agreement.{agree_sym, agree_appended, step_at-append
 use Rattle.tau_trace.proofs.Indexing.{len-appended}
 use Rattle.tau_script.specs.declared.cursor.Cursor.{Cursor}
 use Rattle.tau_script.specs.Cursors.{ComesTo, IsCurrent, moved_past, moved_past_due}
-use Rattle.tau_script.specs.Scripts.{IsDue, Allows, is_failure}
+use Rattle.tau_script.specs.Scripts.{Allows, is_failure}
 use Rattle.tau_script.proofs.Same.{goes_on as cursors_go_on}
 use Rattle.tau_legal.specs.Fits.{Fits}
 use Rattle.tau_legal.specs.Traces.{Fitting, Legal}
@@ -27,6 +27,7 @@ use Rattle.tau_rules.specs.declared.answers.Delivered.TheVariants.{Began, Droppe
 use Rattle.tau_rules.specs.Answers.{IsOpenJob, IsDelivered, IsBegun, IsStepped, IsRedone, NoTurnFrom}
 use Rattle.tau_serial.specs.Workers.{HasJob, IsWorker, Works, HasAsked, without_job_of, begun_by}
 use Rattle.tau_serial.proofs.Messages.{none_below_after}
+use Rattle.tau_serial.proofs.Completeness.{asked_due}
 use Rattle.tau_serial.proofs.Turns.{BeginsNone, of_turn_begins_none, none_after, gone_after, only_after, only_begun}
 use Rattle.tau_serial.proofs.Jobs.{job_once, job_kept}
 
@@ -48,10 +49,6 @@ of_turn_no_failure (Trap t c) h = refl
 of_turn_no_failure s h = absurd (cc)
 
 module _ (P : Program) (T : Run) (c : Cursor) (job : Option jobs.Turn) (n : ℕ) (due : Option Step) (s : Step) (asked : HasAsked P T c job n due) where
-  -- the due step, or none, is the script's
-  pub is_due : IsDue P.script T (len T) due
-  is_due = record { cursor = c; stands = asked.stands; due = asked.due_is }
-
   -- a step that the script allows, after which the longer run fits, is legal
   grows : WellFormed (appended T s) → Fitting P (appended T s) → Allows P.script T (len T) s → Legal P (appended T s)
   grows w f allowed =
@@ -59,6 +56,7 @@ module _ (P : Program) (T : Run) (c : Cursor) (job : Option jobs.Turn) (n : ℕ)
       let fits : Fits P T (len T) s = fits_same P (appended T s) T (len T) s w asked.well_formed (agree_sym (agree_appended T s)) (w.known (len T) s stands) (f.steps (len T) s stands) in
       legal_grows P T s asked.well_formed w asked.legal (record { fits = fits; allowed = allowed })
 
+  -- the cursor goes on as the script says
   current : IsCurrent P.script (appended T s) (len (appended T s)) (moved_past_due due c)
   current = inr (subst (λ k. ComesTo P.script (appended T s) k (moved_past_due due c)) (sym (len-appended T s)) (cursors_go_on P.script T c due s asked.stands asked.due_is))
 
@@ -73,14 +71,14 @@ after_due old new c d job next m n s asked is moves least has =
     subst (λ (k : Core). Works k.program k.run d next n) (sym is) (λ w f.
     subst (λ (x : Cursor). IsWorker old.program (appended old.run s) x next n) (sym moves)
     (subst (λ (x : ℕ). IsWorker old.program (appended old.run s) (moved_past s c) next x) (sym least)
-    (worker old.program old.run c job m (Some s) s asked next w f (inl (is_due old.program old.run c job m (Some s) s asked)) (has w))))
+    (worker old.program old.run c job m (Some s) s asked next w f (inl (asked_due old.program old.run c job m (Some s) asked)) (has w))))
 
 -- after another step, where none is due
 pub after_other : (old new : Core) (c : Cursor) (job next : Option jobs.Turn) (n : ℕ) (s : Step) → HasAsked old.program old.run c job n None
     → IsFalse (is_failure s) → new ≡ with_step old s → (WellFormed (appended old.run s) → HasJob old.program (appended old.run s) next) → Works new.program new.run c next n
 after_other old new c job next n s asked no_failure is has =
     subst (λ (k : Core). Works k.program k.run c next n) (sym is) (λ w f.
-    worker old.program old.run c job n None s asked next w f (inr (is_due old.program old.run c job n None s asked, no_failure)) (has w))
+    worker old.program old.run c job n None s asked next w f (inr (asked_due old.program old.run c job n None asked, no_failure)) (has w))
 
 -- a Fail ends the turn of its transactor, and leaves the others open
 pub has_job_after_fail : (P : Program) (T : Run) (t : ℕ) (job : Option jobs.Turn) → WellFormed T → WellFormed (appended T (Fail t)) → HasJob P T job → HasJob P (appended T (Fail t)) (without_job_of t job)
@@ -148,6 +146,7 @@ after_delivery old new c m n Voided asked h = after_receipt old new c n (steps.V
 one_longer : (old new : Core) (s : Step) → new ≡ with_step old s → len new.run ≡ suc (len old.run)
 one_longer old new s e = ap (λ (k : Core). len k.run) e ∙ len-appended old.run s
 
+-- a receipt leaves the program, and makes the run longer by one step
 pub delivery_program : (old new : Core) (m : ℕ) (d : Delivered) → IsDelivered old new m d → new.program ≡ old.program
 delivery_program old new m (Began job) h = ap (λ (k : Core). k.program) h.appended
 delivery_program old new m Dropped h = ap (λ (k : Core). k.program) h.1
