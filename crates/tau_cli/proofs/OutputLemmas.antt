@@ -3,11 +3,11 @@ use Rattle.std.proofs.Common.{◌≡◌, ◌⊎◌, inl, inr, ℕ, ◌≤◌, Li
 use Rattle.std.specs.Result.{IsErrAnd}
 use Rattle.tau_io.specs.Got.{TakesAll}
 use Rattle.tau_cli.specs.declared.commands.Command.{Command}
-use Rattle.tau_cli.specs.declared.commands.Command.TheVariants.{Print}
+use Rattle.tau_cli.specs.declared.commands.Command.TheVariants.{Run, Print}
 use Rattle.tau_cli.specs.declared.inputs.InputError.{InputError}
 use Rattle.tau_cli.specs.declared.inputs.InputError.TheVariants as inputs
 use Rattle.tau_cli.specs.declared.statuses.Status.{Status}
-use Rattle.tau_cli.specs.declared.statuses.Status.TheVariants.{Done, Words, Input, ReadFault, WriteFault, NoMemory}
+use Rattle.tau_cli.specs.declared.statuses.Status.TheVariants.{Done, Stopped, Words, Input, ReadFault, WriteFault, NoMemory}
 use Rattle.tau_cli.specs.Commands.{command_of}
 use Rattle.tau_cli.specs.Input.{input_limit, IsInputFault, too_long, no_program, Tells}
 use Rattle.tau_cli.specs.Status.{of_input_error}
@@ -54,17 +54,19 @@ left_told None bytes all h e = cc
 left_told (Some xs) bytes all h e = let same : xs ≡ all = cc in h ∙ same
 
 -- a command writes no text for an input with a fault
-pub unwritten : (command : Command) (bytes text : List ℕ) (a b : ℕ) → Writes command bytes text → IsInputFault command bytes a b → ⊥
-unwritten Print bytes text a b w (too_long l p q) = let m : length bytes ≤ input_limit = w.0 in omega arith
-unwritten Print bytes text a b w (no_program l f) = fault_or_program bytes a b w.1.program f w.1.spelled
+pub unwritten : (command : Command) (bytes text : List ℕ) (status : Status) (a b : ℕ) → Writes command bytes status text → IsInputFault command bytes a b → ⊥
+unwritten Run bytes text status a b w (too_long l p q) = let m : length bytes ≤ input_limit = w.0 in omega arith
+unwritten Run bytes text status a b w (no_program l f) = fault_or_program bytes a b w.1.program f w.1.spelled
+unwritten Print bytes text status a b w (too_long l p q) = let m : length bytes ≤ input_limit = w.0 in omega arith
+unwritten Print bytes text status a b w (no_program l f) = fault_or_program bytes a b w.1.program f w.1.spelled
 
-pub no_output : (words : List (List ℕ)) (left : Option (List ℕ)) (text : List ℕ) (command : Command) (bytes : List ℕ) (a b : ℕ) → IsOutput words left text
+pub no_output : (words : List (List ℕ)) (left : Option (List ℕ)) (status : Status) (text : List ℕ) (command : Command) (bytes : List ℕ) (a b : ℕ) → IsOutput words left status text
     → command_of words ≡ Some command → left ≡ Some bytes → IsInputFault command bytes a b → ⊥
-no_output words left text command bytes a b h c l f =
+no_output words left status text command bytes a b h c l f =
     let e : Some h.command ≡ Some command = sym h.is_command ∙ c in
     let same : h.command ≡ command = cc in
     let read : h.bytes ≡ bytes = left_told left h.bytes bytes h.are_left l in
-    unwritten command bytes text a b (subst (λ x. Writes x bytes text) same (subst (λ x. Writes h.command x text) read h.writes)) f
+    unwritten command bytes text status a b (subst (λ x. Writes x bytes status text) same (subst (λ x. Writes h.command x status text) read h.writes)) f
 
 -- the status of an input with a fault
 fault_named : (words : List (List ℕ)) (left : Option (List ℕ)) (command : Command) (bytes : List ℕ) (a b c d : ℕ) → IsFaulty words left c d
@@ -79,6 +81,7 @@ fault_named words left command bytes a b c d h e l f =
 pub stops_with_fault : (s : Status) (words : List (List ℕ)) (left : Option (List ℕ)) (U R : Type 0) (command : Command) (bytes : List ℕ) (a b : ℕ) → Stops words left U R s
     → command_of words ≡ Some command → left ≡ Some bytes → IsInputFault command bytes a b → IsUnlessUnread s (Input a b)
 stops_with_fault Done words left U R command bytes a b h e l f = absurd h
+stops_with_fault Stopped words left U R command bytes a b h e l f = absurd h
 stops_with_fault Words words left U R command bytes a b h e l f = let n : None ≡ Some command = sym h.0 ∙ e in absurd (cc)
 stops_with_fault (Input c d) words left U R command bytes a b h e l f = inl (fault_named words left command bytes a b c d h e l f)
 stops_with_fault ReadFault words left U R command bytes a b h e l f = inr (inl refl)
@@ -89,6 +92,7 @@ stops_with_fault NoMemory words left U R command bytes a b h e l f = inr (inr re
 pub stops_without_fault : (s : Status) (words : List (List ℕ)) (left : Option (List ℕ)) (U R : Type 0) (command : Command) (bytes : List ℕ) → Stops words left U R s
     → command_of words ≡ Some command → left ≡ Some bytes → ((a b : ℕ) → ¬ IsInputFault command bytes a b) → ¬ R → IsEndOf command s ⊎ (s ≡ NoMemory)
 stops_without_fault Done words left U R command bytes h e l f r = absurd h
+stops_without_fault Stopped words left U R command bytes h e l f r = absurd h
 stops_without_fault Words words left U R command bytes h e l f r = let n : None ≡ Some command = sym h.0 ∙ e in absurd (cc)
 stops_without_fault (Input a b) words left U R command bytes h e l f r =
     let g : Some h.command ≡ Some command = sym h.is_command ∙ e in
@@ -98,7 +102,3 @@ stops_without_fault (Input a b) words left U R command bytes h e l f r =
 stops_without_fault ReadFault words left U R command bytes h e l f r = absurd (r h.1)
 stops_without_fault WriteFault words left U R command bytes h e l f r = absurd h
 stops_without_fault NoMemory words left U R command bytes h e l f r = inr refl
-
--- a command whose text was written is done
-pub ends_done : (command : Command) → IsEndOf command Done
-ends_done Print = refl

@@ -12,8 +12,7 @@ use Rattle.tau_tree.specs.declared.programs.Program.{Program}
 use Rattle.tau_forms.specs.Meaning.{PlainStart, PlainPost, PlainProgram, plain_start, plain_post, plain_of, program_in}
 use Rattle.tau_forms.specs.Printed.{headed, name_of, count_form, behaviour_form, start_form, post_form, entry_form}
 use Rattle.tau_forms.specs.Printed as forms
-use Rattle.tau_cli.specs.declared.commands.Command.TheVariants.{Print}
-use Rattle.tau_cli.specs.Laws.{WritesOnce, WritesWithoutFault, FailsOnce}
+use Rattle.tau_cli.specs.Laws.{PrintsOnce, WritesWithoutFault, FailsOnce}
 use Rattle.tau_cli.proofs.OutputLemmas.{one_input_fault, unwritten}
 
 map_twice : {A B C : Type 0} (f : A → C) (g : B → C) (h : A → B) → ((x : A) → f x ≡ g (h x)) → (xs : List A) → map f xs ≡ map g (map h xs)
@@ -53,8 +52,8 @@ printed-plain p =
 printed_once : (p q : Program) → plain_of p ≡ plain_of q → forms.printed p ≡ forms.printed q
 printed_once p q e = printed-plain p ∙ ap (λ (r : PlainProgram). from_plain r (plain_names r)) e ∙ sym (printed-plain q)
 
-pub writes_once : (bytes : List ℕ) → WritesOnce bytes
-writes_once bytes Print text other v w =
+pub prints_once : (bytes : List ℕ) → PrintsOnce bytes
+prints_once bytes text other status another v w =
     let a = v.1.spelled in
     let b = w.1.spelled in
     let same : a.forms ≡ b.forms = once bytes a.forms b.forms a.spelled b.spelled in
@@ -62,7 +61,7 @@ writes_once bytes Print text other v w =
     v.1.is_text ∙ ap printed (printed_once v.1.program w.1.program plain) ∙ sym w.1.is_text
 
 pub writes_without_fault : (bytes : List ℕ) → WritesWithoutFault bytes
-writes_without_fault bytes command text a b w f = unwritten command bytes text a b w f
+writes_without_fault bytes command status text a b w f = unwritten command bytes text status a b w f
 
 pub fails_once : (bytes : List ℕ) → FailsOnce bytes
 fails_once bytes command a b c d f g = one_input_fault command bytes a b c d f g

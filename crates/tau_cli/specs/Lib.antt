@@ -1,5 +1,6 @@
 pub mod Commands
 pub mod Status
 pub mod Input
+pub mod Runs
 pub mod Output
 pub mod Laws

@@ -1,5 +1,5 @@
 -- The number of a status, and its line on standard error.
-use Rattle.std.specs.Prelude.{ℕ, List, [], ◌++◌, codes}
+use Rattle.std.specs.Prelude.{ℕ, Bool, true, false, List, [], ◌++◌, codes}
 use Rattle.std.specs.Fmt.{decimal}
 use Rattle.tau_io.specs.declared.reading.ReadError.{ReadError}
 use Rattle.tau_io.specs.declared.reading.ReadError.TheVariants as reads
@@ -9,11 +9,12 @@ use Rattle.tau_cli.specs.declared.inputs.InputError.{InputError}
 use Rattle.tau_cli.specs.declared.inputs.InputError.TheVariants as inputs
 use Rattle.tau_cli.specs.Input.{input_limit}
 use Rattle.tau_cli.specs.declared.statuses.Status.{Status}
-use Rattle.tau_cli.specs.declared.statuses.Status.TheVariants.{Done, Words, Input, ReadFault, WriteFault, NoMemory}
+use Rattle.tau_cli.specs.declared.statuses.Status.TheVariants.{Done, Stopped, Words, Input, ReadFault, WriteFault, NoMemory}
 
 -- the status of the process
 abbrev pub number_of : Status → ℕ
 number_of Done = 0
+number_of Stopped = 1
 number_of Words = 2
 number_of (Input fault at) = 3
 number_of ReadFault = 5
@@ -23,7 +24,8 @@ number_of NoMemory = 7
 -- the line, without its line feed; where all is done there is none
 abbrev pub line_of : Status → List ℕ
 line_of Done = []
-line_of Words = codes "tau: usage: tau print"
+line_of Stopped = codes "tau: stopped at the step limit"
+line_of Words = codes "tau: usage: tau run|print"
 line_of (Input fault at) = codes "tau: input fault " ++ decimal fault ++ codes " at " ++ decimal at
 line_of ReadFault = codes "tau: reading failed"
 line_of WriteFault = codes "tau: writing failed"
@@ -32,11 +34,23 @@ line_of NoMemory = codes "tau: out of memory"
 -- a status that comes before anything is written
 abbrev pub IsRefusal : Status → Type 0
 IsRefusal Done = ⊥
+IsRefusal Stopped = ⊥
 IsRefusal Words = Unit {0}
 IsRefusal (Input fault at) = Unit {0}
 IsRefusal ReadFault = Unit {0}
 IsRefusal WriteFault = ⊥
 IsRefusal NoMemory = ⊥
+
+-- a status that comes where the whole text was written
+abbrev pub IsResult : Status → Type 0
+IsResult Done = Unit {0}
+IsResult Stopped = Unit {0}
+IsResult status = ⊥
+
+-- the status where the whole text was written: whether there was nothing left to do
+abbrev pub end_of : Bool → Status
+end_of true = Done
+end_of false = Stopped
 
 -- the status for an error
 abbrev pub of_words_error : WordsError → Status

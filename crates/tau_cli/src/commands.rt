@@ -9,6 +9,8 @@ use thiserror::Error;
 /// A command that is built (docs/formats.md, "Command line").
 #[derive(Clone, Copy, Debug, PartialEq, Eq)]
 pub enum Command {
+    /// Runs a program with one worker, and writes its run text.
+    Run,
     /// Prints the forms of a program in printing order.
     Print,
 }
@@ -50,6 +52,9 @@ pub fn read_words(words: &Words) -> Result<Command, WordsError>
 fn named_command(name: &[u8]) -> Option<Command>
     ensures { result ≡ command_named name.now }
 {
+    if name == b"run".as_slice() {
+        return Some(Command::Run);
+    }
     if name == b"print".as_slice() {
         return Some(Command::Print);
     }

@@ -13,6 +13,8 @@ use tau_io::ReadError;
 pub enum Status {
     /// The whole text was written.
     Done,
+    /// The whole text was written, of a run that has as many steps as its limit and isn't complete.
+    Stopped,
     /// The words of the command line name no built command.
     Words,
     /// The input has a fault, with this number and at this place (docs/formats.md, "Input faults").
@@ -30,6 +32,7 @@ pub fn number(status: &Status) -> u8
 {
     match status {
         Status::Done => 0,
+        Status::Stopped => 1,
         Status::Words => 2,
         Status::Input { .. } => 3,
         Status::ReadFault => 5,
@@ -93,7 +96,8 @@ impl fmt::Display for Status {
     fn fmt<W: fmt::Write>(&self, f: &mut fmt::Formatter<W>) -> fmt::Result {
         match self {
             Status::Done => Ok(()),
-            Status::Words => f.write_str("tau: usage: tau print"),
+            Status::Stopped => f.write_str("tau: stopped at the step limit"),
+            Status::Words => f.write_str("tau: usage: tau run|print"),
             Status::Input { fault, at } => write!(f, "tau: input fault {fault} at {at}"),
             Status::ReadFault => f.write_str("tau: reading failed"),
             Status::WriteFault => f.write_str("tau: writing failed"),

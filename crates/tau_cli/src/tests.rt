@@ -129,7 +129,9 @@ fn reads_the_words(rt: HostRuntime) {
     assert_eq!(rt; read_words(&Words::new(alloc)), Err(WordsError::Words));
     assert_eq!(rt; read_words(&one_word(alloc, "fly")), Err(WordsError::Words));
     assert_eq!(rt; read_words(&one_word(alloc, "print")), Ok(Command::Print));
+    assert_eq!(rt; read_words(&one_word(alloc, "run")), Ok(Command::Run));
     output_is_unique(b"");
+    run_texts_tell();
 }
 
 // The line of a status, if there is memory for it.
@@ -141,7 +143,9 @@ fn line_of(alloc: Global, status: Status) -> Option<String> {
 fn tells_how_it_ended(rt: HostRuntime) -> Result<(), Fail> {
     let alloc = rt.alloc();
     let words = line_of(alloc, Status::Words).ok_or("no memory")?;
-    assert_eq!(rt; words.as_str(), "tau: usage: tau print");
+    assert_eq!(rt; words.as_str(), "tau: usage: tau run|print");
+    let stopped = line_of(alloc, Status::Stopped).ok_or("no memory")?;
+    assert_eq!(rt; stopped.as_str(), "tau: stopped at the step limit");
     let fault = Status::Input { fault: 10, at: 205 };
     let input = line_of(alloc, fault).ok_or("no memory")?;
     assert_eq!(rt; input.as_str(), "tau: input fault 10 at 205");

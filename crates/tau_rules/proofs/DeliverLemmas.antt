@@ -1,71 +1,41 @@
--- In a run in which nothing falls, a message in flight to an idle transactor can be taken.
-use Rattle.std.proofs.Common.{◌≡◌, ◌⊎◌, inl, inr, ⊎_elim, ℕ, zero, suc, ◌+◌, ◌<◌, ◌≤◌, IsTrue, Bool, true, false, Option, Some, None, List, [], ◌∷◌, length, refl, sym, ap, ◌∙◌, subst, arith}
-use Rattle.std.specs.Prelude.{slice_get, slice_index_or, All, if◌then◌else◌}
-use Rattle.std.proofs.lemmas.List.Elements.{All-head, All-tail}
-use Rattle.tau_history.specs.Timeline.{Move, keep, fall}
+-- What holds of a message that is delivered, and of the turn that it opens.
+use Rattle.std.proofs.Common.{◌≡◌, ℕ, zero, suc, ◌<◌, true, false, Option, Some, None, List, [], ◌∷◌, length, refl, sym, ap, ◌∙◌, subst, arith}
+use Rattle.std.specs.Prelude.{slice_get, slice_index_or, map, is_some}
+use Rattle.tau_value.specs.Val.{Val}
+use Rattle.tau_tree.specs.Behaviour.{NamedCode}
 use Rattle.tau_tree.specs.declared.programs.Program.{Program}
 use Rattle.tau_tree.specs.Sound.{Sound}
-use Rattle.tau_trace.specs.declared.step.Step.{Step}
-use Rattle.tau_trace.specs.declared.step.Step.TheVariants.{Take, Drop, Fall, Void, Get, Set, Skip, Send, New, Stabilize, Ask, Checkpoint, Hold, Rollback, Stay, Done, Trap, Fail, Lose}
-use Rattle.tau_trace.specs.Run.{Run, step_at, len}
-use Rattle.tau_trace.specs.Numbering.{born, sent, Receives, post, message, InFlight, Removes}
-use Rattle.tau_trace.specs.Histories.{history, move_by, is_by, Falls, IsLiving}
-use Rattle.tau_trace.specs.Turns.{IsOpenTurn}
+use Rattle.tau_trace.specs.declared.step.Step.TheVariants.{Take, Send, New}
+use Rattle.tau_trace.specs.Run.{Run, len, appended}
+use Rattle.tau_trace.specs.Places.{IsFirst}
+use Rattle.tau_trace.specs.Numbering.{born, sent, Receives, post, message, Removes}
+use Rattle.tau_trace.specs.Histories.{EndsAt}
+use Rattle.tau_trace.specs.Turns.{Turn, IsOpenTurn}
 use Rattle.tau_trace.specs.Known.{WellFormed}
-use Rattle.tau_trace.proofs.Agreement.{born-grows, origin_before}
-use Rattle.tau_past.specs.Decisions.{Verdict, takes, take}
+use Rattle.tau_trace.proofs.Agreement.{agree_appended, step_at-appended, born-grows, origin_before}
+use Rattle.tau_trace.proofs.Indexing.{len-appended}
+use Rattle.tau_past.proofs.PendingLemmas.{turns_after_step}
 use Rattle.tau_script.specs.Openings.{program_opening}
-use Rattle.tau_legal.specs.Turns.{HasBehaviour, start, created}
-use Rattle.tau_legal.specs.Fits.{Arrives}
-use Rattle.tau_rules.specs.System.{is_plain, IsPlain}
-use Rattle.tau_rules.proofs.SystemLemmas.{length-map}
-use Rattle.tau_legal.proofs.TraceLemmas.{below_length}
+use Rattle.tau_states.specs.Opening.{opening_states}
+use Rattle.tau_eval.specs.Turn.{IsTurnOf}
+use Rattle.tau_eval.specs.Turn as jobs
+use Rattle.tau_legal.specs.Turns.{HasBehaviour, start, created, HasBody, HasValue, RepliesOf, before}
+use Rattle.tau_legal.specs.Fits.{Arrives, ArrivesLate}
 use Rattle.tau_legal.proofs.ValueLemmas.{at_all}
+use Rattle.tau_legal.proofs.LocalLemmas.{body-same, value-same}
+use Rattle.tau_rules.specs.System.{Core, with_step}
+use Rattle.tau_rules.specs.Answers.{IsOpenJob, IsBegun}
+use Rattle.tau_rules.proofs.OpeningLemmas.{length-map}
 
-no_choice : (b : Bool) → (if b then keep else keep) ≡ fall → ⊥
-no_choice true e = cc
-no_choice false e = cc
+-- a message in flight to a living, idle receiver arrives
+pub arrives : (T : Run) (t m : ℕ) (end : Option ℕ) → m < sent T (len T) → IsFirst (Removes T m) (len T) None → Receives T m t → false ≡ is_some end → IsFirst (EndsAt T t) (len T) end → IsOpenTurn T t (len T) None → Arrives T t m (len T)
+arrives T t m None lt stays receives none living idle = record { in_flight = record { exists = lt; not_removed = stays }; receiver = receives; living = living; idle = idle }
+arrives T t m (Some place) lt stays receives none living idle = absurd (cc)
 
--- a step of the kinds so far makes no history fall
-no_fall_by : (t : ℕ) (b : Bool) (s : Step) → IsTrue (is_plain s) → move_by t b (Some s) ≡ fall → ⊥
-no_fall_by t b (Take u m) p e = no_choice (is_by t (Take u m)) e
-no_fall_by t b (Get u) p e = no_choice (is_by t (Get u)) e
-no_fall_by t b (Set u v) p e = no_choice (is_by t (Set u v)) e
-no_fall_by t b (Send u w v) p e = no_choice (is_by t (Send u w v)) e
-no_fall_by t b (Done u) p e = no_choice (is_by t (Done u)) e
-no_fall_by t b (Drop u m) p e = absurd (cc)
-no_fall_by t b (Fall u m) p e = absurd (cc)
-no_fall_by t b (Void u m) p e = absurd (cc)
-no_fall_by t b (Skip u) p e = absurd (cc)
-no_fall_by t b (New u c n v) p e = absurd (cc)
-no_fall_by t b (Stabilize u) p e = absurd (cc)
-no_fall_by t b (Ask u a) p e = absurd (cc)
-no_fall_by t b (Checkpoint u) p e = absurd (cc)
-no_fall_by t b (Hold u) p e = absurd (cc)
-no_fall_by t b (Rollback u) p e = absurd (cc)
-no_fall_by t b (Stay u) p e = absurd (cc)
-no_fall_by t b (Trap u c) p e = absurd (cc)
-no_fall_by t b (Fail u) p e = absurd (cc)
-no_fall_by t b (Lose m) p e = absurd (cc)
-
-pub nothing_falls : (T : Run) → IsPlain T → (t k : ℕ) → ¬ Falls T t k
-nothing_falls T plain t k f = by (step_at T k) refl where
-  by : (o : Option Step) → step_at T k ≡ o → ⊥
-  by None e =
-      let none : move_by t (history T t k).stable None ≡ fall = ap (move_by t (history T t k).stable) (sym e) ∙ f in
-      cc
-  by (Some s) e = no_fall_by t (history T t k).stable s (plain k s e) (ap (move_by t (history T t k).stable) (sym e) ∙ f)
-
-pub is_taken : (T : Run) → IsPlain T → (t k m : ℕ) → Verdict T t k m takes
-is_taken T plain t k m = take (λ h. nothing_falls T plain h.cause.who h.fallen.place h.fallen.falls) (λ h. nothing_falls T plain h.cause.who h.fallen.place h.fallen.falls)
-
-pub arrives : (T : Run) → IsPlain T → (t m : ℕ) → m < sent T (len T) → ((j : ℕ) → j < len T → ¬ Removes T m j) → Receives T m t → IsOpenTurn T t (len T) None → Arrives T t m (len T)
-arrives T plain t m lt stays receives idle = record {
-  in_flight = record { exists = lt; not_removed = stays };
-  receiver = receives;
-  living = λ j before e. nothing_falls T plain t j e.falls;
-  idle = idle;
-}
+-- and to one that has ended it arrives late
+pub arrives_late : (T : Run) (t m : ℕ) (end : Option ℕ) → m < sent T (len T) → IsFirst (Removes T m) (len T) None → Receives T m t → true ≡ is_some end → IsFirst (EndsAt T t) (len T) end → ArrivesLate T t m (len T)
+arrives_late T t m None lt stays receives some ends = absurd (cc)
+arrives_late T t m (Some place) lt stays receives some ends = record { in_flight = record { exists = lt; not_removed = stays }; receiver = receives; ended = record { place = place; before = ends.0; ends = ends.1 } }
 
 -- the receiver of a message that exists, exists
 pub receiver_exists : (T : Run) → WellFormed T → (m t : ℕ) → m < sent T (len T) → Receives T m t → t < born T (len T)
@@ -76,6 +46,10 @@ receiver_exists T w m t lt (message {j = j} {by = by} o e) =
     let before = origin_before T j by m (len T) o lt in
     let known = (w.known j (Send by o.to o.value) o.stands).1 in
     omega (arith, known, e, born-grows T j (len T) (omega arith))
+
+-- a message that exists and its receiver are known
+pub known_pair : (T : Run) → WellFormed T → (m t : ℕ) → m < sent T (len T) → Receives T m t → (t < born T (len T)) × (m < sent T (len T))
+known_pair T w m t lt receives = (receiver_exists T w m t lt receives, lt)
 
 -- the behaviour of a transactor exists
 pub behaviour_exists : (P : Program) (T : Run) → Sound P → WellFormed T → T.opening ≡ program_opening P → (t b : ℕ) → HasBehaviour P T t b → b < length P.behaviours
@@ -89,3 +63,47 @@ pub index_get : {A : Type 0} (xs : List A) (k : ℕ) (x : A) → k < length xs �
 index_get [] k x lt e = absurd (omega arith)
 index_get (y ∷ ys) zero x lt e = ap Some (sym e)
 index_get (y ∷ ys) (suc k) x lt e = index_get ys k x (omega arith) e
+
+-- what stands in a list of images is the image of what stands there
+image_of : {A B : Type 0} (f : A → B) (xs : List A) (k : ℕ) (y : B) → slice_get (map f xs) k ≡ Some y → (x : A) × (slice_get xs k ≡ Some x) × (f x ≡ y)
+image_of f [] k y e = absurd (cc)
+image_of f (x ∷ xs) zero y e = let same : f x ≡ y = cc in (x, refl, same)
+image_of f (x ∷ xs) (suc k) y e = image_of f xs k y e
+
+module _ (P : Program) (T : Run) (t b m : ℕ) (v : Val) (job : jobs.Turn) where
+  -- what the transactor evaluates
+  body_of : HasBehaviour P T t b → IsTurnOf P t b (len T) v [] job → HasBody P T t job.body
+  body_of h is =
+      let behaviour = image_of (λ (x : NamedCode). x.body) P.behaviours b job.body is.body in
+      record { number = b; behaviour = behaviour.0; has = h; stands = behaviour.1; is = behaviour.2 }
+
+  -- the turn that the Take opens
+  turn_of : IsTurnOf P t b (len T) v [] job → Turn (appended T (Take t m)) job.who (len (appended T (Take t m))) job.place m
+  turn_of is =
+      let turn : Turn (appended T (Take t m)) t (suc (len T)) (len T) m = ((turns_after_step (appended T (Take t m)) t (len T)).take m (step_at-appended T (Take t m)) (len T) m).1 (refl, refl) in
+      let later : Turn (appended T (Take t m)) t (len (appended T (Take t m))) (len T) m = subst (λ k. Turn (appended T (Take t m)) t k (len T) m) (sym (len-appended T (Take t m))) turn in
+      subst (λ u. Turn (appended T (Take t m)) u (len (appended T (Take t m))) job.place m) (sym is.who)
+      (subst (λ k. Turn (appended T (Take t m)) t (len (appended T (Take t m))) k m) (sym is.place) later)
+
+  -- no replies yet
+  replies_of : IsTurnOf P t b (len T) v [] job → RepliesOf (appended T (Take t m)) (opening_states P.starts) job.who (suc job.place) (len (appended T (Take t m))) job.replies
+  replies_of is = subst (λ rs. RepliesOf (appended T (Take t m)) (opening_states P.starts) job.who (suc job.place) (len (appended T (Take t m))) rs) (sym is.replies) (before (omega (arith, is.place, len-appended T (Take t m))))
+
+  pub opened_job : t < born T (len T) → m < sent T (len T) → HasBehaviour P T t b → HasValue P T m v → IsTurnOf P t b (len T) v [] job → IsOpenJob P (appended T (Take t m)) job
+  opened_job exists there behaviour value is = record {
+    message = m;
+    turn = turn_of is;
+    body = subst (λ u. HasBody P (appended T (Take t m)) u job.body) (sym is.who) (body-same P t (len T) job.body (agree_appended T (Take t m)) exists (body_of behaviour is));
+    nodes = is.nodes;
+    value = subst (λ x. HasValue P (appended T (Take t m)) m x) (sym is.message) (value-same P m (len T) v (agree_appended T (Take t m)) there value);
+    replies = replies_of is;
+  }
+
+-- the turn of the Take begins
+pub has_begun : (old new : Core) (t b m : ℕ) (v : Val) (job : jobs.Turn) → t < born old.run (len old.run) → m < sent old.run (len old.run) → HasBehaviour old.program old.run t b → HasValue old.program old.run m v
+    → IsTurnOf old.program t b (len old.run) v [] job → new ≡ with_step old (Take t m) → IsBegun old new m job
+has_begun old new t b m v job exists there behaviour value is made = record {
+  appended = made ∙ ap (λ u. with_step old (Take u m)) (sym is.who);
+  place = is.place;
+  opened = subst (λ (k : Core). IsOpenJob k.program k.run job) (sym made) (opened_job old.program old.run t b m v job exists there behaviour value is);
+}

@@ -1,3 +1,13 @@
+pub mod OpeningLemmas
+pub mod IdleLemmas
 pub mod TurnLemmas
+pub mod ReadinessLemmas
+pub mod RecordLemmas
+pub mod MessageLemmas
 pub mod SystemLemmas
 pub mod DeliverLemmas
+pub mod ReadingLemmas
+pub mod ActLemmas
+pub mod ActLemmasOfJobs
+pub mod ActLemmasOfSteps
+pub mod ActLemmasOfAnswers

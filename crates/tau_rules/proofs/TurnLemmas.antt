@@ -1,33 +1,27 @@
 -- Turns, replies and values after one step more.
-use Rattle.std.proofs.Common.{◌≡◌, ◌≢◌, ◌⊎◌, ◌↔◌, inl, inr, ⊎_elim, ℕ, zero, suc, ◌+◌, ◌<◌, ◌≤◌, IsTrue, Option, Some, None, List, [], ◌∷◌, ◌++◌, length, refl, sym, ap, ◌∙◌, subst, arith}
-use Rattle.std.specs.Prelude.{slice_get, option_and_then}
+use Rattle.std.proofs.Common.{◌≡◌, ◌≢◌, ℕ, suc, ◌<◌, ◌≤◌, IsTrue, Some, None, List, [], ◌∷◌, ◌++◌, sym, ap, ◌∙◌, subst, arith}
+use Rattle.std.specs.Prelude.{option_and_then}
 use Rattle.tau_value.specs.declared.shared.Value.{Value}
 use Rattle.tau_value.specs.Val.{Val}
 use Rattle.tau_value.specs.Value.{val_of}
 use Rattle.tau_tree.specs.declared.programs.Program.{Program}
 use Rattle.tau_trace.specs.declared.step.Step.{Step}
-use Rattle.tau_trace.specs.declared.step.Step.TheVariants.{Take, Send}
-use Rattle.tau_trace.specs.Steps.{actor}
-use Rattle.tau_trace.specs.Run.{Run, Agree, step_at, ActsAt, len, appended}
+use Rattle.tau_trace.specs.declared.step.Step.TheVariants.{Take, New}
+use Rattle.tau_trace.specs.Steps.{actor, ends_turn}
+use Rattle.tau_trace.specs.Run.{Run, step_at, ActsAt, Does, len, appended}
 use Rattle.tau_trace.specs.Numbering.{born, sent}
-use Rattle.tau_trace.specs.Turns.{Turn}
-use Rattle.tau_trace.specs.Known.{WellFormed, IsKnownAt}
-use Rattle.tau_trace.proofs.Agreement.{agree_appended, step_at-appended, same_at, sent-grows}
+use Rattle.tau_trace.specs.Turns.{Turn, IsOpenTurn}
+use Rattle.tau_trace.specs.Known.{WellFormed}
+use Rattle.tau_trace.proofs.Agreement.{agree_appended, step_at-appended, same_at, born-same, born-grows, sent-grows}
 use Rattle.tau_trace.proofs.Indexing.{len-appended}
-use Rattle.tau_past.specs.KnownLaws.{TurnsAfterStep, KeepsTurns, keeps_pending}
+use Rattle.tau_past.specs.KnownLaws.{KeepsTurns}
 use Rattle.tau_past.proofs.PendingLemmas.{turns_after_step}
 use Rattle.tau_states.specs.Opening.{opening_states}
-use Rattle.tau_legal.specs.Turns.{HasBehaviour, HasValue, Replies, RepliesOf, before, another, reply}
+use Rattle.tau_legal.specs.Turns.{HasBehaviour, created, HasValue, Replies, RepliesOf, before, another, reply}
 use Rattle.tau_legal.proofs.LocalLemmas.{replies-same, replies_of-same, behaviour-same, value-same}
 use Rattle.tau_legal.proofs.TraceLemmas.{known_at_end}
-use Rattle.tau_trace.specs.Steps.{ends_turn, is_send}
-use Rattle.tau_trace.specs.Run.{Does}
-use Rattle.tau_past.specs.Carried.{touches}
 use Rattle.tau_rules.specs.declared.records.Record.{Record}
 use Rattle.tau_rules.specs.Records.{IsOfTurn, IsRecord}
-
-same_some : {x y : ℕ} → Some x ≡ Some y → x ≡ y
-same_some e = cc
 
 module _ (P : Program) (T : Run) (s : Step) (v : WellFormed T) (w : WellFormed (appended T s)) where
   -- the step stands at the end
@@ -100,6 +94,13 @@ module _ (P : Program) (T : Run) (s : Step) (v : WellFormed T) (w : WellFormed (
     none : (place m : ℕ) → ¬ Turn (appended T s) t (suc (len T)) place m
     none place m u = (turns_after_step (appended T s) t (len T)).ending does place m u
 
+  -- where no turn of it is open, and none begins
+  pub record_idle : (t : ℕ) (r : Record) → t < born T (len T) → KeepsTurns (appended T s) t (len T) → IsOpenTurn T t (len T) None → IsRecord P T t r → IsRecord P (appended T s) t r
+  record_idle t r lt keeps idle h = record {
+    behaviour = behaviour-same P t (len T) r.behaviour (agree_appended T s) lt h.behaviour;
+    turn = λ place m u. absurd (idle place m (turn_before t place m keeps u));
+  }
+
   -- where it begins a turn
   pub record_begun : (t m : ℕ) (r : Record) → t < born T (len T) → m < sent T (len T) → s ≡ Take t m → IsRecord P T t r
       → (q : Record) → q.behaviour ≡ r.behaviour → HasValue P T m (val_of q.message) → q.replies ≡ [] → IsRecord P (appended T s) t q
@@ -112,6 +113,18 @@ module _ (P : Program) (T : Run) (s : Step) (v : WellFormed T) (w : WellFormed (
       message = subst (λ i. HasValue P (appended T s) i (val_of q.message)) (sym e.1) (value-same P m (len T) (val_of q.message) (agree_appended T s) below value);
       replies = subst (λ rs. RepliesOf (appended T s) (opening_states P.starts) t (suc place) (len (appended T s)) rs) (sym no_replies) (before (omega (arith, e.0, len-appended T s)));
     }
+
+  -- the record of the transactor that the step makes
+  pub record_newborn : (t b n : ℕ) (x : Value) (q : Record) → s ≡ New t b n x → q.behaviour ≡ b → IsRecord P (appended T s) (born T (len T)) q
+  record_newborn t b n x q is same = record {
+    behaviour = created (record { behaviour = b; node = n; state = x; stands = stands ∙ ap Some is; made = born-same (len T) (agree_appended T s) }) (sym same);
+    turn = λ place m u. absurd (unborn place m u);
+  } where
+    unborn : (place m : ℕ) → ¬ Turn (appended T s) (born T (len T)) (len (appended T s)) place m
+    unborn place m u =
+        let known = (w.known place (Take (born T (len T)) m) u.takes).0 in
+        let within : place ≤ len T = omega (arith, u.before, len-appended T s) in
+        omega (arith, known, born-grows (appended T s) place (len T) within, born-same (len T) (agree_appended T s))
 
   -- the values of the messages that existed before
   pub value_kept : (m : ℕ) (x : Val) → m < sent T (len T) → HasValue P T m x → HasValue P (appended T s) m x

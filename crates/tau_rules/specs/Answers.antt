@@ -4,9 +4,9 @@ use Rattle.tau_value.specs.Value.{val_of}
 use Rattle.tau_tree.specs.declared.programs.Program.{Program}
 use Rattle.tau_trace.specs.declared.step.Step.{Step}
 use Rattle.tau_trace.specs.declared.step.Step.TheVariants.{Take, Drop, Fall, Void}
-use Rattle.tau_trace.specs.Steps.{actor, ends_turn, is_take}
+use Rattle.tau_trace.specs.Steps.{ends_turn, is_take}
 use Rattle.tau_trace.specs.Run.{Run, len, step_at, Does}
-use Rattle.tau_trace.specs.Numbering.{born, Receives, Removes}
+use Rattle.tau_trace.specs.Numbering.{born, Receives, Removes, InFlight}
 use Rattle.tau_trace.specs.Places.{IsFirst}
 use Rattle.tau_trace.specs.Histories.{EndsAt, IsLiving}
 use Rattle.tau_trace.specs.Turns.{Turn, IsOpenTurn}
@@ -54,10 +54,10 @@ IsDelivered old new m Dropped = (t : ℕ) × (new ≡ with_step old (Drop t m))
 IsDelivered old new m Fell = (t : ℕ) × (new ≡ with_step old (Fall t m))
 IsDelivered old new m Voided = (t : ℕ) × (new ≡ with_step old (Void t m))
 
--- why a message isn't delivered: the named step took it, or the named turn of its receiver is open
+-- why a message isn't delivered: the named step took it; or it is in flight, and the named turn of its receiver is open
 abbrev pub IsUndelivered : Run → ℕ → DeliverError → Type 0
 IsUndelivered T m (deliver_errors.NotInFlight place) = IsFirst (Removes T m) (len T) (Some place)
-IsUndelivered T m (deliver_errors.Busy turn) = (t : ℕ) × Receives T m t × IsOpenTurn T t (len T) (Some turn)
+IsUndelivered T m (deliver_errors.Busy turn) = (t : ℕ) × Receives T m t × IsOpenTurn T t (len T) (Some turn) × InFlight T m (len T)
 IsUndelivered T m deliver_errors.NoMemory = Unit {0}
 
 -- the pending's job was the record of the turn, and the step of its effect was appended

@@ -1,5 +1,5 @@
 -- What contracts see of a system, and what it keeps.
-use Rattle.std.specs.Prelude.{◌≡◌, ℕ, List}
+use Rattle.std.specs.Prelude.{List}
 use Rattle.tau_value.specs.declared.shared.Value.{Value}
 use Rattle.tau_tree.specs.declared.programs.Program.{Program}
 use Rattle.tau_tree.specs.Sound.{Sound}

@@ -7,8 +7,10 @@ mod appending;
 mod delivering;
 mod errors;
 mod failing;
+mod reading;
 mod records;
 mod system;
+mod turns;
 
 pub use answers::{Acted, Delivered, Standing};
 pub use errors::{ActError, DeliverError, FailError, LoseError};

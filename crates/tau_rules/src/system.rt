@@ -79,6 +79,16 @@ impl<'p, V: View + Drop> System<'p, V> {
         &self.trace
     }
 
+    /// The run, given up by the system.
+    pub fn into_trace(self) -> Trace
+        ensures run { result.run ≡ self.entry.run }
+        ensures well_formed { WellFormed result.run }
+        ensures fitting { Fitting self.entry.program result.run }
+    {
+        let _length = self.trace.len();
+        self.trace
+    }
+
     /// The program.
     pub fn program(&self) -> &'p Program
         ensures program { result.now ≡ self.now.program }

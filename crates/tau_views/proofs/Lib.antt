@@ -1,0 +1,11 @@
+pub mod Trimmed
+pub mod Appended
+pub mod Lists
+pub mod Follows
+pub mod Next
+pub mod Hearing
+pub mod Touching
+pub mod Making
+pub mod Leaving
+pub mod Opens
+pub mod Judges

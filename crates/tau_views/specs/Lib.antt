@@ -1,2 +1,5 @@
 pub mod Kept
 pub mod Changes
+pub mod Trims
+pub mod Next
+pub mod Opened

@@ -2,6 +2,13 @@
 //! "View of what was heard").
 #![tactic(auto)]
 
+mod after;
+mod applying;
+mod judging;
+mod kinds;
+mod opening;
+mod preparing;
+mod reading;
 mod views;
 
 pub use views::{ViewChange, Views};

@@ -1,86 +1,89 @@
-use Rattle.std.proofs.Common.{◌≡◌, ◌<◌, ◌∙◌, ℕ, Some, None, arith, ap, sym, subst, refl}
-use Rattle.std.specs.Prelude.{slice_get, length, []}
-use Rattle.tau_value.specs.declared.shared.Value.{Value}
-use Rattle.tau_value.specs.Value.{val_of}
-use Rattle.tau_tree.specs.declared.programs.Program.{Program}
-use Rattle.tau_trace.specs.declared.step.Step.TheVariants.{Take}
+use Rattle.std.proofs.Common.{◌<◌, ℕ, Some, sym, subst}
+use Rattle.tau_fate.specs.declared.verdict.Verdict as fates
+use Rattle.tau_trace.specs.declared.step.Step.TheVariants.{Drop, Fall, Void}
 use Rattle.tau_trace.specs.Run.{Run, len}
-use Rattle.tau_trace.specs.Numbering.{born, sent, Receives}
+use Rattle.tau_trace.specs.Numbering.{sent, Receives, InFlight}
 use Rattle.tau_trace.specs.Known.{MayFollow}
 use Rattle.tau_trace.specs.Turns.{IsOpenTurn}
-use Rattle.tau_past.specs.Decisions.{Verdict, takes}
-use Rattle.tau_eval.specs.Turn.{IsTurnOf}
-use Rattle.tau_rules.specs.declared.records.Record.{Record}
-use Rattle.tau_legal.specs.Turns.{HasBehaviour, HasValue}
-use Rattle.tau_legal.specs.Fits.{Arrives}
-use Rattle.tau_rules.specs.System.{Core, with_step}
-use Rattle.tau_rules.specs.Answers.{IsBegun}
-use Rattle.tau_rules.proofs.DeliverLemmas.{arrives, is_taken, receiver_exists, behaviour_exists, index_get}
+use Rattle.tau_past.specs.Decisions.{drops, falls, Verdict}
+use Rattle.tau_judgement.specs.Laws.{judged}
+use Rattle.tau_legal.specs.Fits.{Arrives, ArrivesLate}
+use Rattle.tau_legal.proofs.SafetyLemmas.{keeps_rules}
+use Rattle.tau_rules.specs.System.{Core}
+use Rattle.tau_rules.proofs.DeliverLemmas.{arrives, arrives_late, receiver_exists, known_pair}
 use Rattle.tau_rules.proofs.system.System.deliver.Goals as goal
 
 pub returns-in-Some-open_turn-clause-err : goal.returns-in-Some-open_turn-clause-err
-returns-in-Some-open_turn-clause-err c =
-    subst (λ (k : Core). (x : ℕ) × Receives k.run c.args.message x × IsOpenTurn k.run x (len k.run) (Some c.in-Some-open_turn.turn)) c.self.view_is
-    (c.in-Some-target.who, c.in-Some-target.ensures.target, c.in-Some-open_turn.ensures)
-
-pub index-requires : goal.index-requires
-index-requires c =
+returns-in-Some-open_turn-clause-err g c =
     let T : Run = c.self.inside.trace.run in
     let there : c.args.message < sent T (len T) = subst (λ (k : Core). c.args.message < sent k.run (len k.run)) (sym c.self.view_is) c.requires.exists in
-    omega (arith, receiver_exists T c.self.invariant.well_formed c.args.message c.in-Some-target.who there c.in-Some-target.ensures.target, c.self.invariant.records_are.count, c.self.inside.records.ok)
-
-pub begin-requires : goal.begin-requires
-begin-requires c =
-    let T : Run = c.self.inside.trace.run in
-    let there : c.args.message < sent T (len T) = subst (λ (k : Core). c.args.message < sent k.run (len k.run)) (sym c.self.view_is) c.requires.exists in
-    let lt : c.in-Some-target.who < length c.self.inside.records.items = omega (arith, receiver_exists T c.self.invariant.well_formed c.args.message c.in-Some-target.who there c.in-Some-target.ensures.target, c.self.invariant.records_are.count) in
-    let stands = index_get c.self.inside.records.items c.in-Some-target.who c.index.result.now lt c.index.ensures in
-    behaviour_exists c.self.inside.program.now T c.self.invariant.sound c.self.invariant.well_formed c.self.invariant.fitting.opening c.in-Some-target.who c.index.result.now.behaviour (c.self.invariant.records_are.each c.in-Some-target.who c.index.result.now stands).behaviour
-
-pub append-requires-clause-exists : goal.append-requires-clause-exists
-append-requires-clause-exists c =
-    let T : Run = c.self.inside.trace.run in
-    let there : c.args.message < sent T (len T) = subst (λ (k : Core). c.args.message < sent k.run (len k.run)) (sym c.self.view_is) c.requires.exists in
-    subst (λ (k : Core). c.in-Some-target.who < born k.run (len k.run)) c.self.view_is (receiver_exists T c.self.invariant.well_formed c.args.message c.in-Some-target.who there c.in-Some-target.ensures.target)
+    let in_flight : InFlight T c.args.message (len T) = record { exists = there; not_removed = c.in_default.ensures } in
+    subst (λ (k : Core). (x : ℕ) × Receives k.run c.args.message x × IsOpenTurn k.run x (len k.run) (Some c.in-Some-open_turn.turn) × InFlight k.run c.args.message (len k.run)) c.self.view_is
+    (c.in-Some-target.who, c.in-Some-target.ensures.target, c.in-Some-open_turn.ensures, in_flight)
 
 pub append-requires-clause-known : goal.append-requires-clause-known
-append-requires-clause-known c =
+append-requires-clause-known g c =
     let T : Run = c.self.inside.trace.run in
     let there : c.args.message < sent T (len T) = subst (λ (k : Core). c.args.message < sent k.run (len k.run)) (sym c.self.view_is) c.requires.exists in
     let few : len T < 1000000 = subst (λ (k : Core). len k.run < 1000000) (sym c.self.view_is) c.requires.few in
-    subst (λ (k : Core). MayFollow k.run (Take c.in-Some-target.who c.args.message)) c.self.view_is
-    (record { known = (receiver_exists T c.self.invariant.well_formed c.args.message c.in-Some-target.who there c.in-Some-target.ensures.target, there); few_steps = few })
+    subst (λ (k : Core). MayFollow k.run (Void c.in-Some-target.who c.args.message)) c.self.view_is
+    (record { known = known_pair T c.self.invariant.0.well_formed c.args.message c.in-Some-target.who there c.in-Some-target.ensures.target; few_steps = few })
 
 pub append-requires-clause-fits : goal.append-requires-clause-fits
-append-requires-clause-fits c =
+append-requires-clause-fits g c =
     let T : Run = c.self.inside.trace.run in
     let there : c.args.message < sent T (len T) = subst (λ (k : Core). c.args.message < sent k.run (len k.run)) (sym c.self.view_is) c.requires.exists in
-    subst (λ (k : Core). Arrives k.run c.in-Some-target.who c.args.message (len k.run) × Verdict k.run c.in-Some-target.who (len k.run) c.args.message takes) c.self.view_is
-    (arrives T c.self.invariant.plain c.in-Some-target.who c.args.message there c.in_default.ensures c.in-Some-target.ensures.target c.in_default-open_turn.ensures, is_taken T c.self.invariant.plain c.in-Some-target.who (len T) c.args.message)
+    subst (λ (k : Core). ArrivesLate k.run c.in-Some-target.who c.args.message (len k.run)) c.self.view_is
+    (arrives_late T c.in-Some-target.who c.args.message c.end_of.result there c.in_default.ensures c.in-Some-target.ensures.target c.if-is_some.ensures c.end_of.ensures)
 
-pub append-requires-clause-change : goal.append-requires-clause-change
-append-requires-clause-change c =
-    let T : Run = c.self.inside.trace.run in
-    let P : Program = c.self.inside.program.now in
-    let there : c.args.message < sent T (len T) = subst (λ (k : Core). c.args.message < sent k.run (len k.run)) (sym c.self.view_is) c.requires.exists in
-    let lt : c.args.message < length c.self.inside.values.items = omega (arith, there, c.self.invariant.values_are.count) in
-    let stands = index_get c.self.inside.values.items c.args.message c.index-value.result.now lt c.index-value.ensures in
-    let has : HasValue P T c.args.message (val_of c.index-value.result.now) = c.self.invariant.values_are.each c.args.message c.index-value.result.now stands in
-    let value : HasValue P T c.args.message (val_of c.in_ok-copy-2.field-0) = subst (λ (v : Value). HasValue P T c.args.message (val_of v)) (sym c.in_ok-copy-2.ensures) has in
-    (c.args.message, refl, c.requires.exists, subst (λ (k : Core). HasValue k.program k.run c.args.message (val_of c.in_ok-copy-2.field-0)) c.self.view_is value)
+pub verdict-requires-clause-rules : goal.verdict-requires-clause-rules
+verdict-requires-clause-rules g c = keeps_rules c.self.inside.program.now c.self.inside.trace.run c.self.invariant.0.fitting
 
-pub returns-clause-ok : goal.returns-clause-ok
-returns-clause-ok c =
+pub verdict-requires-clause-exists : goal.verdict-requires-clause-exists
+verdict-requires-clause-exists g c =
     let T : Run = c.self.inside.trace.run in
-    let P : Program = c.self.inside.program.now in
     let there : c.args.message < sent T (len T) = subst (λ (k : Core). c.args.message < sent k.run (len k.run)) (sym c.self.view_is) c.requires.exists in
-    let below : c.in-Some-target.who < length c.self.inside.records.items = omega (arith, receiver_exists T c.self.invariant.well_formed c.args.message c.in-Some-target.who there c.in-Some-target.ensures.target, c.self.invariant.records_are.count) in
-    let record_at = index_get c.self.inside.records.items c.in-Some-target.who c.index.result.now below c.index.ensures in
-    let behaviour : HasBehaviour P T c.in-Some-target.who c.index.result.now.behaviour = (c.self.invariant.records_are.each c.in-Some-target.who c.index.result.now record_at).behaviour in
-    let lt : c.args.message < length c.self.inside.values.items = omega (arith, there, c.self.invariant.values_are.count) in
-    let value_at = index_get c.self.inside.values.items c.args.message c.index-value.result.now lt c.index-value.ensures in
-    let has : HasValue P T c.args.message (val_of c.index-value.result.now) = c.self.invariant.values_are.each c.args.message c.index-value.result.now value_at in
-    let value : HasValue P T c.args.message (val_of c.in_ok-copy.field-0) = subst (λ (v : Value). HasValue P T c.args.message (val_of v)) (sym c.in_ok-copy.ensures) has in
-    let job : IsTurnOf P c.in-Some-target.who c.index.result.now.behaviour (len T) (val_of c.in_ok-copy.field-0) [] c.in_ok-job.job = subst (λ (n : ℕ). IsTurnOf P c.in-Some-target.who c.index.result.now.behaviour n (val_of c.in_ok-copy.field-0) [] c.in_ok-job.job) c.len.ensures.len c.in_ok-job.ensures in
-    let parts = subst (λ (k : Core). Receives k.run c.args.message c.in-Some-target.who × HasBehaviour k.program k.run c.in-Some-target.who c.index.result.now.behaviour × HasValue k.program k.run c.args.message (val_of c.in_ok-copy.field-0) × IsTurnOf k.program c.in-Some-target.who c.index.result.now.behaviour (len k.run) (val_of c.in_ok-copy.field-0) [] c.in_ok-job.job) c.self.view_is (c.in-Some-target.ensures.target, behaviour, value, job) in
-    record { receiver = c.in-Some-target.who; behaviour = c.index.result.now.behaviour; value = val_of c.in_ok-copy.field-0; receives = parts.0; appended = c.in_ok-append.ensures.ok; has_behaviour = parts.1; has_value = parts.2; job_is = parts.3 }
+    receiver_exists T c.self.invariant.0.well_formed c.args.message c.in-Some-target.who there c.in-Some-target.ensures.target
+
+pub begin_turn-requires-clause-arrives : goal.begin_turn-requires-clause-arrives
+begin_turn-requires-clause-arrives g c =
+    let T : Run = c.self.inside.trace.run in
+    let there : c.args.message < sent T (len T) = subst (λ (k : Core). c.args.message < sent k.run (len k.run)) (sym c.self.view_is) c.requires.exists in
+    subst (λ (k : Core). Arrives k.run c.in-Some-target.who c.args.message (len k.run)) c.self.view_is
+    (arrives T c.in-Some-target.who c.args.message c.end_of.result there c.in_default.ensures c.in-Some-target.ensures.target c.if-is_some.ensures c.end_of.ensures c.in_default-open_turn.ensures)
+
+pub append-requires-in-Drop-clause-known : goal.append-requires-in-Drop-clause-known
+append-requires-in-Drop-clause-known g c =
+    let T : Run = c.self.inside.trace.run in
+    let there : c.args.message < sent T (len T) = subst (λ (k : Core). c.args.message < sent k.run (len k.run)) (sym c.self.view_is) c.requires.exists in
+    let few : len T < 1000000 = subst (λ (k : Core). len k.run < 1000000) (sym c.self.view_is) c.requires.few in
+    subst (λ (k : Core). MayFollow k.run (Drop c.in-Some-target.who c.args.message)) c.self.view_is
+    (record { known = known_pair T c.self.invariant.0.well_formed c.args.message c.in-Some-target.who there c.in-Some-target.ensures.target; few_steps = few })
+
+pub append-requires-in-Drop-clause-fits : goal.append-requires-in-Drop-clause-fits
+append-requires-in-Drop-clause-fits g c =
+    let T : Run = c.self.inside.trace.run in
+    let who : ℕ = c.in-Some-target.who in
+    let m : ℕ = c.args.message in
+    let there : m < sent T (len T) = subst (λ (k : Core). m < sent k.run (len k.run)) (sym c.self.view_is) c.requires.exists in
+    let verdict : Verdict T who (len T) m drops = subst (λ (v : fates.Verdict). Verdict T who (len T) m (judged v)) c.in-Drop.is c.in_ok-verdict.ensures in
+    subst (λ (k : Core). Arrives k.run who m (len k.run) × Verdict k.run who (len k.run) m drops) c.self.view_is
+    (arrives T who m c.end_of.result there c.in_default.ensures c.in-Some-target.ensures.target c.if-is_some.ensures c.end_of.ensures c.in_default-open_turn.ensures, verdict)
+
+pub append-requires-in-Fall-clause-known : goal.append-requires-in-Fall-clause-known
+append-requires-in-Fall-clause-known g c =
+    let T : Run = c.self.inside.trace.run in
+    let there : c.args.message < sent T (len T) = subst (λ (k : Core). c.args.message < sent k.run (len k.run)) (sym c.self.view_is) c.requires.exists in
+    let few : len T < 1000000 = subst (λ (k : Core). len k.run < 1000000) (sym c.self.view_is) c.requires.few in
+    subst (λ (k : Core). MayFollow k.run (Fall c.in-Some-target.who c.args.message)) c.self.view_is
+    (record { known = known_pair T c.self.invariant.0.well_formed c.args.message c.in-Some-target.who there c.in-Some-target.ensures.target; few_steps = few })
+
+pub append-requires-in-Fall-clause-fits : goal.append-requires-in-Fall-clause-fits
+append-requires-in-Fall-clause-fits g c =
+    let T : Run = c.self.inside.trace.run in
+    let who : ℕ = c.in-Some-target.who in
+    let m : ℕ = c.args.message in
+    let there : m < sent T (len T) = subst (λ (k : Core). m < sent k.run (len k.run)) (sym c.self.view_is) c.requires.exists in
+    let verdict : Verdict T who (len T) m falls = subst (λ (v : fates.Verdict). Verdict T who (len T) m (judged v)) c.in-Fall.is c.in_ok-verdict.ensures in
+    subst (λ (k : Core). Arrives k.run who m (len k.run) × Verdict k.run who (len k.run) m falls) c.self.view_is
+    (arrives T who m c.end_of.result there c.in_default.ensures c.in-Some-target.ensures.target c.if-is_some.ensures c.end_of.ensures c.in_default-open_turn.ensures, verdict)

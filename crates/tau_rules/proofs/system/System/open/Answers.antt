@@ -7,18 +7,25 @@ use Rattle.tau_script.specs.Openings.{program_opening}
 use Rattle.tau_states.specs.Table.{opened_run}
 use Rattle.tau_tree.specs.declared.posts.Post.{Post}
 use Rattle.tau_tree.specs.declared.starts.Start.{Start}
+use Rattle.tau_views.specs.Kept.{AreViews, held_of, letters_of}
 use Rattle.tau_rules.specs.Records.{HasStarts, HasPosts}
 use Rattle.tau_rules.specs.System.{IsSystem}
-use Rattle.tau_rules.proofs.SystemLemmas.{opens, length-map}
+use Rattle.tau_rules.proofs.OpeningLemmas.{opens, length-map}
 use Rattle.tau_rules.proofs.system.System.open.Goals as goal
 
 pub invariant_of-result : goal.invariant_of-result
-invariant_of-result c =
+invariant_of-result g c =
     let P : Program = c.args.program.now in
     let is : c.in_ok-trace.trace.run ≡ opened_run (program_opening P) = c.in_ok-trace.ensures ∙ ap opened_run c.in_ok-opening_of.ensures.opening in
     let holds = c.in_ok-open.ensures (program_opening P) (length-map (λ s. s.name) P.starts) in
     let opening : IsSound (program_opening P) = subst (λ (o : Opening). IsSound o) c.in_ok-opening_of.ensures.opening (c.in_ok-opening_of.ensures.sound c.requires) in
     let starts : HasStarts P.starts c.in_ok-opening_records.field-0.items = subst (λ (ss : List Start). HasStarts ss c.in_ok-opening_records.field-0.items) c.items.ensures c.in_ok-opening_records.ensures in
     let posts : HasPosts P.posts c.in_ok-posted_values.field-0.items = subst (λ (qs : List Post). HasPosts qs c.in_ok-posted_values.field-0.items) c.items-2.ensures c.in_ok-posted_values.ensures in
+    let system : IsSystem P c.in_ok-trace.trace.run c.in_ok-open.field-0.records c.in_ok-opening_records.field-0.items c.in_ok-posted_values.field-0.items =
     subst (λ (T : Run). IsSystem P T c.in_ok-open.field-0.records c.in_ok-opening_records.field-0.items c.in_ok-posted_values.field-0.items) (sym is)
-    (opens P c.in_ok-open.field-0.records c.in_ok-opening_records.field-0.items c.in_ok-posted_values.field-0.items c.requires opening holds starts posts)
+    (opens P c.in_ok-open.field-0.records c.in_ok-opening_records.field-0.items c.in_ok-posted_values.field-0.items c.requires opening holds starts posts) in
+    let starting : length (program_opening P).names ≡ c.len.result = length-map (λ s. s.name) P.starts ∙ sym c.len.ensures in
+    let posted : length (program_opening P).targets ≡ c.len-2.result = length-map (λ q. q.to) P.posts ∙ sym c.len-2.ensures in
+    let views = subst (λ (T : Run). AreViews g.V.View.drops_edge g.V.View.drops_root T (held_of g.V.View.held c.in_ok-open-2.field-0.own.items) (letters_of g.V.View.held c.in_ok-open-2.field-0.letters.items)) (sym is)
+    (c.in_ok-open-2.ensures (program_opening P) opening starting posted) in
+    (system, views)

@@ -1,0 +1,4 @@
+pub mod WordLemmas
+pub mod StartLemmas
+pub mod HopLemmas
+pub mod SoundLemmas

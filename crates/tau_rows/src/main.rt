@@ -1,0 +1,89 @@
+//! Programs with what `tau` writes for them. Standard input has sections: a line `# WORDS`, and then an input. For each
+//! section the line is written, then what the command of these words writes for the input, and its status on a line `; N`.
+#![tactic(auto)]
+
+use std::alloc::{AllocError, Global};
+use std::process::ExitCode;
+use tau_cli::{Line, Words, number, tau_still};
+use tau_io::{ReadError, StdSink, StdSource, SteadySink, SteadySource, read_all, write_all_of};
+
+fn main(rt: HostRuntime) -> ExitCode {
+    let alloc = rt.alloc();
+    let mut input = StdSource::new(rt.stdin());
+    let mut output = StdSink::new(rt.stdout());
+    let Ok(bytes) = read_all(alloc, &mut input, 16_777_216) else {
+        return ExitCode::from(5);
+    };
+    let Ok(text) = text_of(alloc, &bytes) else {
+        return ExitCode::from(7);
+    };
+    match write_all_of(&mut output, &text) {
+        Ok(()) => ExitCode::from(0),
+        Err(_) => ExitCode::from(6),
+    }
+}
+
+// The text for all sections.
+fn text_of(alloc: Global, bytes: &[u8]) -> Result<Vec<u8>, AllocError> {
+    let mut text = Vec::new(alloc);
+    let mut rest = bytes;
+    for _ in 0..bytes.len() {
+        let Some((words, after)) = line_of(rest) else {
+            break;
+        };
+        let (section, next) = section_of(after);
+        add_section(alloc, &mut text, words, section)?;
+        rest = next;
+    }
+    Ok(text)
+}
+
+// The first line, without its line feed, and what follows it.
+fn line_of(bytes: &[u8]) -> Option<(&[u8], &[u8])> {
+    let end = bytes.iter().position(|byte| *byte == b'\n')?;
+    Some((&bytes[..end], &bytes[end + 1..]))
+}
+
+// What stands before the first line that begins with `#`, and from there on.
+fn section_of(bytes: &[u8]) -> (&[u8], &[u8]) {
+    let mut at_start = true;
+    for (place, byte) in bytes.iter().enumerate() {
+        if at_start && *byte == b'#' {
+            return (&bytes[..place], &bytes[place..]);
+        }
+        at_start = *byte == b'\n';
+    }
+    (bytes, &bytes[bytes.len()..])
+}
+
+// Adds the line of a section, what its words write for its input, and the status.
+fn add_section(
+    alloc: Global,
+    text: &mut Vec<u8>,
+    line: &[u8],
+    section: &[u8],
+) -> Result<(), AllocError> {
+    let words = words_of(alloc, line)?;
+    let mut input = SteadySource::new(Vec::from_slice(alloc, section)?);
+    let mut output = SteadySink::new(alloc);
+    let status = tau_still(alloc, &words, &mut input, &mut output);
+    text.extend_from_slice(line)?;
+    text.push(b'\n')?;
+    text.extend_from_slice(output.bytes())?;
+    text.extend_from_slice(b"; ")?;
+    text.push(b'0' + number(&status) % 10)?;
+    text.push(b'\n')?;
+    Ok(())
+}
+
+// The words of a line, without the `#` before them.
+fn words_of(alloc: Global, line: &[u8]) -> Result<Words, AllocError> {
+    let mut words = Words::new(alloc);
+    let text = str::from_utf8(line).unwrap_or("");
+    for word in text.split_whitespace().skip(1) {
+        if let Err((_line, error)) = words.push(Line::of(alloc, word)?) {
+            return Err(error);
+        }
+    }
+    Ok(words)
+}

@@ -1,0 +1,18 @@
+use Rattle.std.proofs.Common.{subst}
+use Rattle.tau_trace.specs.Run.{len}
+use Rattle.tau_trace.specs.Known.{IsKnownAt}
+use Rattle.tau_choice.specs.declared.choices.Choice.{Choice}
+use Rattle.tau_rules.specs.Acting.{step_of}
+use Rattle.tau_rules.proofs.system.System.make_step.Goals as goal
+
+pub append-requires-clause-known : goal.append-requires-clause-known
+append-requires-clause-known g c = record {
+  known = subst (λ (x : Choice). IsKnownAt c.args.self.now.run (len c.args.self.now.run) (step_of x)) c.in-GoesOn.is c.in_ok-step.ensures.known;
+  few_steps = c.requires.few;
+}
+
+pub append-requires-in-Ends-clause-known : goal.append-requires-in-Ends-clause-known
+append-requires-in-Ends-clause-known g c = record {
+  known = subst (λ (x : Choice). IsKnownAt c.args.self.now.run (len c.args.self.now.run) (step_of x)) c.in-Ends.is c.in_ok-step.ensures.known;
+  few_steps = c.requires.few;
+}

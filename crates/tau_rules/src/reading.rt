@@ -1,0 +1,56 @@
+//! What is read of a system.
+ghost use Rattle.std.specs.Prelude.{◌≡◌, ◌↔◌, ◌<◌, IsSome, IfSome};
+ghost use Rattle.tau_trace.specs.Run.{len};
+ghost use Rattle.tau_trace.specs.Numbering.{born, InFlight};
+ghost use Rattle.tau_trace.specs.Histories.{history};
+ghost use Rattle.tau_heard.specs.Views.{IsViewOf, IsMessageView};
+ghost use Rattle.tau_views.specs.Kept.{IsTrimmed};
+ghost use Rattle.tau_rules.specs.Answers.{IsStanding};
+
+use crate::{Standing, System};
+use tau_history::History;
+use tau_view::View;
+
+impl<'p, V: View + Drop> System<'p, V> {
+    /// What a transactor is doing; `None` exactly where it doesn't exist (docs/rules.md, "Steps").
+    pub fn standing(&self, who: u32) -> Option<Standing>
+        ensures { IsStanding self.now.run who result }
+    {
+        if who >= self.trace.born() {
+            return None;
+        }
+        if let Some(place) = self.trace.end_of(who) {
+            return Some(Standing::Ended { place });
+        }
+        match self.trace.open_turn(who) {
+            Some(turn) => Some(Standing::Busy { turn }),
+            None => Some(Standing::Idle),
+        }
+    }
+
+    /// The view of a transactor: what it has heard, without what this type of view drops; `None` exactly where it doesn't
+    /// exist (docs/definitions.md, "View of what was heard").
+    pub fn view_of(&self, who: u32) -> Option<&V>
+        ensures exists { IsSome result ↔ (who < born self.now.run (len self.now.run)) }
+        ensures view { IfSome result (λ v. IsTrimmed V.drops_edge V.drops_root (IsViewOf self.now.run who (len self.now.run)) (V.held v.now)) }
+    {
+        self.views.view_of(who)
+    }
+
+    /// The view of a message: what it has heard, without what this type of view drops; `None` exactly where it isn't in
+    /// flight (docs/definitions.md, "View of what was heard").
+    pub fn message_view(&self, message: u32) -> Option<&V>
+        ensures in_flight { IsSome result ↔ InFlight self.now.run message (len self.now.run) }
+        ensures view { IfSome result (λ v. IsTrimmed V.drops_edge V.drops_root (IsMessageView self.now.run message) (V.held v.now)) }
+    {
+        self.views.message_view(message)
+    }
+
+    /// The history of a transactor; `None` exactly where it doesn't exist (docs/rules.md, "Histories").
+    pub fn history_of(&self, who: u32) -> Option<&History>
+        ensures exists { IsSome result ↔ (who < born self.now.run (len self.now.run)) }
+        ensures history { IfSome result (λ h. h.now.history ≡ history self.now.run who (len self.now.run)) }
+    {
+        self.views.view_of(who)?.history_of(who)
+    }
+}

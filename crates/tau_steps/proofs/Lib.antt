@@ -1,0 +1,6 @@
+pub mod TellsLemmas
+pub mod RowLemmas
+pub mod KindLemmas
+pub mod StepLemmas
+pub mod LoopLemmas
+pub mod LawLemmas

@@ -1,0 +1,213 @@
+-- Forms read one by one: the steps so far, and the first fault.
+use Rattle.std.proofs.Common.{◌≡◌, ◌≢◌, ◌⊎◌, inl, inr, ⊎_elim, ℕ, zero, suc, ◌+◌, ◌<◌, ◌≤◌, Bool, true, false, ◌-◌, take, drop, List, [], ◌∷◌, length, map, get_or, Option, Some, None, Result, Ok, Err, IfOk, IfErr, refl, sym, ap, ◌∙◌, subst, arith, codes}
+use Rattle.std.specs.Prelude.{slice_get, slice_range}
+use Rattle.std.proofs.lemmas.List.{take-map, drop-map}
+use Rattle.std.specs.Option.{option_map_or}
+use Rattle.std.specs.Str.{bytes_eq}
+use Rattle.std.proofs.lemmas.Option.{slice_get_within}
+use Rattle.tau_sexpr.specs.Form.{tree_of}
+use Rattle.tau_sexpr.specs.declared.trees.Form.{Form}
+use Rattle.tau_sexpr.specs.Tree.{Tree, Trees, word, text, list, none, more}
+use Rattle.tau_value.specs.Meaning.{Fault, shape, unknown}
+use Rattle.tau_trace.specs.declared.opening.Opening.{Opening}
+use Rattle.tau_trace.specs.declared.step.Step.{Step}
+use Rattle.tau_trace.specs.declared.step.Step.TheVariants.{Take, Drop, Fall, Void, Get, Set, Skip, Send, New, Stabilize, Ask, Checkpoint, Hold, Rollback, Stay, Done, Trap, Fail, Lose}
+use Rattle.tau_trace.specs.Steps.{is_new, is_send}
+use Rattle.tau_trace.specs.Run.{Run, Agree, len, step_at, appended}
+use Rattle.tau_trace.specs.Numbering.{born, sent}
+use Rattle.tau_trace.specs.StepForms.{kind_word}
+use Rattle.tau_trace.proofs.Lists.{same_some, slice_get-push_cases}
+use Rattle.tau_trace.proofs.Counts.{count-same}
+use Rattle.tau_trace.proofs.Agreement.{agree_appended, agree_below, born-same, sent-same}
+use Rattle.tau_trace.proofs.Indexing.{len-appended}
+use Rattle.tau_steps.specs.declared.errors.StepError.{StepError}
+use Rattle.tau_steps.specs.declared.errors.StepError.TheVariants as errors
+use Rattle.tau_steps.specs.Meaning.{MeansStep, MeansSteps}
+use Rattle.tau_steps.specs.Faults.{FormFault, begins_with, transactors_before, messages_before, StepFault, in_form, too_many, IsFirst, IsFault}
+use Rattle.tau_steps.specs.Reading.{GoesOn, NextFault, AddsStep}
+use Rattle.tau_steps.proofs.StepLemmas.{clean_step}
+
+-- an element below the length
+pub element : {A : Type 0} (xs : List A) (i : ℕ) → i < length xs → (x : A) × (slice_get xs i ≡ Some x)
+element [] i l = absurd (omega arith)
+element (x ∷ xs) zero l = (x, refl)
+element (x ∷ xs) (suc i) l = element xs i (omega arith)
+
+-- the form of an item
+pub item_at : (fs : List Form) (k : ℕ) (f : Form) → k < length fs → f ≡ get_or fs k f → slice_get (map tree_of fs) k ≡ Some (tree_of f)
+item_at [] k f l e = absurd (omega arith)
+item_at (x ∷ xs) zero f l e = ap (λ y. Some (tree_of y)) (sym e)
+item_at (x ∷ xs) (suc k) f l e = item_at xs k f (omega arith) e
+
+-- the first forms mean the steps of a run
+pub record IsReadTo (o : Opening) (fs : List Tree) (n : ℕ) (T : Run) : Type 0 where
+  pub opening : T.opening ≡ o
+  pub count : len T ≡ n
+  pub few : n ≤ 1000000
+  pub each : (k : ℕ) (f : Tree) (s : Step) → slice_get fs k ≡ Some f → step_at T k ≡ Some s → MeansStep o (born T k) (sent T k) f s
+
+pub read_whole : (o : Opening) (fs : List Tree) (n : ℕ) (T : Run) → n ≡ length fs → IsReadTo o fs n T → MeansSteps o fs T
+read_whole o fs n T e r = record { opening = r.opening; count = r.count ∙ e; few = omega (arith, r.few, e); each = r.each }
+
+pub whole_read : (o : Opening) (fs : List Tree) (T : Run) → MeansSteps o fs T → IsReadTo o fs (length fs) T
+whole_read o fs T m = record { opening = m.opening; count = m.count; few = m.few; each = m.each }
+
+pub nothing_read : (o : Opening) (fs : List Tree) (T : Run) → T ≡ record { opening = o; steps = [] } → IsReadTo o fs 0 T
+nothing_read o fs T e =
+    let P : Run → Type 0 = λ U. IsReadTo o fs 0 U in
+    subst P (sym e) (record { opening = refl; count = refl; few = omega arith; each = λ k f s h g. absurd (let x : None ≡ Some s = g in cc) })
+
+-- the words of the kinds tell which steps make a transactor and which a message
+new_word : (s : Step) → bytes_eq (kind_word s) (codes "new") ≡ is_new s
+new_word (Take t m) = refl
+new_word s = refl
+
+send_word : (s : Step) → bytes_eq (kind_word s) (codes "send") ≡ is_send s
+send_word (Take t m) = refl
+send_word s = refl
+
+begins : (o : Opening) (b m : ℕ) (w : List ℕ) (f : Tree) (s : Step) → MeansStep o b m f s → begins_with w f ≡ bytes_eq (kind_word s) w
+begins o b m w (list (more (word h) fs)) s means = ap (λ x. bytes_eq x w) means.0
+begins o b m w (list (more (text x) fs)) s means = absurd means
+begins o b m w (list (more (list gs) fs)) s means = absurd means
+begins o b m w (list none) s means = absurd means
+begins o b m w (text x) s means = absurd means
+begins o b m w (word x) s means = absurd means
+
+module _ (o : Opening) (fs : List Tree) (n : ℕ) (T : Run) (within : n ≤ length fs) (r : IsReadTo o fs n T) where
+  -- the forms before a place tell how many transactors and messages exist there
+  new_at : (j : ℕ) → j < n → option_map_or is_new (step_at T j) false ≡ option_map_or (begins_with (codes "new")) (slice_get fs j) false
+  new_at j l =
+      let f = element fs j (omega arith) in
+      let s = element T.steps j (omega (arith, r.count)) in
+      let means = r.each j f.0 s.0 f.1 s.1 in
+      ap (λ x. option_map_or is_new x false) s.1 ∙ sym (begins o (born T j) (sent T j) (codes "new") f.0 s.0 means ∙ new_word s.0) ∙ sym (ap (λ x. option_map_or (begins_with (codes "new")) x false) f.1)
+
+  send_at : (j : ℕ) → j < n → option_map_or is_send (step_at T j) false ≡ option_map_or (begins_with (codes "send")) (slice_get fs j) false
+  send_at j l =
+      let f = element fs j (omega arith) in
+      let s = element T.steps j (omega (arith, r.count)) in
+      let means = r.each j f.0 s.0 f.1 s.1 in
+      ap (λ x. option_map_or is_send x false) s.1 ∙ sym (begins o (born T j) (sent T j) (codes "send") f.0 s.0 means ∙ send_word s.0) ∙ sym (ap (λ x. option_map_or (begins_with (codes "send")) x false) f.1)
+
+  pub born_told : (k : ℕ) → k ≤ n → born T k ≡ transactors_before o fs k
+  born_told k l = omega (arith, ap (λ p. length p.names) r.opening, count-same (λ j. option_map_or is_new (step_at T j) false) (λ j. option_map_or (begins_with (codes "new")) (slice_get fs j) false) k (λ j h. new_at j (omega arith)))
+
+  pub sent_told : (k : ℕ) → k ≤ n → sent T k ≡ messages_before o fs k
+  sent_told k l = omega (arith, ap (λ p. length p.targets) r.opening, count-same (λ j. option_map_or is_send (step_at T j) false) (λ j. option_map_or (begins_with (codes "send")) (slice_get fs j) false) k (λ j h. send_at j (omega arith)))
+
+  -- no step so far is faulty
+  pub clean_below : (k : ℕ) (e : Fault) → StepFault o fs k e → n ≤ k
+  clean_below k e (in_form {f = f} stands fault) = ⊎_elim (λ l. absurd (below l)) (λ g. g) (cases k n)
+    where
+      cases : (i j : ℕ) → (i < j) ⊎ (j ≤ i)
+      cases i j = grind arith
+
+      below : k < n → ⊥
+      below l =
+          let s = element T.steps k (omega (arith, r.count)) in
+          let P : ℕ → Type 0 = λ b. FormFault o b (messages_before o fs k) f e in
+          let Q : ℕ → Type 0 = λ m. FormFault o (born T k) m f e in
+          clean_step o (born T k) (sent T k) f s.0 e (r.each k f s.0 stands s.1) (subst Q (sym (sent_told k (omega arith))) (subst P (sym (born_told k (omega arith))) fault))
+  clean_below k e (too_many is l z) = omega (arith, r.few)
+
+  -- the form behind the steps so far
+  module _ (f : Tree) (stands : slice_get fs n ≡ Some f) where
+    here : (e : Fault) → NextFault T f e → FormFault o (transactors_before o fs n) (messages_before o fs n) f e
+    here e fault =
+        let O : Opening → Type 0 = λ p. FormFault p (born T (len T)) (sent T (len T)) f e in
+        let P : ℕ → Type 0 = λ b. FormFault o b (sent T (len T)) f e in
+        let Q : ℕ → Type 0 = λ m. FormFault o (transactors_before o fs n) m f e in
+        subst Q (ap (sent T) r.count ∙ sent_told n (omega arith)) (subst P (ap (born T) r.count ∙ born_told n (omega arith)) (subst O r.opening fault))
+
+    back : (e : Fault) → FormFault o (transactors_before o fs n) (messages_before o fs n) f e → NextFault T f e
+    back e fault =
+        let O : Opening → Type 0 = λ p. FormFault p (born T (len T)) (sent T (len T)) f e in
+        let P : ℕ → Type 0 = λ b. FormFault o b (sent T (len T)) f e in
+        let Q : ℕ → Type 0 = λ m. FormFault o (transactors_before o fs n) m f e in
+        subst O (sym r.opening) (subst P (sym (ap (born T) r.count ∙ born_told n (omega arith))) (subst Q (sym (ap (sent T) r.count ∙ sent_told n (omega arith))) fault))
+
+    first_shape : (k : ℕ) → k ≡ len T → NextFault T f shape ⊎ (1000000 ≤ len T) → IsFirst o fs k shape
+    first_shape k e h =
+        let at : k ≡ n = e ∙ r.count in
+        let l = slice_get_within fs n f stands in
+        let P : ℕ → Type 0 = λ j. IsFirst o fs j shape in
+        subst P (sym at) (record {
+          fault = ⊎_elim (λ x. in_form stands (here shape x)) (λ g. too_many (omega (arith, g, r.count, r.few)) l refl) h;
+          least = λ j g fault. clean_below j g fault;
+          shape_first = λ _. refl;
+        })
+
+    not_shape : (¬ NextFault T f shape) → len T < 1000000 → StepFault o fs n shape → unknown ≡ shape
+    not_shape free l (in_form {f = g} at fault) =
+        let same : g ≡ f = same_some (sym at ∙ stands) in
+        let P : Tree → Type 0 = λ x. FormFault o (transactors_before o fs n) (messages_before o fs n) x shape in
+        absurd (free (back shape (subst P same fault)))
+    not_shape free l (too_many is b z) = absurd (omega (arith, r.count))
+
+    first_unknown : (k : ℕ) → k ≡ len T → NextFault T f unknown → (¬ NextFault T f shape) → len T < 1000000 → IsFirst o fs k unknown
+    first_unknown k e h free l =
+        let at : k ≡ n = e ∙ r.count in
+        let P : ℕ → Type 0 = λ j. IsFirst o fs j unknown in
+        subst P (sym at) (record {
+          fault = in_form stands (here unknown h);
+          least = λ j g fault. clean_below j g fault;
+          shape_first = not_shape free l;
+        })
+
+    pub fault_told : (U : Run) (e : StepError) → AddsStep {X = Unit {0}} T f U (Err e) → IsFault o fs e
+    fault_told U (errors.Shape k) h = first_shape k h.0 h.1
+    fault_told U (errors.Unknown k) h = first_unknown k h.0 h.1 h.2 h.3
+    fault_told U errors.NoMemory h = tt
+
+    -- one more step
+    pub one_more : (U : Run) → GoesOn T f U → IsReadTo o fs (n + 1) U
+    one_more U g =
+        let P : Run → Type 0 = λ V. IsReadTo o fs (n + 1) V in
+        subst P (sym g.appends) (record {
+          opening = r.opening;
+          count = omega (arith, len-appended T g.step, r.count);
+          few = omega (arith, r.count, g.few);
+          each = each;
+        })
+      where
+        V : Run
+        V = appended T g.step
+
+        each : (k : ℕ) (x : Tree) (s : Step) → slice_get fs k ≡ Some x → step_at (appended T g.step) k ≡ Some s → MeansStep o (born (appended T g.step) k) (sent (appended T g.step) k) x s
+        each k x s at is = ⊎_elim old new (slice_get-push_cases T.steps g.step s k is)
+          where
+            carry : (y : Step) → k ≤ len T → MeansStep o (born T k) (sent T k) x y → MeansStep o (born (appended T g.step) k) (sent (appended T g.step) k) x y
+            carry y l means =
+                let agree = agree_below k l (agree_appended T g.step) in
+                let B : ℕ → Type 0 = λ b. MeansStep o b (sent T k) x y in
+                let M : ℕ → Type 0 = λ m. MeansStep o (born (appended T g.step) k) m x y in
+                subst M (sent-same k agree) (subst B (born-same k agree) means)
+
+            old : step_at T k ≡ Some s → MeansStep o (born (appended T g.step) k) (sent (appended T g.step) k) x s
+            old e = carry s (omega (arith, slice_get_within T.steps k s e)) (r.each k x s at e)
+
+            new : (k ≡ len T) × (g.step ≡ s) → MeansStep o (born (appended T g.step) k) (sent (appended T g.step) k) x s
+            new p =
+                let same : f ≡ x = same_some (sym stands ∙ ap (slice_get fs) (sym r.count ∙ sym p.0) ∙ at) in
+                let O : Opening → Type 0 = λ q. MeansStep q (born T (len T)) (sent T (len T)) f g.step in
+                let K : ℕ → Type 0 = λ j. MeansStep o (born T j) (sent T j) f g.step in
+                let X : Tree → Type 0 = λ y. MeansStep o (born T k) (sent T k) y g.step in
+                let S : Step → Type 0 = λ y. MeansStep o (born T k) (sent T k) x y in
+                carry s (omega (arith, p.0)) (subst S p.1 (subst X same (subst K (sym p.0) (subst O r.opening g.means))))
+
+-- forms that mean steps have no fault
+pub no_fault : (o : Opening) (fs : List Tree) (T : Run) (k : ℕ) (e : Fault) → MeansSteps o fs T → ¬ StepFault o fs k e
+no_fault o fs T k e m (in_form {f = f} stands fault) =
+    omega (arith, clean_below o fs (length fs) T (omega arith) (whole_read o fs T m) k e (in_form stands fault), slice_get_within fs k f stands)
+no_fault o fs T k e m (too_many is l z) = omega (arith, m.few)
+
+pub none_told : {X : Type 0} (o : Opening) (fs : List Tree) (T : Run) (answer : Result X StepError) → MeansSteps o fs T → IfErr answer (IsFault o fs) → IfErr answer (λ e. e ≡ errors.NoMemory)
+none_told o fs T (Ok x) m h = h
+none_told o fs T (Err (errors.Shape k)) m h = absurd (no_fault o fs T k shape m h.fault)
+none_told o fs T (Err (errors.Unknown k)) m h = absurd (no_fault o fs T k unknown m h.fault)
+none_told o fs T (Err errors.NoMemory) m h = refl
+
+-- the forms of a range
+pub range_told : (xs : List Form) (fs : List Tree) (i j : ℕ) → map tree_of xs ≡ fs → map tree_of (slice_range xs i j) ≡ slice_range fs i j
+range_told xs fs i j e = sym (take-map tree_of (j - i) (drop i xs)) ∙ ap (take (j - i)) (sym (drop-map tree_of i xs) ∙ ap (drop i) e)

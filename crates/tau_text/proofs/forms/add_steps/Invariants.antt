@@ -1,0 +1,5 @@
+use Rattle.tau_text.specs.Written.{AddsSteps}
+use Rattle.tau_text.proofs.forms.add_steps.Given as goal
+
+abbrev pub invariant-loop-place : goal.invariant-loop-place
+invariant-loop-place l = AddsSteps l.trace.run l.place l.initial.forms l.forms

@@ -1,0 +1,87 @@
+-- Steps that hear of a message.
+use Rattle.std.proofs.Common.{◌≡◌, ℕ, suc, ◌+◌, ◌<◌, IsTrue, Bool, true, false, Option, Some, None, refl, sym, ap, ◌∙◌, subst, arith}
+use Rattle.std.specs.Prelude.{slice_get, option_and_then}
+use Rattle.tau_history.specs.Timeline.{Timeline, moved, fall, keep}
+use Rattle.tau_view.specs.Held.{Held, AllComparable}
+use Rattle.tau_view.specs.Rules.{noted, merged, with_roots, with_no_roots}
+use Rattle.tau_view.specs.Trim.{EdgeTest, RootTest, trim}
+use Rattle.tau_view.specs.Laws.{MayNote}
+use Rattle.tau_trace.specs.declared.step.Step.{Step}
+use Rattle.tau_trace.specs.declared.step.Step.TheVariants.{Take, Drop, Fall}
+use Rattle.tau_trace.specs.Steps.{actor, removed_by, is_new, is_send}
+use Rattle.tau_trace.specs.Run.{Run, len, appended}
+use Rattle.tau_trace.specs.Numbering.{born, sent, InFlight}
+use Rattle.tau_trace.specs.Histories.{history, move_at}
+use Rattle.tau_trace.specs.Known.{MayFollow, WellFormed}
+use Rattle.tau_trace.proofs.Agreement.{agree_appended, history-same}
+use Rattle.tau_trace.proofs.Counted.{history-suc, move_at-own}
+use Rattle.tau_past.specs.Heard.{heard_by}
+use Rattle.tau_heard.specs.Views.{IsViewOf, IsMessageView}
+use Rattle.tau_views.specs.declared.views.Views.{Views}
+use Rattle.tau_views.specs.declared.views.ViewChange.{ViewChange}
+use Rattle.tau_views.specs.Kept.{AreViews, held_of, letters_of}
+use Rattle.tau_views.specs.Trims.{IsAfter, IsAfterBoth}
+use Rattle.tau_views.specs.Next.{IsNext, AreNext}
+use Rattle.tau_heard.proofs.HeardLaws.{views_have_the_own_history}
+use Rattle.tau_views.proofs.Trimmed.{same_history}
+use Rattle.tau_views.proofs.Appended.{here, born_then, well_formed_then, message_stays, after_step}
+use Rattle.tau_views.proofs.Next.{own_change, actor_exists, may_move, history_then, next_own}
+
+-- with a message's facts the view has still its own history: it has it after a Drop, which could follow
+merged_history : (T : Run) (t m : ℕ) (x y : Held) → WellFormed T → len T < 1000000 → t < born T (len T) → m < sent T (len T) → IsViewOf T t (len T) x → IsMessageView T m y → (merged x y).history t ≡ Some (history T t (len T))
+merged_history T t m x y w few exists sent_before own message =
+    let s : Step = Drop t m in
+    let may : MayFollow T (Drop t m) = record { known = (exists, sent_before); few_steps = few } in
+    let then = well_formed_then T (Drop t m) w may in
+    let after = (after_step T (Drop t m) w may t x exists own).drop m y (here T (Drop t m)) (message_stays T (Drop t m) w may m y sent_before message) in
+    let same : history (appended T (Drop t m)) t (suc (len T)) ≡ history T t (len T) =
+    history-suc (appended T (Drop t m)) t (len T)
+    ∙ ap (λ a. moved a (history (appended T (Drop t m)) t (len T))) (move_at-own (appended T (Drop t m)) t (len T) (Drop t m) (here T (Drop t m)) refl)
+    ∙ sym (history-same t (len T) (agree_appended T (Drop t m))) in
+    views_have_the_own_history (appended T (Drop t m)) t (suc (len T)) (merged x y) then (omega (arith, exists, born_then T (Drop t m))) after ∙ ap Some same
+
+module _ (de : EdgeTest) (dr : RootTest) {V : Type 0} (held : V → Held) (v : Views V) (T : Run) (s : Step) (next : IsNext de dr held v T s) (t m : ℕ) (h l : Held)
+    (e : slice_get (held_of held v.own.items) t ≡ Some h) (f : slice_get (letters_of held v.letters.items) m ≡ Some (Some l)) where
+  pub heard_exists : heard_by s ≡ Some m → m < sent T (len T)
+  heard_exists hears = (next.ready.hearing m hears).exists
+
+  module _ (a : V) (c : ViewChange V) where
+    -- a Take
+    pub by_take : s ≡ Take t m → c ≡ own_change t a (Some m) → IsAfterBoth de dr (λ x y. with_roots y.root (merged x y)) h l (held a) → AreNext de dr held v T s c
+    by_take kind is after =
+        let x = next.views.each t h e in
+        let y = next.views.letter m l f in
+        let step = after_step T s next.well_formed next.follows t x.whole (actor_exists de dr held v T s next t (ap actor kind)) x.is_whole in
+        let message = message_stays T s next.well_formed next.follows m y.whole (heard_exists (ap heard_by kind)) y.is_whole in
+        next_own de dr held v T s next t a (Some m) (with_roots y.whole.root (merged x.whole y.whole)) c is (ap actor kind) (ap is_new kind) (ap is_send kind) (sym (ap removed_by kind)) (after x.whole y.whole x.is y.is)
+        (step.take m y.whole (here T s ∙ ap Some kind) message)
+
+    -- a Drop
+    pub by_drop : s ≡ Drop t m → c ≡ own_change t a (Some m) → IsAfterBoth de dr merged h l (held a) → AreNext de dr held v T s c
+    by_drop kind is after =
+        let x = next.views.each t h e in
+        let y = next.views.letter m l f in
+        let step = after_step T s next.well_formed next.follows t x.whole (actor_exists de dr held v T s next t (ap actor kind)) x.is_whole in
+        let message = message_stays T s next.well_formed next.follows m y.whole (heard_exists (ap heard_by kind)) y.is_whole in
+        next_own de dr held v T s next t a (Some m) (merged x.whole y.whole) c is (ap actor kind) (ap is_new kind) (ap is_send kind) (sym (ap removed_by kind)) (after x.whole y.whole x.is y.is)
+        (step.drop m y.whole (here T s ∙ ap Some kind) message)
+
+  -- a Fall, through the view with the message's facts
+  module _ (mid : Held) (both : IsAfterBoth de dr merged h l mid) (k : Timeline) (moves : k ≡ moved fall (history T t (len T))) (kind : s ≡ Fall t m) where
+    pub may_note_fall : MayNote t k mid.history
+    may_note_fall =
+        let x = next.views.each t h e in
+        let y = next.views.letter m l f in
+        let own = merged_history T t m x.whole y.whole next.well_formed next.follows.few_steps (actor_exists de dr held v T s next t (ap actor kind)) (heard_exists (ap heard_by kind)) x.is_whole y.is_whole in
+        may_move de dr held v T s next fall t k mid tt moves (same_history de dr mid (merged x.whole y.whole) t (both x.whole y.whole x.is y.is) ∙ own)
+
+    pub by_fall : (a : V) (c : ViewChange V) → c ≡ own_change t a None → IsAfter de dr (λ x. with_no_roots (noted t k x)) mid (held a) → AreNext de dr held v T s c
+    by_fall a c is after =
+        let x = next.views.each t h e in
+        let y = next.views.letter m l f in
+        let step = after_step T s next.well_formed next.follows t x.whole (actor_exists de dr held v T s next t (ap actor kind)) x.is_whole in
+        let message = message_stays T s next.well_formed next.follows m y.whole (heard_exists (ap heard_by kind)) y.is_whole in
+        let moves_then : k ≡ moved fall (history (appended T s) t (len T)) = moves ∙ ap (moved fall) (sym (history_then de dr held v T s next t)) in
+        let Q : Timeline → Type 0 = λ j. IsViewOf (appended T s) t (suc (len T)) (with_no_roots (noted t j (merged x.whole y.whole))) in
+        next_own de dr held v T s next t a None (with_no_roots (noted t k (merged x.whole y.whole))) c is (ap actor kind) (ap is_new kind) (ap is_send kind) (sym (ap removed_by kind)) (after (merged x.whole y.whole) (both x.whole y.whole x.is y.is))
+        (subst Q (sym moves_then) (step.fall_by m y.whole (here T s ∙ ap Some kind) message))

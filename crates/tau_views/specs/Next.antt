@@ -1,0 +1,42 @@
+-- A step that follows a run, and the views then.
+use Rattle.std.specs.Prelude.{◌≡◌, ℕ, Bool, true, false, Some}
+use Rattle.tau_view.specs.Held.{Held}
+use Rattle.tau_view.specs.Trim.{EdgeTest, RootTest}
+use Rattle.tau_trace.specs.declared.step.Step.{Step}
+use Rattle.tau_trace.specs.declared.step.Step.TheVariants.{Void, Hold, Stay, Done, Trap, Fail, Lose}
+use Rattle.tau_trace.specs.Run.{Run, appended}
+use Rattle.tau_trace.specs.Known.{MayFollow, WellFormed}
+use Rattle.tau_views.specs.declared.views.Views.{Views}
+use Rattle.tau_views.specs.declared.views.ViewChange.{ViewChange}
+use Rattle.tau_views.specs.Kept.{AreViews, IsReady, held_of, letters_of}
+use Rattle.tau_views.specs.Changes.{own_after, letters_after}
+
+-- the views are those of the run, and the step may follow it
+pub record IsNext (de : EdgeTest) (dr : RootTest) {V : Type 0} (held : V → Held) (v : Views V) (T : Run) (s : Step) : Type 0 where
+  pub views : AreViews de dr T (held_of held v.own.items) (letters_of held v.letters.items)
+  pub well_formed : WellFormed T
+  pub follows : MayFollow T s
+  pub ready : IsReady T s
+
+-- after the change the views are those of the run and the step
+abbrev pub AreNext : EdgeTest → RootTest → {V : Type 0} → (V → Held) → Views V → Run → Step → ViewChange V → Type 0
+AreNext de dr held v T s c = AreViews de dr (appended T s) (held_of held (own_after c v.own.items)) (letters_of held (letters_after c v.letters.items))
+
+-- the kinds that end a turn and do nothing else
+abbrev pub only_ends : Step → Bool
+only_ends (Hold t) = true
+only_ends (Stay t) = true
+only_ends (Done t) = true
+only_ends s = false
+
+-- the kinds that make a volatile transactor fall, and end the turn of a stable one
+abbrev pub is_failure : Step → Bool
+is_failure (Trap t c) = true
+is_failure (Fail t) = true
+is_failure s = false
+
+-- the kinds that take a message out of flight of which nobody hears
+abbrev pub only_removes : Step → Bool
+only_removes (Void t m) = true
+only_removes (Lose m) = true
+only_removes s = false
