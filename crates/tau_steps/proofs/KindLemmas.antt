@@ -3,7 +3,7 @@ use Rattle.std.proofs.Common.{◌≡◌, ◌≢◌, ℕ, Bool, true, false, cond
 use Rattle.std.specs.Str.{bytes_eq}
 use Rattle.std.proofs.lemmas.Slice.Eq.{bytes_eq-Decides}
 use Rattle.tau_trace.specs.declared.step.Step.{Step}
-use Rattle.tau_trace.specs.declared.step.Step.TheVariants.{Take, Drop, Fall, Void, Get, Set, Skip, Send, New, Stabilize, Ask, Checkpoint, Hold, Rollback, Stay, Done, Trap, Fail, Lose}
+use Rattle.tau_trace.specs.declared.step.Step.TheVariants.{Take}
 use Rattle.tau_trace.specs.StepForms.{kind_word}
 use Rattle.tau_steps.specs.declared.kinds.Kind.{Kind}
 use Rattle.tau_steps.specs.declared.kinds.Kind.TheVariants as kinds
@@ -42,6 +42,7 @@ row w key k rest e h = by (bytes_eq w key) refl
     by true q = λ _. (bytes_eq-Decides w key).0 q ∙ sym e
     by false q = h
 
+-- the whole table
 word_in : (w : List ℕ) → kind_in w ≢ kinds.Other → w ≡ word_of (kind_in w)
 word_in w =
     row w (codes "take") (kinds.OfMessage messages.Take) _ refl
@@ -65,10 +66,12 @@ word_in w =
     (row w (codes "lose") kinds.Lose _ refl
     (λ ne. absurd (ne refl))))))))))))))))))))
 
+-- a step begins with the word of its kind
 word_of-step : (s : Step) → word_of (kind_of s) ≡ kind_word s
 word_of-step (Take t m) = refl
 word_of-step s = refl
 
+-- each step is of a kind of steps
 not_other : (s : Step) → kind_of s ≢ kinds.Other
 not_other (Take t m) e = cc
 not_other s e = cc
@@ -77,6 +80,7 @@ not_other s e = cc
 pub word_of_kind : (w : List ℕ) (s : Step) → kind_of s ≡ kind_in w → w ≡ kind_word s
 word_of_kind w s e = word_in w (λ o. not_other s (e ∙ o)) ∙ ap word_of (sym e) ∙ word_of-step s
 
+-- the word of a step tells its kind
 pub kind_of-word : (s : Step) → kind_in (kind_word s) ≡ kind_of s
 kind_of-word (Take t m) = refl
 kind_of-word s = refl

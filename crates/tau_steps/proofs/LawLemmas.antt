@@ -1,5 +1,5 @@
 -- The forms that steps are printed as mean them, and forms mean one run at most.
-use Rattle.std.proofs.Common.{◌≡◌, ◌≢◌, ◌⊎◌, inl, inr, ⊎_elim, ℕ, zero, suc, ◌+◌, ◌^◌, ◌<◌, ◌≤◌, Bool, true, false, List, [], ◌∷◌, length, get_or, map, Option, Some, None, option_map, refl, sym, ap, ◌∙◌, subst, arith, unwrap_or}
+use Rattle.std.proofs.Common.{◌≡◌, ◌⊎◌, ⊎_elim, ℕ, suc, ◌^◌, ◌<◌, ◌≤◌, Bool, true, false, List, [], ◌∷◌, length, get_or, map, Option, Some, None, option_map, refl, sym, ap, ◌∙◌, subst, arith, unwrap_or}
 use Rattle.std.specs.Prelude.{slice_get}
 use Rattle.std.specs.Option.{option_map_or}
 use Rattle.std.specs.Fmt.{decimal}
@@ -9,7 +9,6 @@ use Rattle.tau_value.specs.Val as val
 use Rattle.tau_value.specs.Val.{Val, items_of-inside}
 use Rattle.tau_value.specs.Value.{val_of}
 use Rattle.tau_value.specs.Names.{AreNames, place_of}
-use Rattle.tau_value.specs.Numbers.{count_in}
 use Rattle.tau_value.specs.Sizes.{IsInBounds}
 use Rattle.tau_value.specs.Meaning.{number_named, counted}
 use Rattle.tau_value.specs.Written.{name_written}
@@ -25,13 +24,11 @@ use Rattle.tau_trace.specs.Run.{Run, len, step_at}
 use Rattle.tau_trace.specs.Numbering.{born, sent}
 use Rattle.tau_trace.specs.Known.{IsSound, IsKnown, IsKnownValue, WellFormed}
 use Rattle.tau_trace.specs.Stored.{number_made}
-use Rattle.tau_trace.specs.StepForms.{kind_word, who_form, count_form, truth_form, behaviour_form, value_form, step_form, step_form_at, IsWritten, ValueIsWritten, IsWrittenAt}
+use Rattle.tau_trace.specs.StepForms.{who_form, count_form, truth_form, value_form, step_form, step_form_at, IsWritten, ValueIsWritten, IsWrittenAt}
 use Rattle.tau_trace.proofs.Indexing.{born-le, sent-le}
 use Rattle.tau_trace.proofs.Lists.{same_some}
 use Rattle.tau_steps.specs.declared.kinds.Kind.{Kind}
 use Rattle.tau_steps.specs.declared.kinds.Kind.TheVariants as kinds
-use Rattle.tau_steps.specs.declared.kinds.MessageKind.TheVariants as messages
-use Rattle.tau_steps.specs.declared.kinds.AloneKind.TheVariants as alone
 use Rattle.tau_steps.specs.Kinds.{kind_of, kind_in, message_step, alone_step}
 use Rattle.tau_steps.specs.Meaning as item
 use Rattle.tau_steps.specs.Meaning.{Item, items_of, named_at, place_at, count_at, truth_at, MeansItem, MeansItems, MeansStep, MeansSteps}
@@ -47,6 +44,7 @@ named_from : (o : Option ℕ) (n : ℕ) → option_map_or val.name o val.unit �
 named_from None n e = cc
 named_from (Some k) n e = cc
 
+-- the word that a transactor is written as names it
 who_means : (names : List (List ℕ)) (bound n : ℕ) → AreNames names → n < bound → bound < 2 ^ 32 → named_at names bound (word (name_written names n)) ≡ Some n
 who_means names bound n are below small =
     let in_bounds : IsInBounds (val.name n) = (omega arith, omega arith) in
@@ -62,9 +60,11 @@ behaviour_means names n are lt = ⊎_elim start other (slice_get_cases names n).
     other : (length names ≤ n) × (slice_get names n ≡ None) → place_at names (word (name_written names n)) ≡ Some n
     other (le, e) = absurd (omega arith)
 
+-- a count that is written of a number means it
 count_means : (n : ℕ) → n < 2 ^ 32 → count_at (count_form n) ≡ Some n
 count_means n small = count_in-decimal n (omega arith)
 
+-- so does the word of a truth
 truth_means : (a : Bool) → truth_at (truth_form a) ≡ Some a
 truth_means true = refl
 truth_means false = refl
@@ -74,12 +74,15 @@ module _ (o : Opening) (b m : ℕ) (sound : IsSound o) (fb : b < 2 ^ 32) (fm : m
   who : (t : ℕ) → t < b → named_at o.names b (who_form o t) ≡ Some t
   who t l = who_means o.names b t sound.names l fb
 
+  -- the count of a message that exists
   message_is : (x : ℕ) → x < m → (count_at (count_form x) ≡ Some x) × (x < m)
   message_is x l = (count_means x (omega arith), l)
 
+  -- the form of a value
   value_is : (v : Value) → IsKnownValue b v → IsWritten o.names v → MeansItem o b m (item.value (val_of v)) (value_form o v)
   value_is v known is = is.read_back b known.in_bounds known.names
 
+  -- each kind of step in turn
   pub form_means : (s : Step) → IsKnown o b m s → ValueIsWritten o s → MeansStep o b m (step_form o (number_made s b m) s) s
   form_means (Take t x) h w = (refl, (who t h.0, (message_is x h.1, tt)))
   form_means (Drop t x) h w = (refl, (who t h.0, (message_is x h.1, tt)))
@@ -101,6 +104,7 @@ module _ (o : Opening) (b m : ℕ) (sound : IsSound o) (fb : b < 2 ^ 32) (fm : m
   form_means (Fail t) h w = (refl, (who t h, tt))
   form_means (Lose x) h w = (refl, (message_is x h, tt))
 
+-- a printed step means itself
 pub printed_step : (T : Run) → WellFormed T → (k : ℕ) (f : Tree) (s : Step) → IsWrittenAt T k → step_form_at T k ≡ Some f → step_at T k ≡ Some s → MeansStep T.opening (born T k) (sent T k) f s
 printed_step T w k f s written form stands =
     let below = slice_get_within T.steps k s stands in
@@ -117,6 +121,7 @@ same_length [] (y ∷ ys) g e = absurd (let h : None ≡ Some (g 0 y) = e 0 in c
 same_length (x ∷ xs) [] g e = absurd (let h : Some x ≡ None = e 0 in cc)
 same_length (x ∷ xs) (y ∷ ys) g e = omega (arith, same_length xs ys (λ k. g (suc k)) (λ k. e (suc k)))
 
+-- a printed trace means itself
 pub printed_trace : (T : Run) (fs : List Tree) → WellFormed T → ((k : ℕ) → IsWrittenAt T k) → ((k : ℕ) → slice_get fs k ≡ step_form_at T k) → MeansSteps T.opening fs T
 printed_trace T fs w written forms =
     let long : length fs ≡ len T = same_length fs T.steps (λ k s. step_form T.opening (number_made s (born T k) (sent T k)) s) forms in
@@ -138,6 +143,7 @@ item_in o b role.code f = option_map item.code (count_at f)
 item_in o b role.truth f = option_map item.truth (truth_at f)
 item_in o b role.value f = Some (item.value (counted o.names b f))
 
+-- that is the item that the form means
 item_is : (o : Opening) (b m : ℕ) (i : Item) (f : Tree) → MeansItem o b m i f → item_in o b (role_of i) f ≡ Some i
 unfolding item_in
 item_is o b m (item.transactor t) f h = ap (option_map item.transactor) h
@@ -153,12 +159,15 @@ item_is o b m (item.value v) f h = ap (λ w. Some (item.value w)) h.value
 same_item : (o : Opening) (b m : ℕ) (i j : Item) (f : Tree) → role_of i ≡ role_of j → MeansItem o b m i f → MeansItem o b m j f → i ≡ j
 same_item o b m i j f e hi hj = same_some (sym (item_is o b m i f hi) ∙ ap (λ r. item_in o b r f) e ∙ item_is o b m j f hj)
 
+-- equal lists begin with the same role
 head_role : (r q : Role) (rs qs : List Role) → r ∷ rs ≡ q ∷ qs → r ≡ q
 head_role r q rs qs e = cc
 
+-- and go on with the same roles
 tail_roles : (r q : Role) (rs qs : List Role) → r ∷ rs ≡ q ∷ qs → rs ≡ qs
 tail_roles r q rs qs e = cc
 
+-- the same for lists of items
 same_items : (o : Opening) (b m : ℕ) (is js : List Item) (fs : Trees) → map role_of is ≡ map role_of js → MeansItems o b m is fs → MeansItems o b m js fs → is ≡ js
 same_items o b m [] [] fs e hi hj = refl
 same_items o b m [] (j ∷ js) fs e hi hj = absurd (let g : [] ≡ role_of j ∷ map role_of js = e in cc)
@@ -178,6 +187,7 @@ value_at (val.text t) = values.Text t
 value_at (val.name n) = values.Name n
 value_at (val.list vs) = values.List (val.items_of vs)
 
+-- that is the value
 value_at-val_of : (v : Value) → value_at (val_of v) ≡ v
 unfolding value_at
 value_at-val_of values.Unit = refl
@@ -187,6 +197,7 @@ value_at-val_of (values.Text t) = refl
 value_at-val_of (values.Name n) = refl
 value_at-val_of (values.List vs) = ap values.List (items_of-inside vs)
 
+-- a step by its kind and items
 step_in : Kind → List Item → Step
 step_in (kinds.OfMessage k) (item.transactor t ∷ item.message x ∷ []) = message_step k t x
 step_in (kinds.Alone k) (item.transactor t ∷ []) = alone_step k t
@@ -198,6 +209,7 @@ step_in kinds.Trap (item.transactor t ∷ item.code c ∷ []) = Trap t c
 step_in kinds.Lose (item.message x ∷ []) = Lose x
 step_in k is = Lose 0
 
+-- that is the step
 step_is : (b m : ℕ) (s : Step) → step_in (kind_of s) (items_of b m s) ≡ s
 unfolding step_in
 step_is b m (Take t x) = refl
@@ -219,6 +231,7 @@ same_step o b m (list none) r s hr hs = absurd hr
 same_step o b m (text w) r s hr hs = absurd hr
 same_step o b m (word w) r s hr hs = absurd hr
 
+-- lists with the same element at each place are equal
 same_elements : {A : Type 0} (xs ys : List A) → ((k : ℕ) → slice_get xs k ≡ slice_get ys k) → xs ≡ ys
 same_elements [] [] e = refl
 same_elements [] (y ∷ ys) e = absurd (let h = e 0 in cc)
@@ -252,6 +265,7 @@ module _ (o : Opening) (fs : List Tree) (T U : Run) (mt : MeansSteps o fs T) (mu
       past : length fs ≤ k → step_at T k ≡ step_at U k
       past l = slice_get_past T.steps k (omega (arith, mt.count)) ∙ sym (slice_get_past U.steps k (omega (arith, mu.count)))
 
+  -- so the runs are equal
   pub one_run : T ≡ U
   one_run =
       let opening : T.opening ≡ U.opening = mt.opening ∙ sym mu.opening in

@@ -1,5 +1,5 @@
 -- Forms read one by one: the steps so far, and the first fault.
-use Rattle.std.proofs.Common.{◌≡◌, ◌≢◌, ◌⊎◌, inl, inr, ⊎_elim, ℕ, zero, suc, ◌+◌, ◌<◌, ◌≤◌, Bool, true, false, ◌-◌, take, drop, List, [], ◌∷◌, length, map, get_or, Option, Some, None, Result, Ok, Err, IfOk, IfErr, refl, sym, ap, ◌∙◌, subst, arith, codes}
+use Rattle.std.proofs.Common.{◌≡◌, ◌⊎◌, ⊎_elim, ℕ, zero, suc, ◌+◌, ◌<◌, ◌≤◌, false, ◌-◌, take, drop, List, [], ◌∷◌, length, map, get_or, Some, None, Result, Ok, Err, IfErr, refl, sym, ap, ◌∙◌, subst, arith, codes}
 use Rattle.std.specs.Prelude.{slice_get, slice_range}
 use Rattle.std.proofs.lemmas.List.{take-map, drop-map}
 use Rattle.std.specs.Option.{option_map_or}
@@ -7,13 +7,13 @@ use Rattle.std.specs.Str.{bytes_eq}
 use Rattle.std.proofs.lemmas.Option.{slice_get_within}
 use Rattle.tau_sexpr.specs.Form.{tree_of}
 use Rattle.tau_sexpr.specs.declared.trees.Form.{Form}
-use Rattle.tau_sexpr.specs.Tree.{Tree, Trees, word, text, list, none, more}
+use Rattle.tau_sexpr.specs.Tree.{Tree, word, text, list, none, more}
 use Rattle.tau_value.specs.Meaning.{Fault, shape, unknown}
 use Rattle.tau_trace.specs.declared.opening.Opening.{Opening}
 use Rattle.tau_trace.specs.declared.step.Step.{Step}
-use Rattle.tau_trace.specs.declared.step.Step.TheVariants.{Take, Drop, Fall, Void, Get, Set, Skip, Send, New, Stabilize, Ask, Checkpoint, Hold, Rollback, Stay, Done, Trap, Fail, Lose}
+use Rattle.tau_trace.specs.declared.step.Step.TheVariants.{Take}
 use Rattle.tau_trace.specs.Steps.{is_new, is_send}
-use Rattle.tau_trace.specs.Run.{Run, Agree, len, step_at, appended}
+use Rattle.tau_trace.specs.Run.{Run, len, step_at, appended}
 use Rattle.tau_trace.specs.Numbering.{born, sent}
 use Rattle.tau_trace.specs.StepForms.{kind_word}
 use Rattle.tau_trace.proofs.Lists.{same_some, slice_get-push_cases}
@@ -46,26 +46,25 @@ pub record IsReadTo (o : Opening) (fs : List Tree) (n : ℕ) (T : Run) : Type 0 
   pub few : n ≤ 1000000
   pub each : (k : ℕ) (f : Tree) (s : Step) → slice_get fs k ≡ Some f → step_at T k ≡ Some s → MeansStep o (born T k) (sent T k) f s
 
+-- where all forms are read, they mean the run
 pub read_whole : (o : Opening) (fs : List Tree) (n : ℕ) (T : Run) → n ≡ length fs → IsReadTo o fs n T → MeansSteps o fs T
 read_whole o fs n T e r = record { opening = r.opening; count = r.count ∙ e; few = omega (arith, r.few, e); each = r.each }
 
+-- forms that mean a run are read as it
 pub whole_read : (o : Opening) (fs : List Tree) (T : Run) → MeansSteps o fs T → IsReadTo o fs (length fs) T
 whole_read o fs T m = record { opening = m.opening; count = m.count; few = m.few; each = m.each }
-
-pub nothing_read : (o : Opening) (fs : List Tree) (T : Run) → T ≡ record { opening = o; steps = [] } → IsReadTo o fs 0 T
-nothing_read o fs T e =
-    let P : Run → Type 0 = λ U. IsReadTo o fs 0 U in
-    subst P (sym e) (record { opening = refl; count = refl; few = omega arith; each = λ k f s h g. absurd (let x : None ≡ Some s = g in cc) })
 
 -- the words of the kinds tell which steps make a transactor and which a message
 new_word : (s : Step) → bytes_eq (kind_word s) (codes "new") ≡ is_new s
 new_word (Take t m) = refl
 new_word s = refl
 
+-- the same for messages
 send_word : (s : Step) → bytes_eq (kind_word s) (codes "send") ≡ is_send s
 send_word (Take t m) = refl
 send_word s = refl
 
+-- a form that means a step begins with the word of its kind
 begins : (o : Opening) (b m : ℕ) (w : List ℕ) (f : Tree) (s : Step) → MeansStep o b m f s → begins_with w f ≡ bytes_eq (kind_word s) w
 begins o b m w (list (more (word h) fs)) s means = ap (λ x. bytes_eq x w) means.0
 begins o b m w (list (more (text x) fs)) s means = absurd means
@@ -83,6 +82,7 @@ module _ (o : Opening) (fs : List Tree) (n : ℕ) (T : Run) (within : n ≤ leng
       let means = r.each j f.0 s.0 f.1 s.1 in
       ap (λ x. option_map_or is_new x false) s.1 ∙ sym (begins o (born T j) (sent T j) (codes "new") f.0 s.0 means ∙ new_word s.0) ∙ sym (ap (λ x. option_map_or (begins_with (codes "new")) x false) f.1)
 
+  -- each form makes a message where its step does
   send_at : (j : ℕ) → j < n → option_map_or is_send (step_at T j) false ≡ option_map_or (begins_with (codes "send")) (slice_get fs j) false
   send_at j l =
       let f = element fs j (omega arith) in
@@ -90,9 +90,11 @@ module _ (o : Opening) (fs : List Tree) (n : ℕ) (T : Run) (within : n ≤ leng
       let means = r.each j f.0 s.0 f.1 s.1 in
       ap (λ x. option_map_or is_send x false) s.1 ∙ sym (begins o (born T j) (sent T j) (codes "send") f.0 s.0 means ∙ send_word s.0) ∙ sym (ap (λ x. option_map_or (begins_with (codes "send")) x false) f.1)
 
+  -- so many transactors exist before a form
   pub born_told : (k : ℕ) → k ≤ n → born T k ≡ transactors_before o fs k
   born_told k l = omega (arith, ap (λ p. length p.names) r.opening, count-same (λ j. option_map_or is_new (step_at T j) false) (λ j. option_map_or (begins_with (codes "new")) (slice_get fs j) false) k (λ j h. new_at j (omega arith)))
 
+  -- so many messages exist before a form
   pub sent_told : (k : ℕ) → k ≤ n → sent T k ≡ messages_before o fs k
   sent_told k l = omega (arith, ap (λ p. length p.targets) r.opening, count-same (λ j. option_map_or is_send (step_at T j) false) (λ j. option_map_or (begins_with (codes "send")) (slice_get fs j) false) k (λ j h. send_at j (omega arith)))
 
@@ -202,6 +204,7 @@ no_fault o fs T k e m (in_form {f = f} stands fault) =
     omega (arith, clean_below o fs (length fs) T (omega arith) (whole_read o fs T m) k e (in_form stands fault), slice_get_within fs k f stands)
 no_fault o fs T k e m (too_many is l z) = omega (arith, m.few)
 
+-- where forms mean a run, an answer without it is want of memory
 pub none_told : {X : Type 0} (o : Opening) (fs : List Tree) (T : Run) (answer : Result X StepError) → MeansSteps o fs T → IfErr answer (IsFault o fs) → IfErr answer (λ e. e ≡ errors.NoMemory)
 none_told o fs T (Ok x) m h = h
 none_told o fs T (Err (errors.Shape k)) m h = absurd (no_fault o fs T k shape m h.fault)

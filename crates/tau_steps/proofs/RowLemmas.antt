@@ -1,8 +1,8 @@
 -- What the items of the forms of each kind tell together.
-use Rattle.std.proofs.Common.{◌≡◌, ℕ, ◌+◌, ◌<◌, ◌≤◌, Bool, List, [], ◌∷◌, length, get_or, map, Option, Some, None, Result, Ok, Err, refl, sym, ap, ◌∙◌, subst, arith}
+use Rattle.std.proofs.Common.{◌≡◌, ℕ, Bool, List, [], ◌∷◌, length, get_or, map, Option, Some, Result, Ok, Err, refl, sym, ap, ◌∙◌, subst, arith}
 use Rattle.tau_sexpr.specs.Form.{tree_of}
 use Rattle.tau_sexpr.specs.declared.trees.Form.{Form}
-use Rattle.tau_sexpr.specs.Tree.{Tree, Trees, none, more, inside}
+use Rattle.tau_sexpr.specs.Tree.{Trees, none, more, inside}
 use Rattle.tau_value.specs.Value.{val_of}
 use Rattle.tau_value.specs.declared.shared.Value.{Value}
 use Rattle.tau_steps.specs.declared.errors.ItemError.{ItemError}
@@ -27,23 +27,28 @@ use Rattle.tau_steps.proofs.TellsLemmas.{role_of, told_ok, told_err, tells_one, 
 abbrev trees_of : List Form → Trees
 trees_of fs = inside (map tree_of fs)
 
+-- the items of a list of one
 pub one_item : (fs : List Form) (a : Form) → length fs ≡ 1 → a ≡ get_or fs 0 a → trees_of fs ≡ more (tree_of a) none
 one_item [] a n e = absurd (omega arith)
 one_item (x ∷ []) a n e = ap (λ y. more (tree_of y) none) (sym e)
 one_item (x ∷ y ∷ fs) a n e = absurd (omega arith)
 
+-- of two
 pub two_items : (fs : List Form) (a b : Form) → length fs ≡ 2 → a ≡ get_or fs 0 a → b ≡ get_or fs 1 b → trees_of fs ≡ more (tree_of a) (more (tree_of b) none)
 two_items [] a b n e f = absurd (omega arith)
 two_items (x ∷ xs) a b n e f = λ i. more (tree_of (sym e i)) (one_item xs b (omega arith) f i)
 
+-- of three
 pub three_items : (fs : List Form) (a b c : Form) → length fs ≡ 3 → a ≡ get_or fs 0 a → b ≡ get_or fs 1 b → c ≡ get_or fs 2 c → trees_of fs ≡ more (tree_of a) (more (tree_of b) (more (tree_of c) none))
 three_items [] a b c n e f g = absurd (omega arith)
 three_items (x ∷ xs) a b c n e f g = λ i. more (tree_of (sym e i)) (two_items xs b c (omega arith) f g i)
 
+-- of four
 pub four_items : (fs : List Form) (a b c d : Form) → length fs ≡ 4 → a ≡ get_or fs 0 a → b ≡ get_or fs 1 b → c ≡ get_or fs 2 c → d ≡ get_or fs 3 d → trees_of fs ≡ more (tree_of a) (more (tree_of b) (more (tree_of c) (more (tree_of d) none)))
 four_items [] a b c d n e f g h = absurd (omega arith)
 four_items (x ∷ xs) a b c d n e f g h = λ i. more (tree_of (sym e i)) (three_items xs b c d (omega arith) f g h i)
 
+-- of five
 pub five_items : (fs : List Form) (a b c d v : Form) → length fs ≡ 5 → a ≡ get_or fs 0 a → b ≡ get_or fs 1 b → c ≡ get_or fs 2 c → d ≡ get_or fs 3 d → v ≡ get_or fs 4 v → trees_of fs ≡ more (tree_of a) (more (tree_of b) (more (tree_of c) (more (tree_of d) (more (tree_of v) none))))
 five_items [] a b c d v n e f g h j = absurd (omega arith)
 five_items (x ∷ xs) a b c d v n e f g h j = λ i. more (tree_of (sym e i)) (four_items xs b c d v (omega arith) f g h j i)
@@ -60,6 +65,7 @@ alone_kind alone.Stay t = refl
 alone_kind alone.Done t = refl
 alone_kind alone.Fail t = refl
 
+-- a step that names its transactor alone has one item
 alone_items : (b m : ℕ) (k : AloneKind) (t : ℕ) → items_of b m (alone_step k t) ≡ item.transactor t ∷ []
 alone_items b m alone.Get t = refl
 alone_items b m alone.Skip t = refl
@@ -71,12 +77,14 @@ alone_items b m alone.Stay t = refl
 alone_items b m alone.Done t = refl
 alone_items b m alone.Fail t = refl
 
+-- the kinds of steps that name a message
 message_kind : (k : MessageKind) (t x : ℕ) → kind_of (message_step k t x) ≡ kinds.OfMessage k
 message_kind messages.Take t x = refl
 message_kind messages.Drop t x = refl
 message_kind messages.Fall t x = refl
 message_kind messages.Void t x = refl
 
+-- such a step has two items
 message_items : (b m : ℕ) (k : MessageKind) (t x : ℕ) → items_of b m (message_step k t x) ≡ item.transactor t ∷ item.message x ∷ []
 message_items b m messages.Take t x = refl
 message_items b m messages.Drop t x = refl
@@ -93,6 +101,7 @@ module _ (p : Place) where
     pub ok : (x : X) → all ≡ Ok x → TellsRow p k fs (Ok (step x))
     pub err : (e : ItemError) → all ≡ Err e → TellsRow p k fs (Err e)
 
+  -- what the items of one kind tell is what its reader makes of them
   is_row : {X : Type 0} (k : Kind) (rs : List Role) (fs : Trees) (step : X → Step) (all : Result X ItemError) → roles_of p.transactors p.messages k ≡ Some rs → ((x : X) → kind_of (step x) ≡ k) → TellsItems rs (λ x. items_of p.transactors p.messages (step x)) fs all → IsRow k fs step all
   is_row {X = X} k rs fs step all er ek h = record {
     ok = λ x e. (ek x, told_ok (λ (y : X). MeansItems p.opening.now p.transactors p.messages (items_of p.transactors p.messages (step y)) fs) (FaultIn p.opening.now p.transactors p.messages rs fs) all x e h);
@@ -116,9 +125,11 @@ module _ (p : Place) where
       (moved (r ∷ []) (λ x. items_of p.transactors p.messages (step x)) (trees_of fs) (more (tree_of a) none) all all (one_item fs a n ea) refl
       (subst P same (tells_one p r i (tree_of a) all ha)))
 
+  -- the item of (KIND WHO)
   pub tells_alone : (k : AloneKind) (fs : List Form) (a : Form) (who : Result ℕ ItemError) → length fs ≡ 1 → a ≡ get_or fs 0 a → TellsItem p role.transactor item.transactor (tree_of a) who → IsRow (kinds.Alone k) (trees_of fs) (alone_step k) who
   tells_alone k fs a who n ea ha = is_one (kinds.Alone k) role.transactor item.transactor (alone_step k) fs a who refl (alone_kind k) (alone_items p.transactors p.messages k) n ea ha
 
+  -- the item of (lose M)
   pub tells_lose : (fs : List Form) (a : Form) (message : Result ℕ ItemError) → length fs ≡ 1 → a ≡ get_or fs 0 a → TellsItem p role.message item.message (tree_of a) message → IsRow kinds.Lose (trees_of fs) steps.Lose message
   tells_lose fs a message n ea ha = is_one kinds.Lose role.message item.message steps.Lose fs a message refl (λ x. refl) (λ x. refl) n ea ha
 
@@ -134,15 +145,19 @@ module _ (p : Place) where
       (tells_more p role.transactor (r ∷ []) item.transactor (λ x. i x ∷ []) (tree_of a) (more (tree_of b) none) who other (λ x. refl) (λ x. ap (λ q. q ∷ []) (eo x)) ha
       (tells_one p r i (tree_of b) other hb))))
 
+  -- the items of (KIND WHO M)
   pub tells_of_message : (k : MessageKind) (fs : List Form) (a b : Form) (who message : Result ℕ ItemError) (all : Result (ℕ × ℕ) ItemError) → length fs ≡ 2 → a ≡ get_or fs 0 a → b ≡ get_or fs 1 b → TellsItem p role.transactor item.transactor (tree_of a) who → TellsItem p role.message item.message (tree_of b) message → all ≡ both_of who message → IsRow (kinds.OfMessage k) (trees_of fs) (λ (z : ℕ × ℕ). message_step k z.0 z.1) all
   tells_of_message k fs a b who message all n ea eb ha hb is = is_two (kinds.OfMessage k) role.message item.message (λ (z : ℕ × ℕ). message_step k z.0 z.1) fs a b who message all refl (λ z. message_kind k z.0 z.1) (λ z. message_items p.transactors p.messages k z.0 z.1) (λ x. refl) n ea eb ha hb is
 
+  -- the items of (set WHO VALUE)
   pub tells_set : (fs : List Form) (a b : Form) (who : Result ℕ ItemError) (value : Result Value ItemError) (all : Result (ℕ × Value) ItemError) → length fs ≡ 2 → a ≡ get_or fs 0 a → b ≡ get_or fs 1 b → TellsItem p role.transactor item.transactor (tree_of a) who → TellsItem p role.value (λ v. item.value (val_of v)) (tree_of b) value → all ≡ both_of who value → IsRow kinds.Set (trees_of fs) (λ (z : ℕ × Value). steps.Set z.0 z.1) all
   tells_set fs a b who value all n ea eb ha hb is = is_two kinds.Set role.value (λ v. item.value (val_of v)) (λ (z : ℕ × Value). steps.Set z.0 z.1) fs a b who value all refl (λ z. refl) (λ z. refl) (λ x. refl) n ea eb ha hb is
 
+  -- the items of (ask WHO TRUTH)
   pub tells_ask : (fs : List Form) (a b : Form) (who : Result ℕ ItemError) (truth : Result Bool ItemError) (all : Result (ℕ × Bool) ItemError) → length fs ≡ 2 → a ≡ get_or fs 0 a → b ≡ get_or fs 1 b → TellsItem p role.transactor item.transactor (tree_of a) who → TellsItem p role.truth item.truth (tree_of b) truth → all ≡ both_of who truth → IsRow kinds.Ask (trees_of fs) (λ (z : ℕ × Bool). steps.Ask z.0 z.1) all
   tells_ask fs a b who truth all n ea eb ha hb is = is_two kinds.Ask role.truth item.truth (λ (z : ℕ × Bool). steps.Ask z.0 z.1) fs a b who truth all refl (λ z. refl) (λ z. refl) (λ x. refl) n ea eb ha hb is
 
+  -- the items of (trap WHO CODE)
   pub tells_trap : (fs : List Form) (a b : Form) (who code : Result ℕ ItemError) (all : Result (ℕ × ℕ) ItemError) → length fs ≡ 2 → a ≡ get_or fs 0 a → b ≡ get_or fs 1 b → TellsItem p role.transactor item.transactor (tree_of a) who → TellsItem p role.code item.code (tree_of b) code → all ≡ both_of who code → IsRow kinds.Trap (trees_of fs) (λ (z : ℕ × ℕ). steps.Trap z.0 z.1) all
   tells_trap fs a b who code all n ea eb ha hb is = is_two kinds.Trap role.code item.code (λ (z : ℕ × ℕ). steps.Trap z.0 z.1) fs a b who code all refl (λ z. refl) (λ z. refl) (λ x. refl) n ea eb ha hb is
 

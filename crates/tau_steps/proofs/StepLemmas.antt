@@ -1,5 +1,5 @@
 -- What is told of the form of a step, and that what a step names exists.
-use Rattle.std.proofs.Common.{◌≡◌, ◌≢◌, ◌⊎◌, inl, inr, ⊎_elim, ℕ, ◌+◌, ◌<◌, ◌≤◌, Bool, true, false, cond, nat_lt, nat_le, ◌&&◌, ◌-◌, take, drop, List, [], ◌∷◌, length, map, get_or, Option, Some, None, Result, Ok, Err, refl, sym, ap, ◌∙◌, subst, arith}
+use Rattle.std.proofs.Common.{◌≡◌, ℕ, ◌<◌, ◌≤◌, Bool, true, false, cond, nat_lt, nat_le, ◌&&◌, ◌-◌, take, drop, List, [], ◌∷◌, length, map, get_or, Option, Some, None, Result, Ok, Err, refl, sym, ap, ◌∙◌, subst, arith}
 use Rattle.std.specs.Option.{option_or, option_and_then}
 use Rattle.std.proofs.lemmas.List.Quantifiers.{position-Some}
 use Rattle.std.proofs.lemmas.Bool.{ltb-true, leb-true, leb-false}
@@ -16,13 +16,12 @@ use Rattle.tau_value.specs.declared.shared.Value.{Value}
 use Rattle.tau_value.specs.Names.{place_of}
 use Rattle.tau_value.specs.Numbers.{count_in}
 use Rattle.tau_value.specs.Sizes.{parts_of, levels_of, IsInBounds, NamesBelow}
-use Rattle.tau_value.specs.Meaning.{Fault, shape, counted, between, number_named, Means, too_large}
+use Rattle.tau_value.specs.Meaning.{Fault, shape, counted, between, Means, too_large}
 use Rattle.tau_value.proofs.MeaningLemmas.{counted-names_below}
 use Rattle.tau_trace.specs.declared.opening.Opening.{Opening}
 use Rattle.tau_trace.specs.declared.step.Step.{Step}
 use Rattle.tau_trace.specs.declared.step.Step.TheVariants.{Take, Drop, Fall, Void, Get, Set, Skip, Send, New, Stabilize, Ask, Checkpoint, Hold, Rollback, Stay, Done, Trap, Fail, Lose}
 use Rattle.tau_trace.specs.Known.{IsKnown, IsKnownValue}
-use Rattle.tau_trace.specs.StepForms.{kind_word}
 use Rattle.tau_steps.specs.declared.errors.ItemError.{ItemError}
 use Rattle.tau_steps.specs.declared.errors.ItemError.TheVariants as items
 use Rattle.tau_steps.specs.declared.items.Place.{Place}
@@ -30,8 +29,8 @@ use Rattle.tau_steps.specs.declared.kinds.Kind.{Kind}
 use Rattle.tau_steps.specs.Kinds.{kind_in, kind_of}
 use Rattle.tau_steps.specs.Meaning as item
 use Rattle.tau_steps.specs.Meaning.{Item, items_of, named_at, place_at, MeansItem, MeansItems, MeansStep}
-use Rattle.tau_steps.specs.Faults.{Role, roles_of, FaultIn, RowFault, FormFault}
-use Rattle.tau_steps.specs.Reading.{Tells, TellsRow, TellsStep}
+use Rattle.tau_steps.specs.Faults.{Role, roles_of, RowFault, FormFault}
+use Rattle.tau_steps.specs.Reading.{TellsRow, TellsStep}
 use Rattle.tau_steps.proofs.KindLemmas.{word_of_kind, kind_of-word}
 use Rattle.tau_steps.proofs.TellsLemmas.{role_of, clean_items}
 
@@ -42,6 +41,7 @@ told_row p h fs (Err items.Shape) t = t
 told_row p h fs (Err items.Unknown) t = t
 told_row p h fs (Err items.NoMemory) t = t
 
+-- the same of a form that is equal to such a list
 pub told_step : (p : Place) (f : Tree) (h : List ℕ) (k : Kind) (fs : Trees) (answer : Result Step ItemError) → f ≡ list (more (word h) fs) → k ≡ kind_in h → TellsRow p k fs answer → TellsStep p f answer
 told_step p f h k fs answer e ek t =
     let P : Tree → Type 0 = λ g. TellsStep p g answer in
@@ -74,24 +74,29 @@ between_below low high n t = by (nat_le low n) (nat_lt n high) refl
     by true false e h = cc
     by false b e h = cc
 
+-- the same of a word that is a count
 count_below : (low high t : ℕ) (c : Option ℕ) → option_and_then (between low high) c ≡ Some t → t < high
 count_below low high t None h = cc
 count_below low high t (Some n) h = between_below low high n t h
 
+-- the place of a word is below the number of words
 place_below : (names : List (List ℕ)) (w : List ℕ) (t : ℕ) → place_of names w ≡ Some t → t < length names
 place_below names w t h = (position-Some (bytes_eq w) names t [] h).0
 
+-- a word names a start or a number below the bound
 word_below : (names : List (List ℕ)) (bound t : ℕ) (w : List ℕ) (place : Option ℕ) → place_of names w ≡ place → length names ≤ bound → option_or place (option_and_then (between (length names) bound) (count_in w)) ≡ Some t → t < bound
 word_below names bound t w None e le h = count_below (length names) bound t (count_in w) h
 word_below names bound t w (Some k) e le h =
     let same : k ≡ t = cc in
     omega (arith, place_below names w k e)
 
+-- a form names a transactor that exists
 named_below : (names : List (List ℕ)) (bound t : ℕ) (f : Tree) → length names ≤ bound → named_at names bound f ≡ Some t → t < bound
 named_below names bound t (word w) le h = word_below names bound t w (place_of names w) refl le h
 named_below names bound t (text w) le h = cc
 named_below names bound t (list fs) le h = cc
 
+-- a form names a behaviour that exists
 behaviour_below : (names : List (List ℕ)) (t : ℕ) (f : Tree) → place_at names f ≡ Some t → t < length names
 behaviour_below names t (word w) h = place_below names w t h
 behaviour_below names t (text w) h = cc
@@ -105,9 +110,11 @@ decided a b h = by (nat_le a b) refl
     by true e = leb-true a b e
     by false e = absurd (h (λ l. omega (arith, leb-false a b e, l)))
 
+-- a value that is not out of bounds is in bounds
 within : (v : Val) → ¬ ¬ IsInBounds v → IsInBounds v
 within v h = (decided (parts_of v) 65536 (λ n. h (λ w. n w.0)), decided (levels_of v) 64 (λ n. h (λ w. n w.1)))
 
+-- a value that a form means is known
 known_value : (names : List (List ℕ)) (bound : ℕ) (f : Tree) (v : Val) → length names ≤ bound → Means names bound f v → IsInBounds v × NamesBelow bound v
 known_value names bound f v le means =
     let P : Val → Type 0 = λ w. IsInBounds w × NamesBelow bound w in
@@ -125,10 +132,12 @@ module _ (o : Opening) (b m : ℕ) (starts : length o.names ≤ b) where
   KnownItem (item.truth a) = Unit {0}
   KnownItem (item.value v) = IsInBounds v × NamesBelow b v
 
+  -- the same of each item
   abbrev KnownItems : List Item → Type 0
   KnownItems [] = Unit {0}
   KnownItems (i ∷ is) = KnownItem i × KnownItems is
 
+  -- an item that a form means is known
   known_item : (i : Item) (f : Tree) → MeansItem o b m i f → KnownItem i
   known_item (item.transactor t) f h = named_below o.names b t f starts h
   known_item (item.message n) f h = h.1
@@ -139,15 +148,18 @@ module _ (o : Opening) (b m : ℕ) (starts : length o.names ≤ b) where
   known_item (item.truth a) f h = tt
   known_item (item.value v) f h = known_value o.names b f v starts h
 
+  -- so are all items
   known_items : (is : List Item) (fs : Trees) → MeansItems o b m is fs → KnownItems is
   known_items [] none h = tt
   known_items [] (more f fs) h = tt
   known_items (i ∷ is) none h = absurd h
   known_items (i ∷ is) (more f fs) h = (known_item i f h.0, known_items is fs h.1)
 
+  -- a known value, by its two parts
   value_is : (v : Value) → IsInBounds (val_of v) × NamesBelow b (val_of v) → IsKnownValue b v
   value_is v h = record { in_bounds = h.0; names = h.1 }
 
+  -- a step is known where its items are
   known_by_items : (s : Step) → KnownItems (items_of b m s) → IsKnown o b m s
   known_by_items (Take t x) k = (k.0, k.1.0)
   known_by_items (Drop t x) k = (k.0, k.1.0)

@@ -1,5 +1,5 @@
 -- What the parts of the reader tell: of both of two answers, and of the items of a form one by one.
-use Rattle.std.proofs.Common.{◌≡◌, ◌≢◌, ◌⊎◌, inl, inr, ⊎_elim, ℕ, ◌+◌, ◌<◌, ◌≤◌, Bool, true, false, cond, nat_lt, nat_le, ◌==◌, ◌||◌, ◌&&◌, List, [], ◌∷◌, length, map, Option, Some, None, is_some, Result, Ok, Err, refl, sym, ap, ◌∙◌, subst, arith}
+use Rattle.std.proofs.Common.{◌≡◌, ◌≢◌, ◌⊎◌, inl, inr, ⊎_elim, ℕ, Bool, true, false, cond, nat_lt, nat_le, ◌==◌, ◌||◌, ◌&&◌, List, [], ◌∷◌, length, map, Option, Some, None, is_some, Result, Ok, Err, refl, ap, ◌∙◌, subst, arith}
 use Rattle.std.specs.Option.{option_map_or}
 use Rattle.std.proofs.lemmas.Bool.{lt-ltb, le-leb, and_from, eq-eqb}
 use Rattle.tau_sexpr.specs.Form.{tree_of}
@@ -7,7 +7,7 @@ use Rattle.tau_sexpr.specs.declared.trees.Form.{Form}
 use Rattle.tau_sexpr.specs.Tree.{Tree, Trees, word, text, list, none, more, inside}
 use Rattle.tau_value.specs.Names.{is_name, place_of}
 use Rattle.tau_value.specs.Numbers.{count_in}
-use Rattle.tau_value.specs.Meaning.{Fault, shape, unknown, number_named, name_fault}
+use Rattle.tau_value.specs.Meaning.{Fault, shape, unknown, number_named}
 use Rattle.tau_trace.specs.declared.opening.Opening.{Opening}
 use Rattle.tau_steps.specs.declared.errors.ItemError.{ItemError}
 use Rattle.tau_steps.specs.declared.errors.ItemError.TheVariants as items
@@ -33,11 +33,13 @@ role_of (item.value v) = role.value
 pub told_ok : {X : Type 0} (M : X → Type 0) (F : Fault → Type 0) (a : Result X ItemError) (x : X) → a ≡ Ok x → Tells M F a → M x
 told_ok M F a x e h = subst (Tells M F) e h
 
+-- an error tells the same whatever is meant
 error_of : {X Y : Type 0} (M : X → Type 0) (N : Y → Type 0) (F : Fault → Type 0) (e : ItemError) → Tells M F (Err e) → Tells N F (Err e)
 error_of M N F items.Shape h = h
 error_of M N F items.Unknown h = h
 error_of M N F items.NoMemory h = h
 
+-- what an answer tells where it is an error
 pub told_err : {X Y : Type 0} (M : X → Type 0) (N : Y → Type 0) (F : Fault → Type 0) (a : Result X ItemError) (e : ItemError) → a ≡ Err e → Tells M F a → Tells N F (Err e)
 told_err M N F a e is h = error_of M N F e (subst (Tells M F) is h)
 
@@ -61,12 +63,14 @@ clean_if : (b : Bool) (g e : Fault) → b ≡ true → cond b None (Some g) ≡ 
 clean_if true g e t h = cc
 clean_if false g e t h = cc
 
+-- a count that passes the test has no fault
 clean_count : (test : ℕ → Bool) (g e : Fault) (o : Option ℕ) (n : ℕ) → o ≡ Some n → test n ≡ true → option_map_or (λ k. cond (test k) None (Some g)) o (Some shape) ≡ Some e → ⊥
 clean_count test g e None n is t h = cc
 clean_count test g e (Some k) n is t h =
     let same : k ≡ n = cc in
     clean_if (test k) g e (ap test same ∙ t) h
 
+-- nor has a word with a meaning
 clean_some : {X : Type 0} (o : Option X) (x : X) (g e : Fault) → o ≡ Some x → cond (is_some o) None (Some g) ≡ Some e → ⊥
 clean_some None x g e is h = cc
 clean_some (Some y) x g e is h = cc
@@ -77,6 +81,7 @@ module _ (o : Opening) (b m : ℕ) where
   clean_name t (text w) e h k = cc
   clean_name t (list fs) e h k = cc
 
+  -- nor has the name of a behaviour
   clean_behaviour : (t : ℕ) (f : Tree) (e : Fault) → MeansItem o b m (item.behaviour t) f → ¬ ItemFault o b m role.behaviour f e
   clean_behaviour t (word w) e h k = clean_some (place_of o.behaviours w) t (cond (is_name w || is_some (count_in w)) unknown shape) e h k
   clean_behaviour t (text w) e h k = cc
@@ -93,6 +98,7 @@ module _ (o : Opening) (b m : ℕ) where
   clean_item (item.truth a) f e h k = clean_some (truth_at f) a shape e h k
   clean_item (item.value v) f e h k = h.faultless k.0 e k.1.fault
 
+  -- the same for lists of items
   pub clean_items : (is : List Item) (fs : Trees) (e : Fault) → MeansItems o b m is fs → ¬ FaultIn o b m (map role_of is) fs e
   clean_items [] none e h k = k
   clean_items [] (more f fs) e h k = h

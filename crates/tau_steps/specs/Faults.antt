@@ -1,5 +1,5 @@
 -- Which forms of a list are no steps, and the first of them.
-use Rattle.std.specs.Prelude.{◌≡◌, ℕ, ◌+◌, ◌<◌, ◌≤◌, ◌==◌, ◌||◌, ◌&&◌, nat_lt, nat_le, is_some, Bool, true, false, List, [], ◌∷◌, length, slice_get, Option, Some, None, codes, if◌then◌else◌, ◌⊎◌}
+use Rattle.std.specs.Prelude.{◌≡◌, ℕ, ◌+◌, ◌<◌, ◌≤◌, ◌==◌, ◌||◌, ◌&&◌, nat_lt, nat_le, is_some, Bool, false, List, [], ◌∷◌, length, slice_get, Option, Some, None, codes, if◌then◌else◌, ◌⊎◌}
 use Rattle.std.specs.Option.{option_map_or}
 use Rattle.std.specs.Str.{bytes_eq}
 use Rattle.tau_sexpr.specs.Tree.{Tree, Trees, word, list, none, more}

@@ -29,12 +29,7 @@ pub(crate) fn read_step(alloc: Global, form: &Form, place: Place<'_>) -> Result<
 }
 
 /// The step of a kind that the other items of a form mean.
-fn read_row(
-    alloc: Global,
-    kind: Kind,
-    items: &[Form],
-    place: Place<'_>,
-) -> Result<Step, ItemError>
+fn read_row(alloc: Global, kind: Kind, items: &[Form], place: Place<'_>) -> Result<Step, ItemError>
     requires { IsPlace place }
     ensures { TellsRow place.entry kind (inside (map tree_of items.now)) result }
 {

@@ -12,7 +12,8 @@ use tau_value::{Names, count_of};
 const STEPS: &str = "(take a 0)\n(new a 2 copy 1 (name a))\n(send 2 1 b (list (name 2) 7))\n";
 
 /// Each row has forms of steps, and at its end the first fault and the step that has it.
-const FAULTS: &str = "(get shape 0) (() shape 0) ((trace) shape 0) ((get) shape 0) ((get a a) shape 0)
+const FAULTS: &str =
+    "(get shape 0) (() shape 0) ((trace) shape 0) ((get) shape 0) ((get a a) shape 0)
     ((get a) (take self 0) shape 1) ((take a -1) shape 0) ((ask a yes) shape 0) ((trap a 9) shape 0)
     ((new a 2 copy 2 unit) shape 0) ((set c X) shape 0) ((set a (list X (name 9))) shape 0)
     ((get c) unknown 0) ((get 0) unknown 0) ((get 2) unknown 0) ((lose 1) unknown 0)
@@ -58,20 +59,20 @@ fn opening(alloc: Global) -> Result<Opening, Fail> {
     })
 }
 
-/// The trace of the first forms; `None` where the opening isn't sound or there are fewer forms.
-fn trace_of(
-    alloc: Global,
-    forms: &Forms,
-    count: usize,
-    opening: Opening,
-) -> Option<Result<Trace, StepError>> {
-    if !opening.is_sound() || count > forms.len() {
+/// The trace of an opening and forms; `None` where the opening isn't sound.
+fn trace_of(alloc: Global, forms: &Forms, opening: Opening) -> Option<Result<Trace, StepError>> {
+    if !opening.is_sound() {
         return None;
     }
-    Some(steps_of(alloc, forms, 0, count, opening))
+    Some(steps_of(alloc, forms, 0, forms.len(), opening))
 }
 
-/// The step at a place, as it is printed.
+fn read(alloc: Global, text: &str) -> Result<Trace, Fail> {
+    let forms = read_forms(alloc, text.as_bytes())?;
+    let opening = opening(alloc)?;
+    Ok(trace_of(alloc, &forms, opening).ok_or("no opening")??)
+}
+
 fn add_printed(
     alloc: Global,
     forms: &mut Forms,
@@ -87,17 +88,20 @@ fn add_printed(
     }
 }
 
+/// Whether the steps of a trace are printed as the text.
+fn is_printed(alloc: Global, trace: &Trace, text: &str) -> Result<bool, AllocError> {
+    let mut forms = Forms::new(alloc);
+    for place in 0..trace.len() {
+        add_printed(alloc, &mut forms, trace, place)?;
+    }
+    Ok(print_forms(alloc, &forms)?.as_slice() == text.as_bytes())
+}
+
 #[test]
 fn reads_steps(rt: HostRuntime) -> Result<(), Fail> {
-    let alloc = rt.alloc();
-    let forms = read_forms(alloc, STEPS.as_bytes())?;
-    let trace = trace_of(alloc, &forms, 3, opening(alloc)?).ok_or("no opening")??;
+    let trace = read(rt.alloc(), STEPS)?;
     assert_eq!(rt; trace.len(), 3);
-    let mut printed = Forms::new(alloc);
-    for place in 0..3 {
-        add_printed(alloc, &mut printed, &trace, place)?;
-    }
-    assert_eq!(rt; print_forms(alloc, &printed)?.as_slice(), STEPS.as_bytes());
+    assert!(rt; is_printed(rt.alloc(), &trace, STEPS)?);
     Ok(())
 }
 
@@ -113,27 +117,45 @@ fn fault_named(kind: &Form, step: &Form) -> Option<StepError> {
     }
 }
 
-fn has_fault(alloc: Global, row: &Form, opening: Opening) -> bool {
+/// The fault of all forms of a row but its last two.
+fn fault_of(
+    alloc: Global,
+    row: &Forms,
+    opening: &Opening,
+) -> Result<Option<StepError>, AllocError> {
+    if !opening.is_sound() || row.len() < 2 {
+        return Ok(None);
+    }
+    Ok(steps_of(alloc, row, 0, row.len() - 2, opening.copy()?).err())
+}
+
+fn has_fault(alloc: Global, row: &Form, opening: &Opening) -> Result<bool, AllocError> {
     let Form::List(row) = row else {
-        return false;
+        return Ok(false);
     };
     let [.., kind, step] = row.items() else {
-        return false;
+        return Ok(false);
     };
-    match trace_of(alloc, row, row.len() - 2, opening) {
-        Some(Err(error)) => fault_named(kind, step) == Some(error),
-        _ => false,
+    let fault = fault_of(alloc, row, opening)?;
+    Ok(fault.is_some() && fault == fault_named(kind, step))
+}
+
+fn have_faults(alloc: Global, rows: &Forms, opening: &Opening) -> Result<bool, AllocError> {
+    for row in rows.items() {
+        if !has_fault(alloc, row, opening)? {
+            return Ok(false);
+        }
     }
+    Ok(true)
 }
 
 #[test]
 fn tells_faults(rt: HostRuntime) -> Result<(), Fail> {
     let alloc = rt.alloc();
     let rows = read_forms(alloc, FAULTS.as_bytes())?;
+    let opening = opening(alloc)?;
     assert_eq!(rt; rows.len(), 23);
-    for row in rows.items() {
-        assert!(rt; has_fault(alloc, row, opening(alloc)?));
-    }
+    assert!(rt; have_faults(alloc, &rows, &opening)?);
     Ok(())
 }
 

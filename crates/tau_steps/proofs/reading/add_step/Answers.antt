@@ -1,4 +1,4 @@
-use Rattle.std.proofs.Common.{◌≡◌, ◌≤◌, length, arith}
+use Rattle.std.proofs.Common.{arith}
 use Rattle.tau_sexpr.specs.Form.{tree_of}
 use Rattle.tau_trace.specs.Run.{len}
 use Rattle.tau_trace.specs.Numbering.{born, sent}

@@ -1,7 +1,5 @@
-use Rattle.std.proofs.Common.{◌≡◌, ◌-◌, ◌∙◌, List, length, map, take, drop, IfOk, IfErr, sym, ap, subst, arith}
-use Rattle.std.proofs.lemmas.List.{take-map, drop-map}
+use Rattle.std.proofs.Common.{IfOk, IfErr, subst}
 use Rattle.std.specs.List.{slice_range}
-use Rattle.tau_sexpr.specs.Form.{tree_of}
 use Rattle.tau_steps.specs.Faults.{IsFault}
 use Rattle.tau_steps.specs.Meaning.{MeansSteps}
 use Rattle.tau_steps.proofs.LoopLemmas.{range_told, none_told}

@@ -1,4 +1,4 @@
-use Rattle.std.proofs.Common.{◌≡◌, ℕ, ◌<◌, ◌≤◌, length, List, [], ◌∷◌, refl, arith}
+use Rattle.std.proofs.Common.{[], ◌∷◌, arith}
 use Rattle.tau_steps.specs.Faults as role
 use Rattle.tau_steps.proofs.TellsLemmas.{wrong_number}
 use Rattle.tau_steps.proofs.rows.lose.Goals as goal
