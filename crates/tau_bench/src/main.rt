@@ -1,6 +1,7 @@
 //! Runs a program for as many steps as the first line of standard input says, at most 1,000,000, and prints how many were
 //! made. The rest of standard input is the program. `bench/system.py` times it.
 #![tactic(auto)]
+
 ghost use Rattle.std.specs.Prelude.{◌≤◌, IfSome};
 
 use std::alloc::Global;
@@ -39,13 +40,7 @@ fn limit_of(bytes: &[u8]) -> Option<(u32, &[u8])>
     ensures { IfSome result (λ r. r.0 ≤ 1000000) }
 {
     let end = bytes.iter().position(|byte| *byte == b'\n')?;
-    let mut limit = 0;
-    for byte in &bytes[..end] {
-        if !byte.is_ascii_digit() || limit > 99_999 {
-            return None;
-        }
-        limit = limit * 10 + u32::from(*byte - b'0');
-    }
+    let limit: u32 = str::from_utf8(&bytes[..end]).ok()?.parse().ok()?;
     if limit > 1_000_000 {
         return None;
     }
