@@ -1,11 +1,10 @@
 -- The command that the words of a command line name.
-use Rattle.std.specs.Prelude.{ℕ, Bool, true, false, not, ◌&&◌, ◌||◌, ◌^◌, List, [], Option, Some, None, find, codes}
+use Rattle.std.specs.Prelude.{ℕ, Bool, true, false, not, ◌&&◌, ◌||◌, ◌^◌, List, [], ◌∷◌, Option, Some, None, find, codes}
 use Rattle.std.specs.Prelude.{if◌then◌else◌, nat_lt, option_map, option_and_then}
 use Rattle.std.specs.Str.{bytes_eq}
 use Rattle.std.specs.Str.Parse.{digits_value, without_leading_plus}
 use Rattle.clap.specs.ValueTests.{is_numeral}
-use Rattle.clap.specs.Walk.{is_empty}
-use Rattle.clap.specs.Words.{Row, Text, fault_of, first_of, matches_of, one_of}
+use Rattle.clap.specs.Words.{Kinds, Row, Text, fault_of, first_of, matches_of, one_of}
 use Rattle.clap.specs.declared.parser.matches.ValueSource.{ValueSource}
 use Rattle.clap.specs.declared.parser.matches.ValueSource.TheVariants.{CommandLine}
 use Rattle.tau_command.specs.Arguments.{tau_command}
@@ -63,13 +62,20 @@ abbrev pub stands_amiss : Text → List Row → Bool
 stands_amiss name rows = (has_option rows && not (bytes_eq name (codes "run")))
     || (stands (codes "number") rows && not (bytes_eq name (codes "gen")))
 
+-- the command with a name, where what stands on the line goes with it
+abbrev pub command_allowed : List Row → Text → Option Command
+command_allowed rows name = if stands_amiss name rows then None else command_named name rows
+
 -- the command of the matches
 abbrev pub command_matched : List Row → Option Command
-command_matched rows =
-    option_and_then (λ name. if stands_amiss name rows then None else command_named name rows)
-    (first_of (codes "command") rows)
+command_matched rows = option_and_then (command_allowed rows) (first_of (codes "command") rows)
 
--- the command that the words name, where `clap` has matches for them
+-- a command, where the words have no fault
+abbrev pub where_faultless : Kinds → Option Command → Option Command
+where_faultless [] command = command
+where_faultless (kind ∷ kinds) command = None
+
+-- the command that the words name: `clap` has matches for them, and these name it
 unfoldable pub command_of : List Text → Option Command
-command_of words = if is_empty (fault_of tau_command words)
-    then command_matched (matches_of tau_command words) else None
+command_of words =
+    where_faultless (fault_of tau_command words) (command_matched (matches_of tau_command words))

@@ -1,7 +1,7 @@
 //! What the matches of `clap` say.
 ghost use Rattle.std.specs.Prelude.{◌≡◌};
 ghost use Rattle.clap.specs.Words.{found_of, rows_of};
-ghost use Rattle.tau_command.specs.Commands.{command_matched, command_named, has_option, number_of, run_of, stands, stands_amiss};
+ghost use Rattle.tau_command.specs.Commands.{command_allowed, command_matched, command_named, has_option, is_from_words, number_of, run_of, stands, stands_amiss};
 
 use crate::Command;
 use clap::ArgMatches;
@@ -11,7 +11,13 @@ use clap::parser::ValueSource;
 pub fn command_matched(matches: &ArgMatches<'_>) -> Option<Command>
     ensures { result ≡ command_matched (rows_of (found_of matches.now)) }
 {
-    let name = matches.get_str("command")?;
+    command_allowed(matches.get_str("command")?, matches)
+}
+
+// The command with this name, where what stands on the line goes with it.
+fn command_allowed(name: &str, matches: &ArgMatches<'_>) -> Option<Command>
+    ensures { result ≡ command_allowed (rows_of (found_of matches.now)) name.now }
+{
     if stands_amiss(name, matches) {
         None
     } else {
@@ -64,7 +70,13 @@ fn has_option(matches: &ArgMatches<'_>) -> bool
 fn stands(matches: &ArgMatches<'_>, id: &str) -> bool
     ensures { result ≡ stands id.now (rows_of (found_of matches.now)) }
 {
-    matches!(matches.value_source(id), Some(ValueSource::CommandLine))
+    is_from_words(matches.value_source(id))
+}
+
+fn is_from_words(source: Option<ValueSource>) -> bool
+    ensures { result ≡ is_from_words source }
+{
+    matches!(source, Some(ValueSource::CommandLine))
 }
 
 // The number of 32 bits that an argument has.
