@@ -42,7 +42,9 @@ fn command_named(name: &str, matches: &ArgMatches<'_>) -> Option<Command>
         "audit" => Some(Command::Audit),
         "report" => Some(Command::Report),
         "print" => Some(Command::Print),
-        "gen" => Some(Command::Gen { number: long_number(matches, "number")? }),
+        "gen" => Some(Command::Gen {
+            number: long_number(matches, "number")?,
+        }),
         _ => None,
     }
 }
@@ -63,7 +65,10 @@ fn run_of(matches: &ArgMatches<'_>) -> Option<Command>
 fn has_option(matches: &ArgMatches<'_>) -> bool
     ensures { result ≡ has_option (rows_of (found_of matches.now)) }
 {
-    stands(matches, "workers") || stands(matches, "jobs") || stands(matches, "seed") || stands(matches, "steps")
+    stands(matches, "workers")
+        || stands(matches, "jobs")
+        || stands(matches, "seed")
+        || stands(matches, "steps")
 }
 
 // Whether an argument stands on the line, so that its value is no default.

@@ -14,12 +14,12 @@ by_name rows name o found is =
     ap (λ (n : Option (Bor Text)). option_and_then (command_allowed rows) (option_map (λ s. s.now) n)) (sym is)
     ∙ ap (option_and_then (command_allowed rows)) found
 
-pub returns-in_err-name : goal.returns-in_err-name
-returns-in_err-name c =
+pub returns-in_err-get_str : goal.returns-in_err-get_str
+returns-in_err-get_str c =
     let found = c.get_str.ensures ∙ first_value-rows (found_of c.args.matches.now) (codes "command") in
-    c.from_residual.ensures ∙ by_name (rows_of (found_of c.args.matches.now)) _ _ found c.in_err-name.was
+    c.from_residual.ensures ∙ by_name (rows_of (found_of c.args.matches.now)) _ _ found c.in_err-get_str.was
 
 pub returns : goal.returns
 returns c =
     let found = c.get_str.ensures ∙ first_value-rows (found_of c.args.matches.now) (codes "command") in
-    c.command_allowed.ensures ∙ by_name (rows_of (found_of c.args.matches.now)) _ _ found c.in_ok-name.was
+    c.command_allowed.ensures ∙ by_name (rows_of (found_of c.args.matches.now)) _ _ found c.in_ok-get_str.was
