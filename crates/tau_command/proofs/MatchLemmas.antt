@@ -1,13 +1,12 @@
 -- The command of the words by what `clap` makes of them.
-use Rattle.std.proofs.Common.{◌≡◌, ◌∙◌, ap, refl, sym, true, List, [], ◌∷◌, ℕ, Option, Some, None}
+use Rattle.std.proofs.Common.{◌≡◌, ◌∙◌, ap, refl, sym, true, List, [], ◌∷◌, Option, Some, None}
 use Rattle.std.specs.Prelude.{option_and_then, option_map, find, Result, Ok, Err, IsErrAnd, IsErrOf}
 use Rattle.std.specs.Str.{bytes_eq}
 use Rattle.clap.specs.Facts.{Entry}
 use Rattle.clap.specs.Walk.{row_of}
-use Rattle.clap.specs.Words.{Kinds, Row, Text, fault_of, found_of, is_simple, is_simple_and_free, matched_of, matches_of, rows_of}
+use Rattle.clap.specs.Words.{Kinds, Row, Text, fault_of, is_simple, is_simple_and_free, matched_of, matches_of, rows_of}
 use Rattle.clap.specs.declared.parser.matches.Found.{Found}
 use Rattle.clap.specs.declared.parser.matches.MatchedArg.{MatchedArg}
-use Rattle.clap.specs.declared.parser.matches.ValueSource.{ValueSource}
 use Rattle.clap.proofs.OnLiterals.{clap_on_literals}
 use Rattle.clap.proofs.WalkLemmas.{find_row}
 use Rattle.tau_command.specs.Arguments.{tau_command}

@@ -1,5 +1,5 @@
 -- The simple command by which `clap` reads the words, as its data.
-use Rattle.std.specs.Prelude.{ℕ, List, [], ◌∷◌, Some, true, pos, codes}
+use Rattle.std.specs.Prelude.{[], ◌∷◌, Some, true, pos, codes}
 use Rattle.clap.specs.Simple.{new_shape}
 use Rattle.clap.specs.Words.{App, Rule, Text, new_rule}
 use Rattle.clap.specs.declared.builder.value_parser.ValueParser.{ValueParser}

