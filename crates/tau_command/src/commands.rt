@@ -19,7 +19,7 @@ pub enum Command {
     Run {
         /// How many workers run the program.
         workers: u32,
-        /// How many jobs a worker takes at a time.
+        /// How many jobs a worker holds at most.
         jobs: u32,
         /// The seed of the first worker's choices.
         seed: u64,
