@@ -1,0 +1,81 @@
+-- The command that the words of a command line name.
+use Rattle.std.specs.Prelude.{ℕ, Bool, true, false, not, ◌&&◌, ◌||◌, ◌^◌, List, [], ◌∷◌, Option, Some, None, find, codes}
+use Rattle.std.specs.Prelude.{if◌then◌else◌, nat_lt, option_map, option_and_then}
+use Rattle.std.specs.Str.{bytes_eq}
+use Rattle.std.specs.Str.Parse.{digits_value, without_leading_plus}
+use Rattle.clap.specs.ValueTests.{is_numeral}
+use Rattle.clap.specs.Words.{Kinds, Row, Text, fault_of, first_of, matches_of, one_of}
+use Rattle.clap.specs.declared.parser.matches.ValueSource.{ValueSource}
+use Rattle.clap.specs.declared.parser.matches.ValueSource.TheVariants.{CommandLine}
+use Rattle.tau_command.specs.Arguments.{tau_command}
+use Rattle.tau_command.specs.declared.commands.Command.{Command}
+use Rattle.tau_command.specs.declared.commands.Command.TheVariants.{Run, Check, Audit, Report, Print, Gen}
+
+-- ---- what the matches say
+
+abbrev pub is_from_words : Option ValueSource → Bool
+is_from_words (Some CommandLine) = true
+is_from_words source = false
+
+-- an argument stands on the line, so that its value is no default
+abbrev pub stands : Text → List Row → Bool
+stands id rows = is_from_words (option_and_then (λ r. r.source) (find (λ r. bytes_eq r.id id) rows))
+
+-- an option stands on the line
+abbrev pub has_option : List Row → Bool
+has_option rows = stands (codes "workers") rows
+    || (stands (codes "jobs") rows || (stands (codes "seed") rows || stands (codes "steps") rows))
+
+-- the number of at most so many bits that a text writes
+abbrev pub number_in : ℕ → Text → Option ℕ
+number_in bits text =
+    let digits = without_leading_plus text in
+    if is_numeral digits && nat_lt (digits_value 10 digits) (2 ^ bits)
+    then Some (digits_value 10 digits) else None
+
+-- the number that an argument has, on the line or by its default
+abbrev pub number_of : ℕ → Text → List Row → Option ℕ
+number_of bits id rows = option_and_then (number_in bits) (one_of id rows)
+
+-- ---- the command
+
+-- `run`, with its four numbers
+abbrev pub run_of : List Row → Option Command
+run_of rows =
+    option_and_then (λ workers. option_and_then (λ jobs. option_and_then (λ seed. option_map (λ steps.
+    Run workers jobs seed steps)
+    (number_of 32 (codes "steps") rows)) (number_of 64 (codes "seed") rows))
+    (number_of 32 (codes "jobs") rows)) (number_of 32 (codes "workers") rows)
+
+-- the command with a name; `gen` has its number
+abbrev pub command_named : Text → List Row → Option Command
+command_named name rows = if bytes_eq name (codes "run") then run_of rows
+    else (if bytes_eq name (codes "check") then Some Check
+    else (if bytes_eq name (codes "audit") then Some Audit
+    else (if bytes_eq name (codes "report") then Some Report
+    else (if bytes_eq name (codes "print") then Some Print
+    else (if bytes_eq name (codes "gen") then option_map (λ n. Gen n) (number_of 64 (codes "number") rows)
+    else None)))))
+
+-- an option stands with a command other than `run`, or a number with one other than `gen`
+abbrev pub stands_amiss : Text → List Row → Bool
+stands_amiss name rows = (has_option rows && not (bytes_eq name (codes "run")))
+    || (stands (codes "number") rows && not (bytes_eq name (codes "gen")))
+
+-- the command with a name, where what stands on the line goes with it
+abbrev pub command_allowed : List Row → Text → Option Command
+command_allowed rows name = if stands_amiss name rows then None else command_named name rows
+
+-- the command of the matches
+abbrev pub command_matched : List Row → Option Command
+command_matched rows = option_and_then (command_allowed rows) (first_of (codes "command") rows)
+
+-- a command, where the words have no fault
+abbrev pub where_faultless : Kinds → Option Command → Option Command
+where_faultless [] command = command
+where_faultless (kind ∷ kinds) command = None
+
+-- the command that the words name: `clap` has matches for them, and these name it
+unfoldable pub command_of : List Text → Option Command
+command_of words =
+    where_faultless (fault_of tau_command words) (command_matched (matches_of tau_command words))

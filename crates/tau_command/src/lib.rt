@@ -1,0 +1,13 @@
+//! The command that the words of a command line name (docs/formats.md, "Command line").
+#![tactic(auto)]
+
+mod arguments;
+mod commands;
+mod lines;
+mod matched;
+
+pub use commands::{Command, WordsError, read_words};
+pub use lines::{Line, Words};
+
+#[cfg(test)]
+mod tests;

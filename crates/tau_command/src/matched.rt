@@ -1,0 +1,99 @@
+//! What the matches of `clap` say.
+ghost use Rattle.std.specs.Prelude.{◌≡◌};
+ghost use Rattle.clap.specs.Words.{found_of, rows_of};
+ghost use Rattle.tau_command.specs.Commands.{command_allowed, command_matched, command_named, has_option, is_from_words, number_of, run_of, stands, stands_amiss};
+
+use crate::Command;
+use clap::ArgMatches;
+use clap::parser::ValueSource;
+
+/// The command of the matches.
+pub fn command_matched(matches: &ArgMatches<'_>) -> Option<Command>
+    ensures { result ≡ command_matched (rows_of (found_of matches.now)) }
+{
+    command_allowed(matches.get_str("command")?, matches)
+}
+
+// The command with this name, where what stands on the line goes with it.
+fn command_allowed(name: &str, matches: &ArgMatches<'_>) -> Option<Command>
+    ensures { result ≡ command_allowed (rows_of (found_of matches.now)) name.now }
+{
+    if stands_amiss(name, matches) {
+        None
+    } else {
+        command_named(name, matches)
+    }
+}
+
+// Whether an option stands with a command other than `run`, or a number with one other than `gen`.
+fn stands_amiss(name: &str, matches: &ArgMatches<'_>) -> bool
+    ensures { result ≡ stands_amiss name.now (rows_of (found_of matches.now)) }
+{
+    (has_option(matches) && name != "run") || (stands(matches, "number") && name != "gen")
+}
+
+// The command with this name.
+fn command_named(name: &str, matches: &ArgMatches<'_>) -> Option<Command>
+    ensures { result ≡ command_named name.now (rows_of (found_of matches.now)) }
+{
+    match name {
+        "run" => run_of(matches),
+        "check" => Some(Command::Check),
+        "audit" => Some(Command::Audit),
+        "report" => Some(Command::Report),
+        "print" => Some(Command::Print),
+        "gen" => Some(Command::Gen {
+            number: long_number(matches, "number")?,
+        }),
+        _ => None,
+    }
+}
+
+// The command `run` with its four numbers.
+fn run_of(matches: &ArgMatches<'_>) -> Option<Command>
+    ensures { result ≡ run_of (rows_of (found_of matches.now)) }
+{
+    Some(Command::Run {
+        workers: short_number(matches, "workers")?,
+        jobs: short_number(matches, "jobs")?,
+        seed: long_number(matches, "seed")?,
+        steps: short_number(matches, "steps")?,
+    })
+}
+
+// Whether an option stands on the line.
+fn has_option(matches: &ArgMatches<'_>) -> bool
+    ensures { result ≡ has_option (rows_of (found_of matches.now)) }
+{
+    stands(matches, "workers")
+        || stands(matches, "jobs")
+        || stands(matches, "seed")
+        || stands(matches, "steps")
+}
+
+// Whether an argument stands on the line, so that its value is no default.
+fn stands(matches: &ArgMatches<'_>, id: &str) -> bool
+    ensures { result ≡ stands id.now (rows_of (found_of matches.now)) }
+{
+    is_from_words(matches.value_source(id))
+}
+
+fn is_from_words(source: Option<ValueSource>) -> bool
+    ensures { result ≡ is_from_words source }
+{
+    matches!(source, Some(ValueSource::CommandLine))
+}
+
+// The number of 32 bits that an argument has.
+fn short_number(matches: &ArgMatches<'_>, id: &str) -> Option<u32>
+    ensures { result ≡ number_of 32 id.now (rows_of (found_of matches.now)) }
+{
+    matches.get_one::<u32>(id)
+}
+
+// The number of 64 bits that an argument has.
+fn long_number(matches: &ArgMatches<'_>, id: &str) -> Option<u64>
+    ensures { result ≡ number_of 64 id.now (rows_of (found_of matches.now)) }
+{
+    matches.get_one::<u64>(id)
+}
