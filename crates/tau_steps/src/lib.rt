@@ -10,3 +10,6 @@ mod rows;
 
 pub use errors::StepError;
 pub use reading::steps_of;
+
+#[cfg(test)]
+mod tests;

@@ -1,0 +1,63 @@
+//! `tau run` where the sink fails in the middle of the text, and where the source fails at once: the status, and what the
+//! sink then holds, on a line of its own.
+#![tactic(auto)]
+
+use std::alloc::{AllocError, Global};
+use std::process::ExitCode;
+use tau_cli::{Line, Words, number, tau_still};
+use tau_io::{
+    MemorySink, MemorySource, Sink, Source, StdSink, SteadySink, SteadySource, write_all_of,
+};
+
+const PROGRAM: &str = "(nodes 1)(behaviour copy (seq (get) (set msg)))(start a copy 0 0)(post a 5)";
+
+fn main(rt: HostRuntime) -> ExitCode {
+    let Ok(text) = text_of(rt.alloc()) else {
+        return ExitCode::from(7);
+    };
+    match write_all_of(&mut StdSink::new(rt.stdout()), &text) {
+        Ok(()) => ExitCode::from(0),
+        Err(_) => ExitCode::from(6),
+    }
+}
+
+fn text_of(alloc: Global) -> Result<Vec<u8>, AllocError> {
+    let mut text = Vec::new(alloc);
+    // Pieces of 16 bytes, of which the third fails.
+    let mut sink = MemorySink::new(alloc, 16, numbers(alloc, 2)?);
+    let status = run(alloc, &mut SteadySource::new(program(alloc)?), &mut sink)?;
+    add(&mut text, status, sink.bytes())?;
+    let mut source = MemorySource::new(program(alloc)?, 16, numbers(alloc, 0)?);
+    let mut held = SteadySink::new(alloc);
+    let status = run(alloc, &mut source, &mut held)?;
+    add(&mut text, status, held.bytes())?;
+    Ok(text)
+}
+
+fn program(alloc: Global) -> Result<Vec<u8>, AllocError> {
+    Vec::from_slice(alloc, PROGRAM.as_bytes())
+}
+
+// The list of this one number.
+fn numbers(alloc: Global, number: u32) -> Result<Vec<u32>, AllocError> {
+    let mut numbers = Vec::new(alloc);
+    numbers.push(number)?;
+    Ok(numbers)
+}
+
+// The number of the status of `tau run`.
+fn run<I: Source, O: Sink>(alloc: Global, input: &mut I, output: &mut O) -> Result<u8, AllocError> {
+    let mut words = Words::new(alloc);
+    if let Err((_line, error)) = words.push(Line::of(alloc, "run")?) {
+        return Err(error);
+    }
+    Ok(number(&tau_still(alloc, &words, input, output)))
+}
+
+fn add(text: &mut Vec<u8>, status: u8, held: &[u8]) -> Result<(), AllocError> {
+    text.push(b'0' + status % 10)?;
+    text.push(b'\n')?;
+    text.extend_from_slice(held)?;
+    text.push(b'\n')?;
+    Ok(())
+}
