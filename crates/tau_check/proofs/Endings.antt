@@ -25,7 +25,7 @@ use Rattle.tau_eval.specs.Turn as jobs
 use Rattle.tau_rules.specs.System.{Core, with_step}
 use Rattle.tau_check.specs.Families.{received_by, turn_of}
 use Rattle.tau_check.specs.Jobs.{HasJobs}
-use Rattle.tau_check.specs.Checkers.{IsChecker, HasAsked, GoesOn}
+use Rattle.tau_check.specs.Checkers.{IsChecker, HasAsked, GoesOn, NothingLeft}
 use Rattle.tau_check.proofs.Kept.{jobs_after_due}
 
 -- a legal trace fits
@@ -171,3 +171,10 @@ due_incomplete P T c (Some d) asked some whole =
 pub none_due : (P : Program) (T : Run) (c : Cursor) (due : Option Step) → HasAsked P T c due → is_some due ≡ false → NoneDue P.script T (len T)
 none_due P T c None asked none = is_due P T c None asked
 none_due P T c (Some d) asked none = absurd (cc)
+
+-- so a run is complete where no step is due and nothing is left
+pub complete_where : (P : Program) (T : Run) (c : Cursor) (due : Option Step) (b : Bool) → HasAsked P T c due → is_some due ≡ false → IsTrue b ↔ NothingLeft T → IsTrue b ↔ Complete P T
+complete_where P T c due b asked none told = (
+  λ h. record { none_due = none_due P T c due asked none; no_turn = (told.0 h).no_turn; none_in_flight = (told.0 h).none_in_flight },
+  λ whole. told.1 (record { no_turn = whole.no_turn; none_in_flight = whole.none_in_flight }),
+)

@@ -4,6 +4,8 @@ use Rattle.tau_tree.specs.declared.programs.Program.{Program}
 use Rattle.tau_trace.specs.declared.step.Step.{Step}
 use Rattle.tau_trace.specs.Run.{Run, len, Agree}
 use Rattle.tau_trace.specs.Known.{WellFormed}
+use Rattle.tau_trace.specs.Numbering.{InFlight}
+use Rattle.tau_trace.specs.Turns.{Turn}
 use Rattle.tau_script.specs.declared.cursor.Cursor.{Cursor}
 use Rattle.tau_script.specs.Cursors.{CursorAt, IsCurrent, IsDueAt}
 use Rattle.tau_legal.specs.Traces.{IsLegal, Legal}
@@ -42,3 +44,8 @@ pub record HasCome (P : Program) (T : Run) (k : ℕ) (core : Core) (cursor : Cur
   pub length : len core.run ≡ k
   pub agree : Agree T core.run k
   pub checker : IsChecker core.program core.run cursor js
+
+-- no turn is open after the run, and no message is in flight
+pub record NothingLeft (T : Run) : Type 0 where
+  pub no_turn : (t place m : ℕ) → ¬ Turn T t (len T) place m
+  pub none_in_flight : (m : ℕ) → ¬ InFlight T m (len T)

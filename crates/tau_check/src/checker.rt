@@ -13,7 +13,7 @@ ghost use Rattle.tau_check.specs.Families.{received_by as received_message, turn
 ghost use Rattle.tau_check.specs.Jobs.{HasJobs, HasOtherJobs};
 ghost use Rattle.tau_check.specs.Checkers.{IsChecker, HasAsked, IsChecked};
 
-use crate::ends::{none_in_flight, none_open};
+use crate::ends::nothing_left;
 use crate::families::{received_by, turn_of};
 use crate::jobs::{keep_after, keep_begun, take_job};
 use crate::making::{make_due, make_step};
@@ -71,8 +71,7 @@ impl<'p> Checker<'p> {
         if self.due().is_some() {
             return false;
         }
-        let trace = self.system.trace();
-        none_open(trace) && none_in_flight(trace)
+        nothing_left(self.system.trace())
     }
 
     // The due step of the script.
@@ -81,6 +80,7 @@ impl<'p> Checker<'p> {
         ensures system { self.new.system ≡ self.old.system }
         ensures jobs { self.new.jobs.items ≡ self.old.jobs.items }
         ensures asked { HasAsked self.new.system.program self.new.system.run self.new.cursor result }
+        ensures has_jobs { HasJobs self.new.system.program self.new.system.run self.new.jobs.items }
         ensures entries { length self.new.system.program.script ≤ 4096 }
         ensures entry { IfSome result (λ s. self.new.cursor.entry < length self.new.system.program.script) }
         ensures who { IfSome result (λ s. (t : ℕ) → s ≡ steps.Fail t → t < u32.MAX) }

@@ -31,7 +31,8 @@ pub fn check(alloc: Global, program: &Program, trace: &Trace) -> Result<Legality
         let Some(step) = trace.step(place) else {
             unreachable!()
         };
-        if !checker.step(step)? {
+        let is_legal = checker.step(step)?;
+        if !is_legal {
             return Ok(Legality::Bad { place });
         }
     }

@@ -4,11 +4,23 @@ ghost use Rattle.tau_trace.specs.Run.{len};
 ghost use Rattle.tau_trace.specs.Numbering.{InFlight};
 ghost use Rattle.tau_trace.specs.Known.{WellFormed};
 ghost use Rattle.tau_trace.specs.Turns.{Turn};
+ghost use Rattle.tau_check.specs.Checkers.{NothingLeft};
 
 use tau_trace::Trace;
 
-/// Whether no turn is open.
-pub(crate) fn none_open(trace: &Trace) -> bool
+/// Whether no turn is open and no message is in flight.
+pub(crate) fn nothing_left(trace: &Trace) -> bool
+    requires { WellFormed trace.now.run }
+    ensures { IsTrue result ↔ NothingLeft trace.now.run }
+{
+    if !none_open(trace) {
+        return false;
+    }
+    none_in_flight(trace)
+}
+
+// Whether no turn is open.
+fn none_open(trace: &Trace) -> bool
     requires { WellFormed trace.now.run }
     ensures { IsTrue result ↔ ((t place m : ℕ) → ¬ Turn trace.now.run t (len trace.now.run) place m) }
 {
@@ -21,8 +33,8 @@ pub(crate) fn none_open(trace: &Trace) -> bool
     true
 }
 
-/// Whether no message is in flight.
-pub(crate) fn none_in_flight(trace: &Trace) -> bool
+// Whether no message is in flight.
+fn none_in_flight(trace: &Trace) -> bool
     ensures { IsTrue result ↔ ((m : ℕ) → ¬ InFlight trace.now.run m (len trace.now.run)) }
 {
     let count = trace.sent();

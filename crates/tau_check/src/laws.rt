@@ -3,7 +3,6 @@ ghost use Rattle.tau_check.specs.Families.{OneStepOfAFamilyFits};
 
 /// Of the receipts of a message, and of the steps of a transactor's open turn, one fits at most (docs/definitions.md,
 /// "Fitting and legal steps").
-#[tactic(auto, using(crate::proofs::FamilyLemmas::one_of_a_family))]
 pub fn one_step_of_a_family_fits()
     ensures { OneStepOfAFamilyFits }
 {}
