@@ -25,7 +25,7 @@ pub(crate) fn keep_job<'p>(
     jobs: &mut Vec<Option<Job<'p>>>,
     job: Job<'p>,
 ) -> Result<(), AllocError>
-    ensures { OnOk result (IsKeptWith jobs.old.items jobs.new.items job) }
+    ensures { OnOk result (IsKeptWith jobs.old.items jobs.new.items job.entry) }
 {
     let place = job.who() as usize;
     make_places(jobs, place + 1)?;
