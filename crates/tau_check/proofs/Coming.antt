@@ -72,9 +72,9 @@ module _ (P : Program) (T : Run) (k : ℕ) (core : Core) (c : Cursor) (js : List
 
   -- a step that isn't legal after the run isn't legal in the trace
   next_illegal : (s : Step) → step_at T k ≡ Some s → ¬ IsLegal core.program core.run (len core.run) s → ¬ IsLegal P T k s
-  next_illegal s e no l =
+  next_illegal s e refused l =
       let there : IsLegal P core.run k s = legal_same P T core.run k s v h.checker.well_formed h.agree (v.known k s e) l in
-      no (subst (λ (p : Program). IsLegal p core.run (len core.run) s) (sym h.program) (subst (λ n. IsLegal P core.run n s) (sym h.length) there))
+      refused (subst (λ (p : Program). IsLegal p core.run (len core.run) s) (sym h.program) (subst (λ n. IsLegal P core.run n s) (sym h.length) there))
 
   -- the steps before are legal in the trace
   earlier_legal : (j : ℕ) (s : Step) → j < k → step_at T j ≡ Some s → IsLegal P T j s
@@ -85,7 +85,7 @@ module _ (P : Program) (T : Run) (k : ℕ) (core : Core) (c : Cursor) (js : List
 
   -- so it is the first that isn't
   pub first_illegal : (s : Step) → step_at T k ≡ Some s → ¬ IsLegal core.program core.run (len core.run) s → IsFirstIllegal P T k
-  first_illegal s e no = record { step = s; stands = e; illegal = next_illegal s e no; earlier = earlier_legal }
+  first_illegal s e refused = record { step = s; stands = e; illegal = next_illegal s e refused; earlier = earlier_legal }
 
   -- the checker comes to the place after a legal step
   pub come_after : (new : Core) (d : Cursor) (ks : List (Option jobs.Turn)) (s : Step) → step_at T k ≡ Some s → GoesOn core new d ks s → HasCome P T (k + 1) new d ks

@@ -27,11 +27,6 @@ one_more_idle T n None idle some below t place m lt u = ⊎_elim
     (below_or_last t n lt)
 one_more_idle T n (Some p) h some below t place m lt u = absurd (cc)
 
--- a turn that is open
-pub some_open : (T : Run) (n : ℕ) (r : Option ℕ) → IsOpenTurn T n (len T) r → is_some r ≡ true → ¬ ((t place m : ℕ) → ¬ Turn T t (len T) place m)
-some_open T n None h some all = absurd (cc)
-some_open T n (Some p) h some all = all n p h.0 h.1
-
 -- each open turn is of a transactor that exists
 pub all_idle : (T : Run) → WellFormed T → NoneOpenBelow T (born T (len T)) → (t place m : ℕ) → ¬ Turn T t (len T) place m
 all_idle T w below t place m u = below t place m (taker_exists T w t place (m, u.takes)) u

@@ -70,8 +70,8 @@ module _ (P : Program) (T : Run) (c : Cursor) where
       (λ (h : DueStep P.script T (len T) s). ne (same_some (one_step P.script T (len T) (Some d) (Some s) (is_due (Some d) asked) h)))
       (λ h. contrary (one_step P.script T (len T) None (Some d) h.0 (is_due (Some d) asked)))
       l.allowed where
-    contrary : ¬ (None ≡ Some d)
-    contrary e = cc
+        contrary : ¬ (None ≡ Some d)
+        contrary e = cc
 
   -- a due step has its object
   pub due_object : (d : Step) → HasAsked P T c (Some d) → HasObject T (len T) d
@@ -91,11 +91,11 @@ module _ (P : Program) (T : Run) (c : Cursor) where
       (λ (h : DueStep P.script T (len T) s). contrary (one_step P.script T (len T) None (Some s) (is_due None asked) h))
       (λ h. both (sym h.1 ∙ fails_here))
       l.allowed where
-    contrary : ¬ (None ≡ Some s)
-    contrary e = cc
+        contrary : ¬ (None ≡ Some s)
+        contrary e = cc
 
-    both : ¬ (false ≡ true)
-    both e = cc
+        both : ¬ (false ≡ true)
+        both e = cc
 
   -- and another step is legal where it fits
   pub fitting_legal : (s : Step) → HasAsked P T c None → IsFalse (is_failure s) → Fits P T (len T) s → IsLegal P T (len T) s

@@ -90,7 +90,7 @@ by_verdict_once T k m s r g h =
     receipt_is T h.who m k h.kind s r first h.is
 
 -- one receipt of a message fits
-one_receipt : (P : Program) (T : Run) (k m : ℕ) (s r : Step) → received_by s ≡ Some m → received_by r ≡ Some m → Fits P T k s → Fits P T k r → s ≡ r
+pub one_receipt : (P : Program) (T : Run) (k m : ℕ) (s r : Step) → received_by s ≡ Some m → received_by r ≡ Some m → Fits P T k s → Fits P T k r → s ≡ r
 one_receipt P T k m s r e d f g = by (receipt P T k m s e f) (receipt P T k m r d g) where
   by : IsByVerdict T k m s ⊎ IsLate T k m s → IsByVerdict T k m r ⊎ IsLate T k m r → s ≡ r
   by (inl a) (inl b) = by_verdict_once T k m s r a b
@@ -132,7 +132,7 @@ of_own : (P : Program) (T : Run) (t u k : ℕ) (s : Step) → t ≡ u → IsOfEf
 of_own P T t u k s same h = subst (λ x. IsOfEffect P T x k s) same h
 
 -- each step of an open turn that fits is one of its effect
-of_effect : (P : Program) (T : Run) (t k : ℕ) (s : Step) → turn_of s ≡ Some t → Fits P T k s → IsOfEffect P T t k s
+pub of_effect : (P : Program) (T : Run) (t k : ℕ) (s : Step) → turn_of s ≡ Some t → Fits P T k s → IsOfEffect P T t k s
 of_effect P T t k (Get u) e f = of_own P T u t k (Get u) (same_some e) (record { effect = eff.get; has = f; row = refl })
 of_effect P T t k (Set u v) e f = of_own P T u t k (Set u v) (same_some e) (record { effect = eff.set (val_of v); has = f.0; row = inl (v, refl, refl, f.1) })
 of_effect P T t k (Skip u) e f = of_own P T u t k (Skip u) (same_some e) (record { effect = eff.set f.0; has = f.1; row = inr (refl, f.2) })
@@ -184,7 +184,7 @@ row_once T t k eff.done s r f g = f ∙ sym g
 row_once T t k (eff.trap c) s r f g = f ∙ sym g
 
 -- one step of a transactor's open turn fits
-one_turn_step : (P : Program) (T : Run) (k t : ℕ) (s r : Step) → T.opening ≡ program_opening P → turn_of s ≡ Some t → turn_of r ≡ Some t → Fits P T k s → Fits P T k r → s ≡ r
+pub one_turn_step : (P : Program) (T : Run) (k t : ℕ) (s r : Step) → T.opening ≡ program_opening P → turn_of s ≡ Some t → turn_of r ≡ Some t → Fits P T k s → Fits P T k r → s ≡ r
 one_turn_step P T k t s r opens e d f g =
     let one = of_effect P T t k s e f in
     let two = of_effect P T t k r d g in

@@ -63,8 +63,8 @@ module _ (P : Program) (T : Run) (s : Step) (v : WellFormed T) (w : WellFormed (
       (λ x. job_after js js t (λ e. nobody (sym none ∙ e)) (h t place m x) (λ o e. e))
       (λ e. absurd (nobody (sym none ∙ ap actor e.1)))
       (earlier T s t place m u) where
-    nobody : ¬ (None ≡ Some t)
-    nobody e = cc
+        nobody : ¬ (None ≡ Some t)
+        nobody e = cc
 
   -- after a due step
   pub jobs_after_due : (js : List (Option jobs.Turn)) → HasObject T (len T) s → HasJobs P T js → HasJobs P (appended T s) js
@@ -72,6 +72,6 @@ module _ (P : Program) (T : Run) (s : Step) (v : WellFormed T) (w : WellFormed (
       (λ e. jobs_after_end e.0 js (ap actor e.1) (ap ends_turn e.1) (λ t place m ne u. h t place m u))
       (λ e. jobs_after_nobody js (ap actor e.1) h)
       (kind s object) where
-    kind : (r : Step) → HasObject T (len T) r → ((t : ℕ) × (r ≡ Fail t)) ⊎ ((m : ℕ) × (r ≡ Lose m))
-    kind r (fails {t = t} lt living) = inl (t, refl)
-    kind r (loses {m = m} f) = inr (m, refl)
+        kind : (r : Step) → HasObject T (len T) r → ((t : ℕ) × (r ≡ Fail t)) ⊎ ((m : ℕ) × (r ≡ Lose m))
+        kind r (fails {t = t} lt living) = inl (t, refl)
+        kind r (loses {m = m} f) = inr (m, refl)

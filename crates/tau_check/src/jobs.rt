@@ -21,10 +21,7 @@ pub(crate) fn take_job<'p>(jobs: &mut Vec<Option<Job<'p>>>, who: u32) -> Job<'p>
 }
 
 /// Keeps a job at the place of its transactor.
-pub(crate) fn keep_job<'p>(
-    jobs: &mut Vec<Option<Job<'p>>>,
-    job: Job<'p>,
-) -> Result<(), AllocError>
+pub(crate) fn keep_job<'p>(jobs: &mut Vec<Option<Job<'p>>>, job: Job<'p>) -> Result<(), AllocError>
     ensures { OnOk result (IsKeptWith jobs.old.items jobs.new.items job.entry) }
 {
     let place = job.who() as usize;

@@ -20,29 +20,77 @@ pub(crate) fn same_step(one: &Step, two: &Step) -> bool
     ensures { IsTrue result ↔ (one.now ≡ two.now) }
 {
     match (one, two) {
-        (Step::Take { who, message }, Step::Take { who: other, message: named })
-        | (Step::Drop { who, message }, Step::Drop { who: other, message: named })
-        | (Step::Fall { who, message }, Step::Fall { who: other, message: named })
-        | (Step::Void { who, message }, Step::Void { who: other, message: named }) => {
-            who == other && message == named
-        }
-        (Step::Set { who, value }, Step::Set { who: other, value: state }) => {
-            who == other && same_value(value, state)
-        }
+        (
+            Step::Take { who, message },
+            Step::Take {
+                who: other,
+                message: named,
+            },
+        )
+        | (
+            Step::Drop { who, message },
+            Step::Drop {
+                who: other,
+                message: named,
+            },
+        )
+        | (
+            Step::Fall { who, message },
+            Step::Fall {
+                who: other,
+                message: named,
+            },
+        )
+        | (
+            Step::Void { who, message },
+            Step::Void {
+                who: other,
+                message: named,
+            },
+        ) => { who == other && message == named }
+        (
+            Step::Set { who, value },
+            Step::Set {
+                who: other,
+                value: state,
+            },
+        ) => { who == other && same_value(value, state) }
         (
             Step::Send { who, to, value },
-            Step::Send { who: other, to: receiver, value: sent },
+            Step::Send {
+                who: other,
+                to: receiver,
+                value: sent,
+            },
         ) => who == other && to == receiver && same_value(value, sent),
         (
-            Step::New { who, behaviour, node, state },
-            Step::New { who: other, behaviour: named, node: home, state: given },
+            Step::New {
+                who,
+                behaviour,
+                node,
+                state,
+            },
+            Step::New {
+                who: other,
+                behaviour: named,
+                node: home,
+                state: given,
+            },
         ) => who == other && behaviour == named && node == home && same_value(state, given),
-        (Step::Ask { who, answer }, Step::Ask { who: other, answer: given }) => {
-            who == other && answer == given
-        }
-        (Step::Trap { who, code }, Step::Trap { who: other, code: given }) => {
-            who == other && code == given
-        }
+        (
+            Step::Ask { who, answer },
+            Step::Ask {
+                who: other,
+                answer: given,
+            },
+        ) => { who == other && answer == given }
+        (
+            Step::Trap { who, code },
+            Step::Trap {
+                who: other,
+                code: given,
+            },
+        ) => { who == other && code == given }
         (Step::Get { who }, Step::Get { who: other })
         | (Step::Skip { who }, Step::Skip { who: other })
         | (Step::Stabilize { who }, Step::Stabilize { who: other })

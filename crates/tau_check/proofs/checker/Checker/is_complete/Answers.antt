@@ -8,9 +8,10 @@ use Rattle.tau_check.proofs.checker.Checker.is_complete.Goals as goal
 
 pub returns-then-is_some : goal.returns-then-is_some
 returns-then-is_some c =
-    let now : Core = c.due.new.self.system in
-    (λ h. absurd (cc),
-    λ whole. absurd (due_incomplete now.program now.run c.due.new.self.cursor c.due.result c.due.ensures.asked (sym c.is_some.ensures ∙ c.if-is_some.true) (subst (λ (k : Core). Complete k.program k.run) (sym c.due.ensures.system) whole)))
+    let now : Core = c.due.new.self.system in (
+      λ h. absurd (cc),
+      λ whole. absurd (due_incomplete now.program now.run c.due.new.self.cursor c.due.result c.due.ensures.asked (sym c.is_some.ensures ∙ c.if-is_some.true) (subst (λ (k : Core). Complete k.program k.run) (sym c.due.ensures.system) whole)),
+    )
 
 pub returns : goal.returns
 returns c =
