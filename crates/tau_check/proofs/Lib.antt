@@ -1,0 +1,10 @@
+pub mod Turns
+pub mod Once
+pub mod JobLemmas
+pub mod FamilyLemmas
+pub mod Kept
+pub mod Endings
+pub mod Receipts
+pub mod TurnSteps
+pub mod Coming
+pub mod EndLemmas

@@ -1,0 +1,51 @@
+-- What the checker keeps of the steps before a place, and what it finds of the step there.
+use Rattle.std.specs.Prelude.{◌≡◌, ℕ, Bool, true, false, List, Option}
+use Rattle.tau_tree.specs.declared.programs.Program.{Program}
+use Rattle.tau_trace.specs.declared.step.Step.{Step}
+use Rattle.tau_trace.specs.Run.{Run, len, Agree}
+use Rattle.tau_trace.specs.Known.{WellFormed}
+use Rattle.tau_trace.specs.Numbering.{InFlight}
+use Rattle.tau_trace.specs.Turns.{Turn}
+use Rattle.tau_script.specs.declared.cursor.Cursor.{Cursor}
+use Rattle.tau_script.specs.Cursors.{CursorAt, IsCurrent, IsDueAt}
+use Rattle.tau_legal.specs.Traces.{IsLegal, Legal}
+use Rattle.tau_eval.specs.Turn as jobs
+use Rattle.tau_rules.specs.System.{Core, with_step}
+use Rattle.tau_check.specs.Jobs.{HasJobs}
+
+-- the run is legal, the cursor is the script's, and the job of each open turn is kept
+pub record IsChecker (P : Program) (T : Run) (cursor : Cursor) (js : List (Option jobs.Turn)) : Type 0 where
+  pub well_formed : WellFormed T
+  pub legal : Legal P T
+  pub current : IsCurrent P.script T (len T) cursor
+  pub has_jobs : HasJobs P T js
+
+-- the checker of a legal run has asked which step is due
+pub record HasAsked (P : Program) (T : Run) (cursor : Cursor) (due : Option Step) : Type 0 where
+  pub well_formed : WellFormed T
+  pub legal : Legal P T
+  pub stands : CursorAt P.script T (len T) cursor
+  pub due_is : IsDueAt P.script T (len T) cursor due
+
+-- the step is legal and was appended
+pub record GoesOn (old new : Core) (cursor : Cursor) (js : List (Option jobs.Turn)) (s : Step) : Type 0 where
+  pub legal : IsLegal old.program old.run (len old.run) s
+  pub appended : new ≡ with_step old s
+  pub checker : IsChecker new.program new.run cursor js
+
+-- the step is legal and was appended; or it isn't legal
+abbrev pub IsChecked : Core → Core → Cursor → List (Option jobs.Turn) → Step → Bool → Type 0
+IsChecked old new cursor js s true = GoesOn old new cursor js s
+IsChecked old new cursor js s false = ¬ IsLegal old.program old.run (len old.run) s
+
+-- the checker has come to place k of a trace: its run is the steps before k, and each of them is legal
+pub record HasCome (P : Program) (T : Run) (k : ℕ) (core : Core) (cursor : Cursor) (js : List (Option jobs.Turn)) : Type 0 where
+  pub program : core.program ≡ P
+  pub length : len core.run ≡ k
+  pub agree : Agree T core.run k
+  pub checker : IsChecker core.program core.run cursor js
+
+-- no turn is open after the run, and no message is in flight
+pub record NothingLeft (T : Run) : Type 0 where
+  pub no_turn : (t place m : ℕ) → ¬ Turn T t (len T) place m
+  pub none_in_flight : (m : ℕ) → ¬ InFlight T m (len T)

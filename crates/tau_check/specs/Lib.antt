@@ -1,0 +1,4 @@
+pub mod Legality
+pub mod Families
+pub mod Jobs
+pub mod Checkers

@@ -1,0 +1,18 @@
+//! Whether a trace is legal (docs/definitions.md, "Fitting and legal steps").
+#![tactic(auto)]
+
+mod checker;
+mod checking;
+mod ends;
+mod families;
+mod jobs;
+mod laws;
+mod making;
+mod reading;
+mod same;
+
+pub use checking::{Legality, check};
+pub use laws::one_step_of_a_family_fits;
+
+#[cfg(test)]
+mod tests;
