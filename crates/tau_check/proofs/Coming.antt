@@ -1,10 +1,10 @@
 -- The checker comes to each place of a trace, and tells of the whole trace.
-use Rattle.std.proofs.Common.{◌≡◌, ◌⊎◌, ◌↔◌, inl, inr, ⊎_elim, ℕ, zero, suc, ◌+◌, ◌<◌, ◌≤◌, Bool, IsTrue, Option, Some, List, [], ◌∷◌, ◌++◌, length, refl, sym, ap, ◌∙◌, subst, arith}
+use Rattle.std.proofs.Common.{◌≡◌, ◌⊎◌, ◌↔◌, inr, ⊎_elim, ℕ, suc, ◌+◌, ◌<◌, Bool, IsTrue, Option, Some, List, [], ◌∷◌, length, refl, sym, ap, ◌∙◌, subst, arith}
 use Rattle.std.specs.Prelude.{slice_get}
 use Rattle.std.proofs.lemmas.Option.{slice_get_within}
 use Rattle.tau_tree.specs.declared.programs.Program.{Program}
 use Rattle.tau_trace.specs.declared.step.Step.{Step}
-use Rattle.tau_trace.specs.Run.{Run, Agree, len, step_at, appended}
+use Rattle.tau_trace.specs.Run.{Run, len, step_at}
 use Rattle.tau_trace.specs.Numbering.{born, sent}
 use Rattle.tau_trace.specs.Known.{IsSound, IsKnown, IsKnownAt, MayFollow, WellFormed}
 use Rattle.tau_trace.proofs.Lists.{same_some, slice_get-front}
@@ -16,7 +16,7 @@ use Rattle.tau_script.specs.Openings.{program_opening}
 use Rattle.tau_legal.specs.Traces.{IsLegal, Legal, Complete}
 use Rattle.tau_legal.proofs.TraceLemmas.{legal_same}
 use Rattle.tau_eval.specs.Turn as jobs
-use Rattle.tau_rules.specs.System.{Core, with_step}
+use Rattle.tau_rules.specs.System.{Core}
 use Rattle.tau_check.specs.Legality.{IsFirstIllegal}
 use Rattle.tau_check.specs.Checkers.{IsChecker, GoesOn, HasCome}
 use Rattle.tau_check.proofs.Endings.{last_step}

@@ -1,10 +1,10 @@
 -- Which step is legal at the end of a run, and what the checker keeps after it.
-use Rattle.std.proofs.Common.{◌≡◌, ◌≢◌, ◌⊎◌, ◌↔◌, inl, inr, ⊎_elim, ℕ, suc, ◌<◌, Bool, true, false, IsTrue, Option, Some, None, List, refl, sym, ap, ◌∙◌, subst, arith}
+use Rattle.std.proofs.Common.{◌≡◌, ◌≢◌, ◌↔◌, inl, inr, ⊎_elim, ℕ, ◌<◌, Bool, true, false, IsTrue, Option, Some, None, List, refl, sym, ap, ◌∙◌, subst}
 use Rattle.std.specs.Prelude.{IsFalse}
 use Rattle.std.specs.Option.{is_some}
 use Rattle.tau_tree.specs.declared.programs.Program.{Program}
 use Rattle.tau_trace.specs.declared.step.Step.{Step}
-use Rattle.tau_trace.specs.declared.step.Step.TheVariants.{Take, Drop, Fall, Void, Get, Set, Skip, Send, New, Stabilize, Ask, Checkpoint, Hold, Rollback, Stay, Done, Trap, Fail, Lose}
+use Rattle.tau_trace.specs.declared.step.Step.TheVariants.{Take, Drop, Fall, Void, Fail, Lose}
 use Rattle.tau_trace.specs.Run.{Run, len, appended, step_at}
 use Rattle.tau_trace.specs.Known.{WellFormed, MayFollow, IsKnownAt}
 use Rattle.tau_trace.specs.Numbering.{sent}
@@ -13,7 +13,7 @@ use Rattle.tau_trace.proofs.Agreement.{agree_sym, agree_appended, step_at-append
 use Rattle.tau_trace.proofs.Indexing.{len-appended, well_formed_appended}
 use Rattle.tau_script.specs.declared.cursor.Cursor.{Cursor}
 use Rattle.tau_script.specs.Cursors.{ComesTo, IsCurrent, moved_past, moved_past_due}
-use Rattle.tau_script.specs.Scripts.{IsDue, DueStep, NoneDue, Allows, HasObject, fails, loses, is_failure}
+use Rattle.tau_script.specs.Scripts.{IsDue, DueStep, NoneDue, HasObject, fails, loses, is_failure}
 use Rattle.tau_script.proofs.Same.{goes_on as cursors_go_on}
 use Rattle.tau_script.proofs.Determined.{one_step}
 use Rattle.tau_script.proofs.Passing.{object}

@@ -1,13 +1,11 @@
 -- One step of a family fits: the receipts of a message, by its receiver and the verdict; the steps of a turn, by its effect.
-use Rattle.std.proofs.Common.{◌≡◌, ◌⊎◌, ◌↔◌, inl, inr, ⊎_elim, ℕ, suc, ◌<◌, ◌≤◌, Bool, true, false, IsTrue, Option, Some, None, List, refl, sym, ap, ◌∙◌, subst, arith}
+use Rattle.std.proofs.Common.{◌≡◌, ◌⊎◌, ◌↔◌, inl, inr, ℕ, suc, ◌<◌, ◌≤◌, Bool, true, false, IsTrue, Some, List, refl, sym, ap, ◌∙◌, subst, arith}
 use Rattle.tau_value.specs.declared.shared.Value.{Value}
-use Rattle.tau_value.specs.Val.{Val}
 use Rattle.tau_value.specs.Value.{val_of}
 use Rattle.tau_value.proofs.ValueLemmas.{val_of_inj}
 use Rattle.tau_tree.specs.declared.programs.Program.{Program}
-use Rattle.tau_tree.specs.Code.{Code}
 use Rattle.tau_trace.specs.declared.step.Step.{Step}
-use Rattle.tau_trace.specs.declared.step.Step.TheVariants.{Take, Drop, Fall, Void, Get, Set, Skip, Send, New, Stabilize, Ask, Checkpoint, Hold, Rollback, Stay, Done, Trap, Fail, Lose}
+use Rattle.tau_trace.specs.declared.step.Step.TheVariants.{Take, Drop, Fall, Void, Get, Set, Skip, Send, New, Stabilize, Ask, Checkpoint, Hold, Rollback, Stay, Done, Trap}
 use Rattle.tau_trace.specs.Run.{Run, step_at}
 use Rattle.tau_trace.specs.Numbering.{born, Receives}
 use Rattle.tau_trace.specs.Histories.{Ended, IsLiving}
@@ -20,9 +18,9 @@ use Rattle.tau_eval.specs.Eff.{Eff}
 use Rattle.tau_eval.specs.Eff as eff
 use Rattle.tau_eval.specs.Meaning.{next}
 use Rattle.tau_legal.specs.Turns.{HasValue, RepliesOf, TurnHas}
-use Rattle.tau_legal.specs.Fits.{Fits, Arrives, ArrivesLate, IsStable, IsVolatile, most_transactors}
+use Rattle.tau_legal.specs.Fits.{Fits, IsStable, IsVolatile, most_transactors}
 use Rattle.tau_rules.proofs.ActLemmas.{one_open_turn}
-use Rattle.tau_check.specs.Families.{received_by, turn_of, AreOfOneFamily, receipts, turn_steps, OneStepOfAFamilyFits}
+use Rattle.tau_check.specs.Families.{received_by, turn_of, receipts, turn_steps, OneStepOfAFamilyFits}
 use Rattle.tau_check.proofs.Once.{body_once, value_once, replies_once, same_taken}
 
 -- the verdict of a message is one

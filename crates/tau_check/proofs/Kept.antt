@@ -1,9 +1,9 @@
 -- The jobs that are kept after one more step.
-use Rattle.std.proofs.Common.{◌≡◌, ◌≢◌, ◌⊎◌, inl, inr, ⊎_elim, ℕ, suc, ◌<◌, IsTrue, Option, Some, None, List, refl, sym, ap, ◌∙◌, subst, arith}
+use Rattle.std.proofs.Common.{◌≡◌, ◌≢◌, ◌⊎◌, inl, inr, ⊎_elim, ℕ, IsTrue, Option, Some, None, List, refl, sym, ap, ◌∙◌, subst, arith}
 use Rattle.std.specs.Prelude.{slice_get}
 use Rattle.tau_tree.specs.declared.programs.Program.{Program}
 use Rattle.tau_trace.specs.declared.step.Step.{Step}
-use Rattle.tau_trace.specs.declared.step.Step.TheVariants.{Take, Fail, Lose}
+use Rattle.tau_trace.specs.declared.step.Step.TheVariants.{Fail, Lose}
 use Rattle.tau_trace.specs.Steps.{actor, ends_turn}
 use Rattle.tau_trace.specs.Run.{Run, len, appended}
 use Rattle.tau_trace.specs.Known.{WellFormed}
@@ -11,7 +11,6 @@ use Rattle.tau_trace.specs.Turns.{Turn, IsOpenTurn}
 use Rattle.tau_trace.proofs.Lists.{same_some}
 use Rattle.tau_script.specs.Scripts.{HasObject, fails, loses}
 use Rattle.tau_eval.specs.Turn as jobs
-use Rattle.tau_rules.specs.Answers.{IsOpenJob}
 use Rattle.tau_check.specs.Jobs.{HasJobOf, HasJobs, HasOtherJobs, KeepsOthers}
 use Rattle.tau_check.proofs.Turns.{BeginsNone, earlier, ended}
 use Rattle.tau_check.proofs.JobLemmas.{job_kept}

@@ -1,24 +1,21 @@
 -- A transactor has one body, a message one value, and a turn one list of replies.
-use Rattle.std.proofs.Common.{◌≡◌, ◌≢◌, ℕ, zero, suc, ◌+◌, ◌<◌, ◌≤◌, List, [], ◌∷◌, ◌++◌, length, Some, refl, sym, ap, ◌∙◌, subst, arith}
+use Rattle.std.proofs.Common.{◌≡◌, ℕ, suc, List, [], ◌∷◌, ◌++◌, length, refl, sym, ap, ◌∙◌, subst, arith}
 use Rattle.std.specs.Prelude.{slice_get, map}
 use Rattle.std.proofs.lemmas.Option.{slice_get_within}
 use Rattle.tau_value.specs.declared.shared.Value.{Value}
 use Rattle.tau_value.specs.Val.{Val}
 use Rattle.tau_value.specs.Value.{val_of}
-use Rattle.tau_tree.specs.declared.starts.Start.{Start}
 use Rattle.tau_tree.specs.declared.posts.Post.{Post}
 use Rattle.tau_tree.specs.declared.programs.Program.{Program}
 use Rattle.tau_tree.specs.Behaviour.{NamedCode}
 use Rattle.tau_tree.specs.Code.{Code}
 use Rattle.tau_trace.specs.declared.step.Step.{Step}
 use Rattle.tau_trace.specs.declared.step.Step.TheVariants.{Take, Drop, Fall, Void, Get, Set, Skip, Send, New, Stabilize, Ask, Checkpoint, Hold, Rollback, Stay, Done, Trap, Fail, Lose}
-use Rattle.tau_trace.specs.Run.{Run, step_at, ActsAt}
-use Rattle.tau_trace.specs.Numbering.{born, sent}
+use Rattle.tau_trace.specs.Run.{Run, step_at}
 use Rattle.tau_trace.specs.Points.{point_at}
 use Rattle.tau_trace.proofs.Lists.{same_some}
 use Rattle.tau_trace.proofs.Once.{new_once, origin_once}
 use Rattle.tau_script.specs.Openings.{program_opening}
-use Rattle.tau_states.specs.Opening.{opening_states}
 use Rattle.tau_states.proofs.Uniqueness.{state_once}
 use Rattle.tau_legal.specs.Turns.{HasBehaviour, start, created, HasBody, HasValue, post, message, Replies, RepliesOf, before, another, reply}
 

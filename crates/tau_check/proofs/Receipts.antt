@@ -1,5 +1,5 @@
 -- Whether a receipt is legal, by what the system answers to its message.
-use Rattle.std.proofs.Common.{◌≡◌, ◌≢◌, ℕ, ◌<◌, Option, Some, None, List, refl, sym, ap, ◌∙◌, subst, arith}
+use Rattle.std.proofs.Common.{◌≡◌, ℕ, Option, Some, None, List, refl, sym, ap, ◌∙◌, subst}
 use Rattle.tau_tree.specs.declared.programs.Program.{Program}
 use Rattle.tau_trace.specs.declared.step.Step.{Step}
 use Rattle.tau_trace.specs.declared.step.Step.TheVariants.{Take, Drop, Fall, Void}
@@ -19,10 +19,10 @@ use Rattle.tau_eval.specs.Turn as jobs
 use Rattle.tau_rules.specs.System.{Core, with_step}
 use Rattle.tau_rules.specs.declared.answers.Delivered.{Delivered}
 use Rattle.tau_rules.specs.declared.answers.Delivered.TheVariants.{Began, Dropped, Fell, Voided}
-use Rattle.tau_rules.specs.Answers.{IsOpenJob, IsDelivered, IsBegun}
+use Rattle.tau_rules.specs.Answers.{IsOpenJob, IsDelivered}
 use Rattle.tau_rules.proofs.IdleLemmas.{ended_idle}
 use Rattle.tau_check.specs.Families.{received_by}
-use Rattle.tau_check.specs.Jobs.{HasJobOf, HasJobs, IsKeptBegun}
+use Rattle.tau_check.specs.Jobs.{HasJobs, IsKeptBegun}
 use Rattle.tau_check.specs.Checkers.{HasAsked, GoesOn}
 use Rattle.tau_check.proofs.Turns.{BeginsNone}
 use Rattle.tau_check.proofs.Kept.{all_jobs, others_after, jobs_after_idle}

@@ -1,15 +1,15 @@
 -- Whether a step of a turn is legal, by the step that the system makes of it.
-use Rattle.std.proofs.Common.{◌≡◌, ◌≢◌, ℕ, ◌<◌, IsTrue, Option, Some, None, List, refl, sym, ap, ◌∙◌, subst, arith}
+use Rattle.std.proofs.Common.{◌≡◌, ℕ, IsTrue, Option, Some, None, List, refl, sym, ap, ◌∙◌, subst}
 use Rattle.std.specs.Prelude.{slice_get}
 use Rattle.tau_value.specs.declared.shared.Value.{Value}
 use Rattle.tau_value.specs.Value.{val_of}
 use Rattle.tau_tree.specs.declared.programs.Program.{Program}
 use Rattle.tau_trace.specs.declared.step.Step.{Step}
-use Rattle.tau_trace.specs.declared.step.Step.TheVariants.{Take, Drop, Fall, Void, Get, Set, Skip, Send, New, Stabilize, Ask, Checkpoint, Hold, Rollback, Stay, Done, Trap, Fail, Lose}
+use Rattle.tau_trace.specs.declared.step.Step.TheVariants.{Get, Set, Skip, Send, New, Stabilize, Ask, Checkpoint, Hold, Rollback, Stay, Done, Trap}
 use Rattle.tau_trace.specs.Steps.{actor, ends_turn}
 use Rattle.tau_trace.specs.Run.{Run, len, appended, step_at}
 use Rattle.tau_trace.specs.Known.{WellFormed, MayFollow}
-use Rattle.tau_trace.specs.Turns.{Turn, IsOpenTurn}
+use Rattle.tau_trace.specs.Turns.{IsOpenTurn}
 use Rattle.tau_trace.proofs.Lists.{same_some}
 use Rattle.tau_trace.proofs.Indexing.{well_formed_appended}
 use Rattle.tau_script.specs.Openings.{program_opening}
@@ -20,14 +20,13 @@ use Rattle.tau_choice.specs.Choices.{is_of_turn}
 use Rattle.tau_eval.specs.Turn as jobs
 use Rattle.tau_rules.specs.System.{Core, with_step}
 use Rattle.tau_rules.specs.Answers.{IsOpenJob, IsStepped, IsRedone, NoTurnFrom}
-use Rattle.tau_rules.proofs.ActLemmas.{one_open_turn}
 use Rattle.tau_check.specs.Families.{turn_of}
 use Rattle.tau_check.specs.Jobs.{HasJobOf, HasJobs, HasOtherJobs, KeepsOthers, IsTurnStep, IsKeptAfter}
 use Rattle.tau_check.specs.Checkers.{HasAsked, GoesOn}
 use Rattle.tau_check.proofs.Kept.{all_jobs, others_after, jobs_after_end}
 use Rattle.tau_check.proofs.JobLemmas.{job_once}
 use Rattle.tau_check.proofs.FamilyLemmas.{of_effect, one_turn_step}
-use Rattle.tau_check.proofs.Endings.{turn_no_failure, fitting_legal, goes_on, last_step, last_fits}
+use Rattle.tau_check.proofs.Endings.{turn_no_failure, fitting_legal, goes_on, last_step}
 
 -- the transactor of a step of a turn makes it
 pub acts_in_turn : (s : Step) (t : ℕ) → actor s ≡ Some t → IsTrue (is_of_turn s) → turn_of s ≡ Some t

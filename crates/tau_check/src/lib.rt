@@ -13,6 +13,3 @@ mod same;
 
 pub use checking::{Legality, check};
 pub use laws::one_step_of_a_family_fits;
-
-#[cfg(test)]
-mod tests;

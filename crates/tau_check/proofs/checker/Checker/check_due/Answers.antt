@@ -1,4 +1,3 @@
-use Rattle.std.proofs.Common.{subst}
 use Rattle.tau_rules.specs.System.{Core}
 use Rattle.tau_check.proofs.Endings.{other_illegal, due_object, goes_on_due, not_same}
 use Rattle.tau_check.proofs.checker.Checker.check_due.Goals as goal

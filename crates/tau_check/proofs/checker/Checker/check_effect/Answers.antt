@@ -1,4 +1,3 @@
-use Rattle.std.proofs.Common.{subst}
 use Rattle.tau_rules.specs.System.{Core}
 use Rattle.tau_trace.specs.Run.{len}
 use Rattle.tau_check.proofs.Endings.{is_made, not_made}

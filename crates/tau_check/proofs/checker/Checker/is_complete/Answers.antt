@@ -1,4 +1,4 @@
-use Rattle.std.proofs.Common.{◌≡◌, ◌∙◌, ◌↔◌, IsTrue, sym, subst}
+use Rattle.std.proofs.Common.{◌∙◌, ◌↔◌, IsTrue, sym, subst}
 use Rattle.tau_trace.specs.Run.{Run}
 use Rattle.tau_legal.specs.Traces.{Complete}
 use Rattle.tau_rules.specs.System.{Core}
