@@ -1,6 +1,6 @@
 -- What an answer tells of bytes, from what it tells of their forms.
-use Rattle.std.proofs.Common.{◌≡◌, ◌≢◌, ◌⊎◌, inl, inr, ℕ, List, Result, Ok, Err, IfOk, IfErr, refl, sym, ap, ◌∙◌, subst}
-use Rattle.std.specs.Result.{IsErr, IsErrAnd}
+use Rattle.std.proofs.Common.{◌≡◌, ◌≢◌, ◌⊎◌, inl, inr, ℕ, List, Result, Ok, Err, IfOk, IfErr, refl, sym, subst}
+use Rattle.std.specs.Result.{IsErrAnd}
 use Rattle.tau_sexpr.specs.Tree.{Tree}
 use Rattle.tau_sexpr.specs.Spelling.{IsSpelling}
 use Rattle.tau_sexpr.specs.Faults.{IsFirstFault}

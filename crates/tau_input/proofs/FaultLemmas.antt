@@ -1,12 +1,8 @@
 -- An input has one meaning at most, one fault at most, and not both.
-use Rattle.std.proofs.Common.{◌≡◌, ◌≢◌, ◌⊎◌, inl, inr, ℕ, ◌≤◌, Bool, true, false, List, length, Some, None, Result, Ok, Err, IfErr, refl, sym, ap, ◌∙◌, subst, arith}
-use Rattle.std.specs.Result.{IsErr, IsErrAnd}
+use Rattle.std.proofs.Common.{◌≡◌, ℕ, true, false, List, Some, None, sym, ap, ◌∙◌, subst, arith}
 use Rattle.tau_sexpr.specs.Tree.{Tree}
 use Rattle.tau_sexpr.specs.Spelling.{IsSpelling}
-use Rattle.tau_sexpr.specs.Faults.{IsFirstFault}
 use Rattle.tau_sexpr.proofs.LawLemmas.{once, without_fault, fails_once}
-use Rattle.tau_sexpr.specs.declared.faults.FormError.{FormError}
-use Rattle.tau_sexpr.specs.declared.faults.FormError.TheVariants as forms
 use Rattle.tau_value.specs.Meaning as values
 use Rattle.tau_tree.specs.declared.programs.Program.{Program}
 use Rattle.tau_forms.specs.Tops.{limit_of}
@@ -24,11 +20,10 @@ use Rattle.tau_steps.specs.declared.errors.StepError.{StepError}
 use Rattle.tau_steps.specs.declared.errors.StepError.TheVariants as step_errors
 use Rattle.tau_steps.proofs.LoopLemmas.{no_fault}
 use Rattle.tau_steps.proofs.LawLemmas.{one_run}
-use Rattle.tau_input.specs.declared.errors.InputError.{InputError}
-use Rattle.tau_input.specs.declared.errors.InputError.TheVariants.{Fault, NoMemory}
-use Rattle.tau_input.specs.Errors.{of_form_error, of_program_error, of_step_error, Tells}
+use Rattle.tau_input.specs.declared.errors.InputError.TheVariants.{Fault}
+use Rattle.tau_input.specs.Errors.{of_form_error, of_program_error, of_step_error}
 use Rattle.tau_input.specs.Parts.{has_trace, program_forms, step_forms}
-use Rattle.tau_input.specs.Meaning.{IsProgram, MeansRun, IsRunInput, IsPrintInput}
+use Rattle.tau_input.specs.Meaning.{IsProgram, MeansRun, IsPrintInput}
 use Rattle.tau_input.specs.Faults.{HasFault, of_bytes, of_forms, ProgramFault, of_program, StepsFault, of_step, PartsFault, in_program, in_steps, MarkedFault, no_trace, in_parts, IsProgramFault, IsRunFault, IsPrintFault}
 use Rattle.tau_input.specs.Laws.{IsUnique, IsRunInputOf}
 

@@ -1,14 +1,13 @@
 -- The parts of forms, by the number of forms before the marks.
-use Rattle.std.proofs.Common.{◌≡◌, ◌⊎◌, ⊎_elim, ℕ, zero, suc, ◌+◌, ◌-◌, ◌<◌, ◌≤◌, Bool, true, false, if◌then◌else◌, List, [], ◌∷◌, ◌++◌, length, take, drop, length-drop, ◌||◌, map, get_or, Some, None, refl, sym, ap, ◌∙◌, subst, arith, codes}
+use Rattle.std.proofs.Common.{◌≡◌, ⊎_elim, ℕ, zero, suc, ◌+◌, ◌-◌, ◌<◌, ◌≤◌, true, false, if◌then◌else◌, List, [], ◌∷◌, ◌++◌, length, take, drop, length-drop, ◌||◌, Some, refl, sym, ap, ◌∙◌, arith, codes}
 use Rattle.std.specs.Prelude.{slice_get, slice_range, All}
-use Rattle.std.specs.List.{list_any}
 use Rattle.std.proofs.lemmas.Bool.{cases_Bool}
 use Rattle.std.proofs.lemmas.List.{take_all}
 use Rattle.std.proofs.lemmas.List.Elements.{All-head, All-tail}
 use Rattle.tau_trace.proofs.Lists.{same_some}
 use Rattle.tau_trace.proofs.Sequences.{cases_last}
 use Rattle.tau_sexpr.specs.Tree.{Tree, depths}
-use Rattle.tau_input.specs.Parts.{is_mark, is_marked, before, behind, has_trace, program_forms, step_forms}
+use Rattle.tau_input.specs.Parts.{is_mark, is_marked, before, behind, program_forms, step_forms}
 
 before_mark : (w : List ℕ) (t : Tree) (ts : List Tree) → is_mark w t ≡ true → before w (t ∷ ts) ≡ []
 before_mark w t ts e = ap (λ b. if b then [] else t ∷ before w ts) e

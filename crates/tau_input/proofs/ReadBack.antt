@@ -1,5 +1,5 @@
 -- What is written of a program, or of a program and a run, is read back as it.
-use Rattle.std.proofs.Common.{◌≡◌, ◌≢◌, ℕ, ◌<◌, ◌≤◌, true, false, List, [], ◌∷◌, ◌++◌, length, get_or, Some, refl, sym, ap, ◌∙◌, subst, arith, codes}
+use Rattle.std.proofs.Common.{◌≡◌, ℕ, ◌<◌, true, false, List, [], ◌∷◌, ◌++◌, length, get_or, Some, refl, sym, ap, ◌∙◌, subst, arith, codes}
 use Rattle.std.specs.Prelude.{slice_get, All}
 use Rattle.std.proofs.lemmas.Option.{get_or_from_slice_get}
 use Rattle.tau_sexpr.specs.Tree.{Tree}
@@ -16,7 +16,7 @@ use Rattle.tau_text.specs.RunText.{trace_mark, report_mark}
 use Rattle.tau_text.proofs.Marks.{program_unmarked, steps_unmarked}
 use Rattle.tau_input.specs.Parts as parts
 use Rattle.tau_input.specs.Parts.{is_mark, before, behind, has_trace, step_forms}
-use Rattle.tau_input.specs.Meaning.{MeansRun, IsRunInput, IsPrintInput}
+use Rattle.tau_input.specs.Meaning.{MeansRun, IsPrintInput}
 use Rattle.tau_input.specs.Laws.{RunTextsAreReadBack}
 use Rattle.tau_input.proofs.MarkLemmas.{not_mark}
 use Rattle.tau_input.proofs.PartLemmas.{no_mark, all_before, none_behind, cut_before, cut_behind, cut_marked}

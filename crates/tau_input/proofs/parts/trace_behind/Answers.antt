@@ -1,6 +1,4 @@
-use Rattle.std.proofs.Common.{◌≡◌, ◌+◌, ◌≤◌, length, map, drop, codes, sym, ap, ◌∙◌, subst, arith}
-use Rattle.std.specs.Prelude.{slice_range}
-use Rattle.tau_sexpr.specs.Form.{tree_of}
+use Rattle.std.proofs.Common.{◌+◌, length, codes, ap, ◌∙◌, subst, arith}
 use Rattle.tau_script.specs.Openings.{program_opening}
 use Rattle.tau_steps.specs.Faults as steps
 use Rattle.tau_steps.specs.Meaning.{MeansSteps}

@@ -1,6 +1,5 @@
 use Rattle.std.proofs.lemmas.Result.{IfOk-weaker}
 use Rattle.tau_trace.specs.Run.{Run}
-use Rattle.tau_input.specs.Errors.{Tells}
 use Rattle.tau_input.specs.Faults.{PartsFault, IsPrintFault}
 use Rattle.tau_input.specs.Meaning.{IsPrintInput, MeansRun}
 use Rattle.tau_input.proofs.AnswerLemmas.{from_bytes, from_forms, none_answered, fault_answered, no_answer}

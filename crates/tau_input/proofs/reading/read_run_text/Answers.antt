@@ -1,5 +1,4 @@
 use Rattle.std.proofs.lemmas.Result.{IfOk-weaker}
-use Rattle.tau_input.specs.Errors.{Tells}
 use Rattle.tau_input.specs.Faults.{MarkedFault, IsRunFault}
 use Rattle.tau_input.specs.Meaning.{IsRunInput, MeansMarkedRun}
 use Rattle.tau_input.specs.Laws.{IsRunInputOf}
