@@ -1,8 +1,8 @@
 -- Steps that stand nowhere in a run, told by counting.
-use Rattle.std.proofs.Common.{◌≡◌, ◌⊎◌, ⊎_elim, ℕ, zero, suc, ◌<◌, Bool, true, false, cond, IsTrue, IsFalse, Some, refl, sym, ◌∙◌, ap, subst, arith}
+use Rattle.std.proofs.Common.{◌≡◌, ⊎_elim, ℕ, zero, suc, ◌<◌, Bool, true, false, cond, IsTrue, IsFalse, Some, refl, sym, ◌∙◌, ap, subst, arith}
 use Rattle.std.specs.Option.{option_map_or}
 use Rattle.tau_trace.specs.declared.step.Step.{Step}
-use Rattle.tau_trace.specs.declared.step.Step.TheVariants.{Fall, Checkpoint, Rollback, Trap, Fail}
+use Rattle.tau_trace.specs.declared.step.Step.TheVariants.{Fall, Rollback, Trap, Fail}
 use Rattle.tau_trace.specs.Steps.{actor}
 use Rattle.tau_trace.specs.Run.{Run, step_at, Does}
 use Rattle.tau_trace.specs.Places.{count_below}
@@ -15,7 +15,11 @@ use Rattle.tau_trace.proofs.Sequences.{cases_last}
 pub clash : (b : Bool) → IsTrue b → IsFalse b → ⊥
 clash b t f = cc
 
-fails : (b : Bool) → cond b 1 0 ≡ 0 → IsFalse b
+-- one for a test that passes
+abbrev one_if : Bool → ℕ
+one_if b = cond b 1 0
+
+fails : (b : Bool) → one_if b ≡ 0 → IsFalse b
 fails true e = absurd (omega (arith, e))
 fails false e = refl
 
@@ -23,7 +27,7 @@ fails false e = refl
 pub none_passes : (test : ℕ → Bool) (n : ℕ) → count_below test n ≡ 0 → (j : ℕ) → j < n → IsFalse (test j)
 none_passes test zero e j lt = absurd (omega arith)
 none_passes test (suc n) e j lt =
-    let here : cond (test n) 1 0 ≡ 0 = omega (arith, count-suc test n, e) in
+    let here : one_if (test n) ≡ 0 = omega (arith, count-suc test n, e) in
     let below : count_below test n ≡ 0 = omega (arith, count-suc test n, e) in
     ⊎_elim (λ s. subst (λ i. IsFalse (test i)) (sym s) (fails (test n) here)) (λ l. none_passes test n below j l) (cases_last j n lt)
 
@@ -69,5 +73,5 @@ falls_as T t k f = by_kind (falls_falling T t k f) where
 -- nothing falls below place n
 pub none_falls : (T : Run) (n : ℕ) → count_below (passes_at may_fall T) n ≡ 0 → (t k : ℕ) → k < n → ¬ Falls T t k
 none_falls T n e t k lt f =
-    let as = falls_as T t k f in
-    clash (may_fall as.step) as.passes (no_step may_fall T n e k as.step lt as.stands)
+    let found = falls_as T t k f in
+    clash (may_fall found.step) found.passes (no_step may_fall T n e k found.step lt found.stands)

@@ -1,16 +1,15 @@
 -- What the sink of the two examples depends on.
-use Rattle.std.proofs.Common.{◌≡◌, ◌≢◌, ◌⊎◌, ⊎_elim, ℕ, ◌<◌, ◌||◌, List, [], ◌∷◌, Some, refl, sym, ◌∙◌, ap, subst, arith}
-use Rattle.tau_points.specs.declared.point.Point.{Point}
+use Rattle.std.proofs.Common.{◌≡◌, ◌≢◌, ◌⊎◌, ⊎_elim, ℕ, ◌+◌, ◌<◌, ◌||◌, List, ◌∷◌, refl, ap, subst, arith}
 use Rattle.tau_points.specs.Reach as reach
 use Rattle.tau_trace.specs.declared.opening.Opening.{Opening}
 use Rattle.tau_trace.specs.declared.step.Step.{Step}
 use Rattle.tau_trace.specs.declared.step.Step.TheVariants.{Take, Get, Set, Send, Stabilize, Done}
 use Rattle.tau_trace.specs.Steps.{ends_turn, is_take}
-use Rattle.tau_trace.specs.Run.{Run, step_at, Does}
+use Rattle.tau_trace.specs.Run.{Run, Does}
 use Rattle.tau_trace.specs.Numbering.{sent, IsOrigin}
 use Rattle.tau_trace.specs.Points.{point_at}
 use Rattle.tau_trace.specs.Turns.{Turn}
-use Rattle.tau_past.specs.Carried.{touches, is_set, Pending, touched, came, Carried, by_set}
+use Rattle.tau_past.specs.Carried.{touches, is_set, touched, came, Carried, by_set}
 use Rattle.tau_past.specs.Pasts.{PastIn, Is, takes}
 use Rattle.tau_worked.specs.VolatileSource.{seven, source_point}
 use Rattle.tau_worked.proofs.Absence.{not_does}
@@ -68,11 +67,11 @@ pub depends : (o : Opening) (m : ℕ) (rest : List Step) (H : ℕ → Type 0) �
     → PastIn (run_with o m rest) H (Is (point_at (run_with o m rest) 1 8)) source_point
 depends o m rest H made at_source at_sink held =
     reach.next (reach.start refl) (takes {j = 6} held (by_set {t = 1} sets at_sink (carries o m rest made at_source) other)) where
-  T : Run
-  T = run_with o m rest
+      T : Run
+      T = run_with o m rest
 
-  sets : Does is_set T 1 6
-  sets = record { step = Set 1 seven; stands = refl; by = refl; passes = refl }
+      sets : Does is_set T 1 6
+      sets = record { step = Set 1 seven; stands = refl; by = refl; passes = refl }
 
-  other : source_point ≢ point_at T 1 8
-  other e = absurd (omega (arith, ap (λ p. p.who) e))
+      other : source_point ≢ point_at T 1 8
+      other e = absurd (omega (arith, ap (λ p. p.who) e))

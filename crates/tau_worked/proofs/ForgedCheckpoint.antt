@@ -1,21 +1,20 @@
 -- The forged checkpoint is broken by the source's rollback.
-use Rattle.std.proofs.Common.{◌≡◌, ◌⊎◌, ⊎_elim, inl, inr, ℕ, ◌<◌, ◌≤◌, Bool, true, [], ◌∷◌, Some, refl, sym, ◌∙◌, ap, subst, arith}
+use Rattle.std.proofs.Common.{◌≡◌, ◌⊎◌, ⊎_elim, inl, ℕ, ◌<◌, ◌≤◌, true, [], ◌∷◌, refl, sym, ◌∙◌, ap, arith}
 use Rattle.std.proofs.lemmas.Option.{slice_get_within}
 use Rattle.tau_points.specs.declared.point.Point.{Point}
-use Rattle.tau_trace.specs.declared.step.Step.{Step}
 use Rattle.tau_trace.specs.declared.step.Step.TheVariants.{Take, Checkpoint, Rollback}
 use Rattle.tau_trace.specs.Steps.{actor, is_checkpoint}
-use Rattle.tau_trace.specs.Run.{Run, len, step_at}
+use Rattle.tau_trace.specs.Run.{step_at}
 use Rattle.tau_trace.specs.Places.{count_below}
 use Rattle.tau_trace.specs.Histories.{history, Falls}
 use Rattle.tau_trace.specs.Points.{point_at}
 use Rattle.tau_trace.proofs.Lists.{same_some}
 use Rattle.tau_past.specs.Pasts.{Past, Everywhere}
 use Rattle.tau_past.specs.Safety.{RolledBack, Safe}
-use Rattle.tau_past.specs.Audits.{Breaks, IsBrokenAt, IsBroken, IsNotAfter, RollsBackAt}
+use Rattle.tau_past.specs.Audits.{Breaks, IsBrokenAt, IsBroken, RollsBackAt}
 use Rattle.tau_worked.specs.VolatileSource.{source_point}
 use Rattle.tau_worked.specs.ForgedCheckpoint.{forged_run}
-use Rattle.tau_worked.proofs.Absence.{clash, no_step, may_fall, FallsAs, falls_as, none_falls}
+use Rattle.tau_worked.proofs.Absence.{clash, no_step, FallsAs, falls_as, none_falls}
 use Rattle.tau_worked.proofs.Dependence.{depends}
 
 in_past : Past forged_run (point_at forged_run 1 8) source_point
@@ -44,11 +43,11 @@ none_before = none_falls forged_run 10 refl
 -- the one falling step is the source's, at place 10
 falls_there : (t k : ℕ) → Falls forged_run t k → (k ≡ 10) × (t ≡ 0)
 falls_there t k f = (at, who) where
-  as : FallsAs forged_run t k
-  as = falls_as forged_run t k f
+  found : FallsAs forged_run t k
+  found = falls_as forged_run t k f
 
   at : k ≡ 10
-  at = place (slice_get_within forged_run.steps k as.step as.stands) (cases k) where
+  at = place (slice_get_within forged_run.steps k found.step found.stands) (cases k) where
     cases : (k : ℕ) → (k < 10) ⊎ (10 ≤ k)
     cases k = grind arith
 
@@ -57,8 +56,8 @@ falls_there t k f = (at, who) where
 
   who : t ≡ 0
   who =
-      let same : as.step ≡ Rollback 0 = same_some (sym as.stands ∙ ap (step_at forged_run) at) in
-      sym (same_some (sym (ap actor same) ∙ as.by))
+      let same : found.step ≡ Rollback 0 = same_some (sym found.stands ∙ ap (step_at forged_run) at) in
+      sym (same_some (sym (ap actor same) ∙ found.by))
 
 -- so only the source's point is rolled back
 rolled_back_once : (q : Point) → RolledBack forged_run q → q ≡ source_point

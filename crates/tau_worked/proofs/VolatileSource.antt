@@ -1,28 +1,24 @@
 -- The sink of the volatile source is not free, and its request is held.
-use Rattle.std.proofs.Common.{◌≡◌, ◌⊎◌, ⊎_elim, ℕ, ◌<◌, pos, Bool, true, false, ◌==◌, List, [], ◌∷◌, Some, refl, sym, ◌∙◌, ap, subst, arith}
+use Rattle.std.proofs.Common.{◌≡◌, ⊎_elim, pos, Bool, true, false, ◌==◌, [], ◌∷◌, refl, arith}
 use Rattle.std.proofs.lemmas.Option.{slice_get_within}
 use Rattle.tau_value.specs.Val as val
-use Rattle.tau_points.specs.declared.point.Point.{Point}
 use Rattle.tau_points.specs.Reach as reach
-use Rattle.tau_tree.specs.Code.{Code}
 use Rattle.tau_trace.specs.declared.step.Step.{Step}
 use Rattle.tau_trace.specs.declared.step.Step.TheVariants.{Set, Stabilize, Checkpoint, Hold}
-use Rattle.tau_trace.specs.Run.{Run, len, step_at}
+use Rattle.tau_trace.specs.Run.{Run}
 use Rattle.tau_trace.specs.Places.{count_below}
-use Rattle.tau_trace.specs.Histories.{history, Falls}
-use Rattle.tau_trace.specs.Points.{point_at, IsOpeningPoint}
-use Rattle.tau_trace.specs.Numbering.{IsOrigin}
+use Rattle.tau_trace.specs.Histories.{history}
 use Rattle.tau_past.specs.Heard.{Heard, own_step}
 use Rattle.tau_past.specs.Pasts.{StabilizedIn, FirmIn}
 use Rattle.tau_past.specs.Decisions.{Free}
 use Rattle.tau_past.specs.Safety.{Safe}
 use Rattle.tau_states.specs.Opening.{opening_states}
 use Rattle.tau_eval.specs.Eff as eff
-use Rattle.tau_legal.specs.Turns.{HasBody, HasValue, RepliesOf, TurnHas, start, message, before, reply}
+use Rattle.tau_legal.specs.Turns.{RepliesOf, TurnHas, start, message, before, reply}
 use Rattle.tau_legal.specs.Fits.{Fits}
-use Rattle.tau_worked.specs.VolatileSource.{source_body, sink_body, source, sink, seven, sink_start, volatile_source, going_on_with, held_run, saved_run, source_point, DependsOnSource}
-use Rattle.tau_worked.proofs.Absence.{clash, passes_at, no_step, may_fall, none_falls, FallsAs, falls_as}
-use Rattle.tau_worked.proofs.Dependence.{run_with, sink_turn, depends}
+use Rattle.tau_worked.specs.VolatileSource.{sink_body, sink, seven, sink_start, volatile_source, going_on_with, held_run, saved_run, source_point, DependsOnSource}
+use Rattle.tau_worked.proofs.Absence.{clash, passes_at, no_step, none_falls, FallsAs, falls_as}
+use Rattle.tau_worked.proofs.Dependence.{sink_turn, depends}
 
 -- a Stabilize of the source
 abbrev stabilizes_source : Step → Bool
@@ -91,6 +87,6 @@ saved_at = refl
 -- nothing falls in the run with the Checkpoint
 pub saved_safe : Safe saved_run
 unfolding count_below
-saved_safe t c q closes past back = none_falls saved_run 9 refl q.who back.place (slice_get_within saved_run.steps back.place as.step as.stands) back.falls where
-  as : FallsAs saved_run q.who back.place
-  as = falls_as saved_run q.who back.place back.falls
+saved_safe t c q closes past back = none_falls saved_run 9 refl q.who back.place (slice_get_within saved_run.steps back.place found.step found.stands) back.falls where
+  found : FallsAs saved_run q.who back.place
+  found = falls_as saved_run q.who back.place back.falls

@@ -1,6 +1,6 @@
 -- The forged checkpoint: as the volatile source, but the sink saves its state all the same, and then the source rolls back
 -- (docs/definitions.md, "Runs of the examples").
-use Rattle.std.specs.Prelude.{◌≡◌, ℕ, pos, List, [], ◌∷◌, codes}
+use Rattle.std.specs.Prelude.{pos, [], ◌∷◌, codes}
 use Rattle.tau_tree.specs.declared.posts.Post.{Post}
 use Rattle.tau_tree.specs.declared.programs.Program.{Program}
 use Rattle.tau_tree.specs.declared.expressions.Operation.TheVariants.{Same}
@@ -16,7 +16,7 @@ use Rattle.tau_worked.specs.VolatileSource.{sink, source_start, sink_start, seve
 abbrev pub source_body : Code
 source_body =
     code.if_else (code.apply Same (code.more code.msg (code.more (code.int (pos 0)) code.none))) code.rollback
-        (code.seq (code.more (code.set code.msg) (code.more (code.send (code.start 1) code.get) code.none)))
+    (code.seq (code.more (code.set code.msg) (code.more (code.send (code.start 1) code.get) code.none)))
 
 abbrev pub source : NamedCode
 source = record { name = codes "src"; body = source_body }

@@ -1,6 +1,6 @@
 -- The volatile source: a source that never stabilizes sends its state to a sink, which asks for a checkpoint
 -- (docs/definitions.md, "Runs of the examples").
-use Rattle.std.specs.Prelude.{◌≡◌, ℕ, pos, List, [], ◌∷◌, ◌++◌, codes}
+use Rattle.std.specs.Prelude.{pos, List, [], ◌∷◌, ◌++◌, codes}
 use Rattle.tau_value.specs.declared.shared.Value.{Value}
 use Rattle.tau_value.specs.declared.shared.Value.TheVariants.{Int}
 use Rattle.tau_points.specs.declared.point.Point.{Point}
