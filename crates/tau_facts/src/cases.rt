@@ -13,6 +13,7 @@ use tau_trace::Trace;
 use tau_tree::Program;
 
 /// The texts of a section.
+#[derive(Drop)]
 struct Section<'t> {
     name: &'t str,
     program: &'t str,
@@ -33,11 +34,7 @@ fn section_of(text: &str) -> Option<Section<'_>> {
 }
 
 /// Adds the name of a section, and its questions with their answers.
-pub(crate) fn add_case(
-    alloc: Global,
-    text: &mut String,
-    section: &str,
-) -> Result<(), AllocError> {
+pub(crate) fn add_case(alloc: Global, text: &mut String, section: &str) -> Result<(), AllocError> {
     let Some(section) = section_of(section) else {
         return text.push_str("no section\n");
     };
