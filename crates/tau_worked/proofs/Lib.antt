@@ -1,0 +1,4 @@
+pub mod Absence
+pub mod Dependence
+pub mod VolatileSource
+pub mod ForgedCheckpoint

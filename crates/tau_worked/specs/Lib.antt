@@ -1,0 +1,2 @@
+pub mod VolatileSource
+pub mod ForgedCheckpoint
