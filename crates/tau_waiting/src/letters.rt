@@ -1,5 +1,5 @@
 // An ascending list of letters, with room for more.
-ghost use Rattle.std.specs.Prelude.{◌≡◌, ◌<◌, ◌≤◌, ◌+◌, ◌^◌, [], ◌∷◌, ◌++◌, length, find, filter, count_by, slice_get, Any, MatchBool, IfOk, OnOk, IfSome, IfNone};
+ghost use Rattle.std.specs.Prelude.{◌≡◌, ◌<◌, ◌≤◌, ◌+◌, ◌^◌, [], ◌∷◌, ◌++◌, length, find, filter, slice_get, Any, MatchBool, IfOk, OnOk, IfSome, IfNone};
 ghost use Rattle.tau_waiting.specs.Letters.{is_message, is_other, is_to, IsAscending, AllBelow, IsLowerBound, IsAbsent, IsPlaceOf};
 
 use crate::letter::Letter;
@@ -117,7 +117,7 @@ impl Letters {
 
     /// How many letters have at most the given message.
     pub(crate) fn count_to(&self, message: u32) -> usize
-        ensures { result ≡ count_by (is_to message) self.now.letters }
+        ensures { result ≡ length (filter (is_to message) self.now.letters) }
     {
         self.items.partition_point(|l| l.message <= message)
     }

@@ -1,5 +1,5 @@
 // The letters of all receivers, as a whole and by receiver.
-ghost use Rattle.std.specs.Prelude.{◌≡◌, ◌<◌, ◌≤◌, [], ◌∷◌, ◌++◌, length, slice_get, find, filter, count_by, OnOk};
+ghost use Rattle.std.specs.Prelude.{◌≡◌, ◌<◌, ◌≤◌, [], ◌∷◌, ◌++◌, length, slice_get, find, filter, OnOk};
 
 use crate::letter::Letter;
 use crate::order::Order;
@@ -87,7 +87,7 @@ impl Mail {
 
     /// How many letters of a receiver have at most the given message.
     pub(crate) fn count_for(&self, who: u32, message: u32) -> usize
-        ensures { result ≡ count_by (is_to message) (filter (is_for who) self.now.letters) }
+        ensures { result ≡ length (filter (is_to message) (filter (is_for who) self.now.letters)) }
     {
         match self.parts.get(who as usize) {
             Some(part) => part.count_to(message),

@@ -1,5 +1,5 @@
 // All letters by ascending message, in blocks, so that one leaves by moving those of one block.
-ghost use Rattle.std.specs.Prelude.{◌≡◌, ◌<◌, ◌≤◌, ◌+◌, ◌^◌, [], ◌∷◌, ◌++◌, length, take, drop, find, filter, count_by, slice_get, slice_index_or, vec_len, OnOk, IfNone, IfSome};
+ghost use Rattle.std.specs.Prelude.{◌≡◌, ◌<◌, ◌≤◌, ◌+◌, ◌^◌, [], ◌∷◌, ◌++◌, length, take, drop, find, filter, slice_get, slice_index_or, vec_len, OnOk, IfNone, IfSome};
 ghost use Rattle.tau_waiting.specs.Letters.{is_message, is_other, is_to, IsAscending, AllBelow};
 ghost use Rattle.std.specs.Vec.{vec_capacity};
 ghost use Rattle.tau_waiting.specs.Letters.{WithRoom};
@@ -116,7 +116,7 @@ impl Order {
 
     /// How many letters have at most the given message.
     pub(crate) fn count_to(&self, message: u32) -> usize
-        ensures { result ≡ count_by (is_to message) self.now.letters }
+        ensures { result ≡ length (filter (is_to message) self.now.letters) }
     {
         let place = block_of(&self.blocks, message);
         let before = total_len(&self.blocks[..place]);

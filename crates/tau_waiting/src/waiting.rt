@@ -1,5 +1,6 @@
-ghost use Rattle.std.specs.Prelude.{◌≡◌, ◌<◌, ◌≤◌, ◌+◌, ◌↔◌, [], ◌∷◌, ◌++◌, false, length, slice_get, find, filter, take, count_by, IsTrue, OnOk, OnErr};
-ghost use Rattle.tau_waiting.specs.MailState.{is_blocked_to, AllDiffer};
+ghost use Rattle.std.specs.Prelude.{◌≡◌, ◌<◌, ◌≤◌, ◌+◌, ◌↔◌, [], ◌∷◌, ◌++◌, false, length, slice_get, find, filter, take, IsTrue, OnOk, OnErr};
+ghost use Rattle.tau_waiting.specs.MailState.{is_blocked, AllDiffer};
+ghost use Rattle.tau_waiting.specs.Letters.{is_to};
 
 use crate::letter::Letter;
 use crate::mail::Mail;
@@ -155,9 +156,7 @@ impl Waiting {
         ensures room { self.new.rooms ≡ self.old.rooms }
         ensures turn_room { self.old.turn_room ≤ self.new.turn_room }
     {
-        if let Some(place) = self.busy.iter().position(|b| *b == who) {
-            let _ = self.busy.remove(place);
-        }
+        self.busy.retain(|b| *b != who);
     }
 
     /// How many letters are deliverable: their receivers are in no turn.
@@ -195,10 +194,12 @@ impl Waiting {
     /// How many letters up to a place, with the one there, are deliverable.
     fn passed(&self, place: usize) -> usize
         requires { place < length self.now.letters }
-        ensures { result ≡ count_by (is_deliverable self.now.busy) (take (place + 1) self.now.letters) }
+        ensures { result ≡ length (filter (is_deliverable self.now.busy) (take (place + 1) self.now.letters)) }
     {
+        // The place is below a length, so the one after it fits.
+        let _most = self.mail.len();
         let Some(letter) = self.mail.at(place) else {
-            return 0;
+            unreachable!()
         };
         place + 1 - blocked_to(&self.mail, &self.busy, letter.message)
     }
@@ -207,7 +208,7 @@ impl Waiting {
 /// How many letters with at most the given message are for the receivers in a turn.
 fn blocked_to(mail: &Mail, busy: &[u32], message: u32) -> usize
     requires { AllDiffer busy.now }
-    ensures { result ≡ count_by (is_blocked_to busy.now message) mail.now.letters }
+    ensures { result ≡ length (filter (is_to message) (filter (is_blocked busy.now) mail.now.letters)) }
 {
     // The receivers differ, so there are no more letters for them than there are letters.
     let _most = mail.len();

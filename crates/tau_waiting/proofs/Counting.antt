@@ -1,0 +1,62 @@
+-- How many letters are for the receivers in a turn.
+use Rattle.std.proofs.Common.{◌≡◌, ◌≢◌, ℕ, zero, suc, ◌<◌, ◌≤◌, ◌+◌, ◌-◌, Bool, true, false, not, eqb, ◌||◌, List, [], ◌∷◌, ◌++◌, length, get_or, take, filter, eqb-true, sym, refl, ap, ◌∙◌, subst, arith}
+use Rattle.std.specs.List.{list_any}
+use Rattle.std.proofs.lemmas.Bool.Decides.{nat_tests}
+use Rattle.std.proofs.lemmas.List.{length-take-le, take_more, get_or-take, get_or_default}
+use Rattle.std.proofs.lemmas.List.Filters.{length-filter_both}
+use Rattle.std.proofs.lemmas.List.Folds.{list_any-append, list_any_none}
+use Rattle.tau_waiting.specs.declared.letter.Letter.{Letter}
+use Rattle.tau_waiting.specs.Letters.{is_to, is_for, IsAscending}
+use Rattle.tau_waiting.specs.MailState.{is_busy, is_blocked, is_deliverable, AllDiffer}
+use Rattle.tau_waiting.proofs.Lists.{filter-comm, length-filter-le}
+use Rattle.tau_waiting.proofs.Search.{to-place}
+
+-- a receiver that differs from those before it isn't one of them
+pub fresh-receiver : (busy : List ℕ) (i d : ℕ) → AllDiffer busy → i < length busy → is_busy (take i busy) (get_or busy i d) ≡ false
+fresh-receiver busy i d differ lt =
+    list_any_none (λ b. eqb b (get_or busy i d)) (take i busy)
+    (λ k e within.
+    let short : k < i = omega (arith, within, length-take-le i busy (omega (arith, lt))) in
+    let apart : get_or busy k d ≢ get_or busy i d = differ k i d short lt in
+    rw (get_or-take i busy k e short, get_or_default busy k e d (omega (arith, short, lt))) (grind (arith, nat_tests, apart)))
+
+-- one more receiver in a turn
+busy-more : (busy : List ℕ) (q r : ℕ) → is_busy (busy ++ q ∷ []) r ≡ (is_busy busy r || eqb q r)
+busy-more [] q r = grind (arith, nat_tests)
+busy-more (b ∷ busy) q r = by (eqb b r) (busy-more busy q r)
+  where
+    by : (t : Bool) → is_busy (busy ++ q ∷ []) r ≡ (is_busy busy r || eqb q r) → (t || is_busy (busy ++ q ∷ []) r) ≡ ((t || is_busy busy r) || eqb q r)
+    by true h = refl
+    by false h = h
+
+-- the letters for it are blocked besides those that were
+blocked-more : (t : Letter → Bool) (busy : List ℕ) (q : ℕ) (ls : List Letter) → is_busy busy q ≡ false
+    → length (filter t (filter (is_blocked (busy ++ q ∷ [])) ls)) ≡ length (filter t (filter (is_blocked busy) ls)) + length (filter t (filter (is_for q) ls))
+blocked-more t busy q [] fresh = omega arith
+blocked-more t busy q (l ∷ ls) fresh = by (is_busy busy l.who) (eqb l.who q) (t l) refl refl refl (blocked-more t busy q ls fresh)
+  where
+    by : (a b c : Bool) → is_busy busy l.who ≡ a → eqb l.who q ≡ b → t l ≡ c
+        → length (filter t (filter (is_blocked (busy ++ q ∷ [])) ls)) ≡ length (filter t (filter (is_blocked busy) ls)) + length (filter t (filter (is_for q) ls))
+        → length (filter t (filter (is_blocked (busy ++ q ∷ [])) (l ∷ ls))) ≡ length (filter t (filter (is_blocked busy) (l ∷ ls))) + length (filter t (filter (is_for q) (l ∷ ls)))
+    by true true c ea eb ec h = absurd (let e : is_busy busy q ≡ true = subst (λ r. is_busy busy r ≡ true) (eqb-true l.who q eb) ea in cc)
+    by true false true ea eb ec h = let more : is_blocked (busy ++ q ∷ []) l ≡ true = rw (busy-more busy q l.who, ea) refl in rw (more, ea, eb, ec) (omega (arith, h))
+    by true false false ea eb ec h = let more : is_blocked (busy ++ q ∷ []) l ≡ true = rw (busy-more busy q l.who, ea) refl in rw (more, ea, eb, ec) (omega (arith, h))
+    by false true true ea eb ec h = let more : is_blocked (busy ++ q ∷ []) l ≡ true = rw (busy-more busy q l.who, ea) (grind (arith, nat_tests)) in rw (more, ea, eb, ec) (omega (arith, h))
+    by false true false ea eb ec h = let more : is_blocked (busy ++ q ∷ []) l ≡ true = rw (busy-more busy q l.who, ea) (grind (arith, nat_tests)) in rw (more, ea, eb, ec) (omega (arith, h))
+    by false false c ea eb ec h = let more : is_blocked (busy ++ q ∷ []) l ≡ false = rw (busy-more busy q l.who, ea) (grind (arith, nat_tests)) in rw (more, ea, eb) h
+
+-- the count of the first i receivers becomes that of the first i + 1
+pub blocked-step : (m : ℕ) (busy : List ℕ) (i d : ℕ) (ls : List Letter) → AllDiffer busy → i < length busy
+    → length (filter (is_to m) (filter (is_blocked (take (i + 1) busy)) ls)) ≡ length (filter (is_to m) (filter (is_blocked (take i busy)) ls)) + length (filter (is_to m) (filter (is_for (get_or busy i d)) ls))
+blocked-step m busy i d ls differ lt = rw (take_more busy i d lt) (blocked-more (is_to m) (take i busy) (get_or busy i d) ls (fresh-receiver busy i d differ lt))
+
+-- no more letters are blocked than there are
+pub blocked-le : (t p : Letter → Bool) (ls : List Letter) → length (filter t (filter p ls)) ≤ length ls
+blocked-le t p ls = omega (arith, length-filter-le t (filter p ls), length-filter-le p ls)
+
+-- of the letters up to a place, those that are blocked and those that are deliverable
+pub blocked-or-deliverable : (busy : List ℕ) (ls : List Letter) (k : ℕ) (d : Letter) → IsAscending ls → k < length ls
+    → length (filter (is_to (get_or ls k d).message) (filter (is_blocked busy) ls)) + length (filter (is_deliverable busy) (take (suc k) ls)) ≡ suc k
+blocked-or-deliverable busy ls k d up lt =
+    rw (filter-comm (is_to (get_or ls k d).message) (is_blocked busy) ls, to-place ls k d up lt)
+    (length-filter_both (is_blocked busy) (is_deliverable busy) (λ l. refl) (take (suc k) ls) ∙ length-take-le (suc k) ls (omega (arith, lt)))
