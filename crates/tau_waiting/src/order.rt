@@ -118,6 +118,8 @@ impl Order {
     pub(crate) fn count_to(&self, message: u32) -> usize
         ensures { result ≡ length (filter (is_to message) self.now.letters) }
     {
+        // There are no more letters than the length counts.
+        let _len = self.len;
         let place = block_of(&self.blocks, message);
         let before = total_len(&self.blocks[..place]);
         match self.blocks.get(place) {
