@@ -69,7 +69,7 @@ split x (y ∷ ys) up e = by (eqb y.message x.message) refl (λ here. split x ys
         }
 
 -- the letters left for another receiver
-others-left : (x : Letter) (old new : List Letter) (q : ℕ) → Split x old new → eqb x.who q ≡ false → filter (is_for q) old ≡ filter (is_for q) new
+pub others-left : (x : Letter) (old new : List Letter) (q : ℕ) → Split x old new → eqb x.who q ≡ false → filter (is_for q) old ≡ filter (is_for q) new
 others-left x old new q s apart = rw (s.whole, s.rest) (filter-without (is_for q) s.before x s.after apart)
 
 pub split-leaving : (x : Letter) (old new : List Letter) → Leaves x old new → Split x old new

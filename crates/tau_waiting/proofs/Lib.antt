@@ -5,4 +5,3 @@ pub mod Leaving
 pub mod Lists
 pub mod Rooms
 pub mod Search
-pub mod Widening

@@ -2,7 +2,6 @@
 use Rattle.std.proofs.Common.{ℕ, zero, suc, ◌<◌, ◌≤◌, ◌+◌, List, [], ◌∷◌, length, get_or, set, arith}
 use Rattle.tau_waiting.specs.Letters.{WithRoom}
 use Rattle.tau_waiting.specs.Parts.{ChangesAt, Widens, rooms_of}
-use Rattle.tau_waiting.proofs.Widening.{widens-tail}
 
 -- the same parts under another bound
 pub room-same : (ps : List WithRoom) (a b e : ℕ) → a ≤ b + e → (n : ℕ) → get_or (rooms_of ps a) n 0 ≤ get_or (rooms_of ps b) n 0 + e
@@ -23,16 +22,24 @@ pub room-falls : (i : ℕ) (R : WithRoom → WithRoom → Type 0) (ps qs : List 
 room-falls i R ps qs a b e change falls h n = rw change.is (room-changed ps i change.part a b e (λ d. falls (get_or ps i d) change.part (change.related d)) h n)
 
 -- a receiver with room has it in its part and under the bound
-pub room-has : (ps : List WithRoom) (n a : ℕ) → 1 ≤ get_or (rooms_of ps a) n 0 → (1 ≤ a) × ((d : WithRoom) → 1 ≤ (get_or ps n d).room)
+pub room-has : (ps : List WithRoom) (n a : ℕ) → 1 ≤ get_or (rooms_of ps a) n 0 → (1 ≤ a) × ((d : WithRoom) → 1 ≤ (get_or ps n d).room) × (n < length ps)
 room-has [] n a h = absurd (omega arith)
-room-has (p ∷ ps) zero a h = (omega (arith, h), λ d. omega (arith, h))
-room-has (p ∷ ps) (suc n) a h = room-has ps n a h
+room-has (p ∷ ps) zero a h = (omega (arith, h), λ d. omega (arith, h), omega arith)
+room-has (p ∷ ps) (suc n) a h = let r = room-has ps n a h in (r.0, r.1, omega (arith, r.2))
 
 -- a receiver has room where its part has it and the bound allows it
 pub room-from : (ps : List WithRoom) (n a : ℕ) → n < length ps → 1 ≤ a → ((d : WithRoom) → 1 ≤ (get_or ps n d).room) → 1 ≤ get_or (rooms_of ps a) n 0
 room-from [] n a lt one has = absurd (omega (arith, lt))
 room-from (p ∷ ps) zero a lt one has = omega (arith, one, has p)
 room-from (p ∷ ps) (suc n) a lt one has = room-from ps n a (omega (arith, lt)) one has
+
+-- the same without the first parts
+widens-tail : (p q : WithRoom) (ps qs : List WithRoom) → Widens (p ∷ ps) (q ∷ qs) → Widens ps qs
+widens-tail p q ps qs w = record {
+  longer = omega (arith, w.longer);
+  kept = λ n d lt. w.kept (suc n) d (omega (arith, lt));
+  fresh = λ n d le lt. w.fresh (suc n) d (omega (arith, le)) (omega (arith, lt));
+}
 
 -- parts that keep their room, under a bound that doesn't fall
 pub room-widened : (ps qs : List WithRoom) (a b : ℕ) → Widens ps qs → a ≤ b → (n : ℕ) → get_or (rooms_of ps a) n 0 ≤ get_or (rooms_of qs b) n 0
