@@ -1,14 +1,16 @@
 -- How many letters are for the receivers in a turn.
-use Rattle.std.proofs.Common.{◌≡◌, ◌≢◌, ℕ, zero, suc, ◌<◌, ◌≤◌, ◌+◌, ◌-◌, Bool, true, false, not, eqb, ◌||◌, List, [], ◌∷◌, ◌++◌, length, get_or, take, filter, eqb-true, sym, refl, ap, ◌∙◌, subst, arith}
+use Rattle.std.proofs.Common.{◌≡◌, ◌≢◌, ℕ, zero, suc, ◌<◌, ◌≤◌, ◌+◌, ◌-◌, Bool, true, false, not, eqb, ◌||◌, List, [], ◌∷◌, ◌++◌, length, get_or, take, filter, slice_get, Some, add-one, eqb-true, sym, refl, ap, ◌∙◌, subst, arith}
 use Rattle.std.specs.List.{list_any}
 use Rattle.std.proofs.lemmas.Bool.Decides.{nat_tests}
-use Rattle.std.proofs.lemmas.List.{length-take-le, take_more, get_or-take, get_or_default}
+use Rattle.std.proofs.lemmas.List.{length-take, length-take-le, take_more, get_or-take, get_or_default}
+use Rattle.std.proofs.lemmas.Option.{unwrap_or-slice_get}
+use Rattle.std.specs.Prelude.{unwrap_or}
 use Rattle.std.proofs.lemmas.List.Filters.{length-filter_both}
 use Rattle.std.proofs.lemmas.List.Folds.{list_any-append, list_any_none}
 use Rattle.tau_waiting.specs.declared.letter.Letter.{Letter}
 use Rattle.tau_waiting.specs.Letters.{is_to, is_for, IsAscending}
 use Rattle.tau_waiting.specs.MailState.{is_busy, is_blocked, is_deliverable, AllDiffer}
-use Rattle.tau_waiting.proofs.Lists.{filter-comm, length-filter-le}
+use Rattle.tau_waiting.proofs.Lists.{filter-comm, filter-none, length-filter-le, length-filter-take, nth-filter}
 use Rattle.tau_waiting.proofs.Search.{to-place}
 
 -- a receiver that differs from those before it isn't one of them
@@ -60,3 +62,41 @@ pub blocked-or-deliverable : (busy : List ℕ) (ls : List Letter) (k : ℕ) (d :
 blocked-or-deliverable busy ls k d up lt =
     rw (filter-comm (is_to (get_or ls k d).message) (is_blocked busy) ls, to-place ls k d up lt)
     (length-filter_both (is_blocked busy) (is_deliverable busy) (λ l. refl) (take (suc k) ls) ∙ length-take-le (suc k) ls (omega (arith, lt)))
+
+-- nobody in a turn blocks nothing
+pub blocked-none : (t : Letter → Bool) (ls : List Letter) → 0 ≡ length (filter t (filter (is_blocked []) ls))
+blocked-none t ls = rw (filter-none (is_blocked []) ls (λ k d lt. refl)) refl
+
+-- the same of the letter that is at the place
+pub passed-by : (busy : List ℕ) (ls : List Letter) (k : ℕ) (x : Letter) (blocked : ℕ) → IsAscending ls → k < length ls → slice_get ls k ≡ Some x
+    → blocked ≡ length (filter (is_to x.message) (filter (is_blocked busy) ls)) → blocked + length (filter (is_deliverable busy) (take (k + 1) ls)) ≡ k + 1
+passed-by busy ls k x blocked up lt at e =
+    let here : get_or ls k x ≡ x = sym (unwrap_or-slice_get ls k x) ∙ ap (λ o. unwrap_or o x) at in
+    let sum = blocked-or-deliverable busy ls k x up lt in
+    let sum' : length (filter (is_to x.message) (filter (is_blocked busy) ls)) + length (filter (is_deliverable busy) (take (suc k) ls)) ≡ suc k = rw here at sum in
+    rw (add-one k) (omega (arith, e, sum'))
+
+-- what a search for the element with the number k of those that pass knows where it stands between low and high
+pub record IsBetween (p : Letter → Bool) (ls : List Letter) (k low high : ℕ) : Type 0 where
+  pub ordered : low ≤ high
+  pub within : high < length ls
+  pub before : length (filter p (take low ls)) ≤ k
+  pub through : k < length (filter p (take (high + 1) ls))
+
+-- it begins between k and the place that is as many further on as there are that don't pass
+pub search-start : (p : Letter → Bool) (ls : List Letter) (k count n : ℕ) → count ≡ length (filter p ls) → n ≡ length ls → k < count → IsBetween p ls k k (k + (n - count))
+search-start p ls k count n e f lt =
+    let most : count ≤ n = omega (arith, e, f, length-filter-le p ls) in
+    record {
+      ordered = omega arith;
+      within = omega (arith, most, f, lt);
+      before = omega (arith, length-filter-le p (take k ls), length-take k ls);
+      through = omega (arith, most, e, f, lt, length-filter-take p ls (k + (n - count) + 1));
+    }
+
+-- it ends at the element
+pub search-end : (p : Letter → Bool) (ls : List Letter) (k low high : ℕ) → IsBetween p ls k low high → high ≤ low → slice_get ls low ≡ slice_get (filter p ls) k
+search-end p ls k low high b met =
+    let same : high ≡ low = omega (arith, b.ordered, met) in
+    let through : k < length (filter p (take (suc low) ls)) = subst (λ i. k < length (filter p (take i ls))) (let e : high + 1 ≡ suc low = omega (arith, same) in e) b.through in
+    sym (nth-filter p ls low k b.before through)
