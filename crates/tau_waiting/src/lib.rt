@@ -9,4 +9,6 @@ mod letters;
 mod mail;
 mod order;
 mod parts;
+#[cfg(test)]
+mod tests;
 mod waiting;

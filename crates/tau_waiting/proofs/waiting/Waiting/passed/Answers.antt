@@ -7,7 +7,7 @@ overflow_sub-result c =
     omega (
       arith,
       passed-by c.self.inside.busy.items c.self.inside.mail.letters c.args.place c.in-Some.letter c.blocked_to.result c.len-most.ensures.ascending (rw (← c.self.view_is) at c.requires)
-      (sym c.at.ensures ∙ c.in-Some.is) (rw c.deref.ensures.value at c.blocked_to.ensures),
+          (sym c.at.ensures ∙ c.in-Some.is) (rw c.deref.ensures.value at c.blocked_to.ensures),
     )
 
 pub returns : goal.returns
@@ -16,5 +16,5 @@ returns c =
     (omega (
       arith,
       passed-by c.self.inside.busy.items c.self.inside.mail.letters c.args.place c.in-Some.letter c.blocked_to.result c.len-most.ensures.ascending (rw (← c.self.view_is) at c.requires)
-      (sym c.at.ensures ∙ c.in-Some.is) (rw c.deref.ensures.value at c.blocked_to.ensures),
+          (sym c.at.ensures ∙ c.in-Some.is) (rw c.deref.ensures.value at c.blocked_to.ensures),
     ))
