@@ -1,5 +1,5 @@
 -- Letters in blocks: where a message can be, and what a change of one block makes of them all.
-use Rattle.std.proofs.Common.{◌≡◌, ℕ, zero, suc, ◌<◌, ◌≤◌, ◌+◌, ◌-◌, Bool, true, false, List, [], ◌∷◌, ◌++◌, length, get_or, set, take, drop, remove, find, filter, slice_get, All, Some, sym, refl, ap, ◌∙◌, subst, append_assoc, add-one, arith}
+use Rattle.std.proofs.Common.{◌≡◌, ℕ, zero, suc, ◌<◌, ◌≤◌, ◌+◌, ◌-◌, Bool, false, List, [], ◌∷◌, ◌++◌, length, get_or, set, take, drop, remove, find, filter, slice_get, All, Some, sym, refl, ap, ◌∙◌, subst, append_assoc, add-one, arith}
 use Rattle.std.proofs.lemmas.Bool.Decides.{nat_tests}
 use Rattle.std.proofs.lemmas.List.{length-append, length_push, get_or_read, get_or_default, at_drop_more, take_all, get_or_append_left, get_or-append-add, append-nil}
 use Rattle.std.proofs.lemmas.List.Kept.{AllPairs-filter}

@@ -1,5 +1,5 @@
 -- Ascending letters, and the place that a binary search gives.
-use Rattle.std.proofs.Common.{◌≡◌, ◌≢◌, ℕ, suc, ◌<◌, ◌≤◌, Bool, true, false, eqb, ltb, leb, not, List, length, get_or, take, find, filter, sym, ap, ◌-◌, Some, slice_get, MatchBool, Any, refl, ◌∙◌, arith}
+use Rattle.std.proofs.Common.{◌≡◌, ◌≢◌, ℕ, suc, ◌<◌, ◌≤◌, Bool, true, false, eqb, ltb, leb, not, List, length, get_or, take, filter, sym, ap, ◌-◌, Some, slice_get, MatchBool, Any, refl, ◌∙◌, arith}
 use Rattle.std.proofs.lemmas.Bool.Decides.{nat_tests}
 use Rattle.std.proofs.lemmas.List.{get_or_default, length-take-le}
 use Rattle.std.specs.Prelude.{unwrap_or}

@@ -1,5 +1,5 @@
 use Rattle.std.proofs.Common.{◌+◌, take, arith}
-use Rattle.tau_waiting.specs.Letters.{is_to, is_for}
+use Rattle.tau_waiting.specs.Letters.{is_to}
 use Rattle.tau_waiting.specs.MailState.{is_blocked}
 use Rattle.tau_waiting.proofs.Counting.{blocked-none, blocked-step, blocked-le}
 use Rattle.tau_waiting.proofs.waiting.blocked_to.Goals as goal
