@@ -1,7 +1,8 @@
 -- How many letters are for the receivers in a turn.
-use Rattle.std.proofs.Common.{◌≡◌, ◌≢◌, ℕ, suc, ◌<◌, ◌≤◌, ◌+◌, ◌-◌, Bool, true, false, eqb, ◌||◌, List, [], ◌∷◌, ◌++◌, length, get_or, take, filter, slice_get, Some, add-one, eqb-true, sym, refl, ap, ◌∙◌, subst, arith}
+use Rattle.std.proofs.Common.{◌≡◌, ◌≢◌, ℕ, suc, ◌<◌, ◌≤◌, ◌+◌, ◌-◌, Bool, true, false, eqb, ◌||◌, List, [], ◌∷◌, ◌++◌, length, get_or, take, filter, slice_get, Some, add-one, eqb-true, sym, refl, ap, ◌∙◌, subst, ⊎_elim, arith}
+use Rattle.std.proofs.lemmas.Bool.{cases_lt}
 use Rattle.std.proofs.lemmas.Bool.Decides.{nat_tests}
-use Rattle.std.proofs.lemmas.List.{length-take, length-take-le, take_more, get_or-take, get_or_default}
+use Rattle.std.proofs.lemmas.List.{length-take, length-take-le, take_all, take_more, get_or-take, get_or_default}
 use Rattle.std.proofs.lemmas.Option.{unwrap_or-slice_get}
 use Rattle.std.specs.Prelude.{unwrap_or}
 use Rattle.std.proofs.lemmas.List.Filters.{length-filter_both}
@@ -9,7 +10,7 @@ use Rattle.std.proofs.lemmas.List.Folds.{list_any_none}
 use Rattle.tau_waiting.specs.declared.letter.Letter.{Letter}
 use Rattle.tau_waiting.specs.Letters.{is_to, is_for, IsAscending}
 use Rattle.tau_waiting.specs.MailState.{is_busy, is_blocked, is_deliverable, AllDiffer}
-use Rattle.tau_waiting.proofs.Lists.{filter-comm, filter-none, length-filter-le, length-filter-take, nth-filter}
+use Rattle.tau_waiting.proofs.Lists.{filter-comm, filter-none, length-filter-le, filter-take-le, nth-filter}
 use Rattle.tau_waiting.proofs.Search.{to-place}
 
 -- a receiver that differs from those before it isn't one of them
@@ -90,7 +91,34 @@ search-start p ls k count n e f lt =
       ordered = omega arith;
       within = omega (arith, most, f, lt);
       before = omega (arith, length-filter-le p (take k ls), length-take k ls);
-      through = omega (arith, most, e, f, lt, length-filter-take p ls (k + (n - count) + 1));
+      through =
+          let all : length (filter p (take n ls)) ≡ count = rw (take_all n ls (omega (arith, f))) (sym e) in
+          omega (arith, most, lt, all, filter-take-le p ls n (k + (n - count) + 1) (count - k - 1) (omega (arith, most, lt)));
+    }
+
+-- where too few are passed at the middle, at least as many places more are passed
+pub search-higher : (p : Letter → Bool) (ls : List Letter) (k low high middle passed : ℕ) → IsBetween p ls k low high → low ≤ middle → middle < high → passed ≡ length (filter p (take (middle + 1) ls)) → passed ≤ k → IsBetween p ls k (middle + 1 + (k - passed)) high
+search-higher p ls k low high middle passed b le lt e few = record {
+  ordered = omega (arith, b.through, few, e, filter-take-le p ls (high + 1) (middle + 1) (high - middle) (omega (arith, lt)));
+  within = b.within;
+  before = omega (arith, few, e, filter-take-le p ls (middle + 1 + (k - passed)) (middle + 1) (k - passed) (omega arith));
+  through = b.through;
+}
+
+-- no more are passed than there are places
+pub passed-le : (p : Letter → Bool) (ls : List Letter) (middle passed : ℕ) → passed ≡ length (filter p (take (middle + 1) ls)) → passed ≤ middle + 1
+passed-le p ls middle passed e = omega (arith, e, length-filter-le p (take (middle + 1) ls), length-take (middle + 1) ls)
+
+-- where more are passed, at least as many places fewer are
+pub search-lower : (p : Letter → Bool) (ls : List Letter) (k low high middle passed : ℕ) → IsBetween p ls k low high → low ≤ middle → middle < high → passed ≡ length (filter p (take (middle + 1) ls)) → k < passed → IsBetween p ls k low (middle - (passed - k - 1))
+search-lower p ls k low high middle passed b le lt e many =
+    let most : passed ≤ middle + 1 = passed-le p ls middle passed e in
+    let through : k < length (filter p (take (middle - (passed - k - 1) + 1) ls)) = omega (arith, most, many, e, filter-take-le p ls (middle + 1) (middle - (passed - k - 1) + 1) (passed - k - 1) (omega (arith, most, many))) in
+    record {
+      ordered = ⊎_elim (λ below. absurd (omega (arith, b.before, through, filter-take-le p ls (middle - (passed - k - 1) + 1) low 0 (omega (arith, below))))) (λ h. h) (cases_lt (middle - (passed - k - 1)) low);
+      within = omega (arith, b.within, lt);
+      before = b.before;
+      through = through;
     }
 
 -- it ends at the element

@@ -1,5 +1,6 @@
 -- `find` and `filter` where the elements that pass are known by their places, and how many pass.
-use Rattle.std.proofs.Common.{◌≡◌, ◌≢◌, ℕ, zero, suc, ◌<◌, ◌≤◌, ◌+◌, ◌-◌, Bool, true, false, List, [], ◌∷◌, ◌++◌, length, get_or, take, find, filter, remove, slice_get, All, Some, None, refl, ap, arith}
+use Rattle.std.proofs.Common.{◌≡◌, ◌≢◌, ℕ, zero, suc, ◌<◌, ◌≤◌, ◌+◌, Bool, true, false, List, [], ◌∷◌, ◌++◌, length, get_or, take, find, filter, remove, slice_get, All, Some, None, refl, ap, arith}
+use Rattle.std.proofs.lemmas.List.{length-take}
 use Rattle.std.proofs.lemmas.List.Elements.{All-tail}
 
 -- nothing is found where nothing passes
@@ -59,15 +60,16 @@ length-filter-le p (x ∷ xs) = by (p x) refl (length-filter-le p xs)
     by true t h = rw t (omega (arith, h))
     by false t h = rw t (omega (arith, h))
 
--- those that pass are among the first j, or there is room for them behind
-pub length-filter-take : {X : Type 0} (p : X → Bool) (xs : List X) (j : ℕ) → length (filter p xs) ≤ length (filter p (take j xs)) + (length xs - j)
-length-filter-take p xs zero = omega (arith, length-filter-le p xs)
-length-filter-take p [] (suc j) = omega arith
-length-filter-take p (x ∷ xs) (suc j) = by (p x) refl (length-filter-take p xs j)
+-- among m elements more, at most m more pass
+pub filter-take-le : {X : Type 0} (p : X → Bool) (xs : List X) (i j m : ℕ) → i ≤ j + m → length (filter p (take i xs)) ≤ length (filter p (take j xs)) + m
+filter-take-le p xs zero j m h = omega arith
+filter-take-le p [] (suc i) j m h = omega arith
+filter-take-le p (x ∷ xs) (suc i) zero m h = omega (arith, h, length-filter-le p (x ∷ take i xs), length-take i xs)
+filter-take-le p (x ∷ xs) (suc i) (suc j) m h = by (p x) refl (filter-take-le p xs i j m (omega (arith, h)))
   where
-    by : (b : Bool) → p x ≡ b → length (filter p xs) ≤ length (filter p (take j xs)) + (length xs - j) → length (filter p (x ∷ xs)) ≤ length (filter p (x ∷ take j xs)) + (suc (length xs) - suc j)
-    by true t h = rw t (omega (arith, h))
-    by false t h = rw t (omega (arith, h))
+    by : (b : Bool) → p x ≡ b → length (filter p (take i xs)) ≤ length (filter p (take j xs)) + m → length (filter p (x ∷ take i xs)) ≤ length (filter p (x ∷ take j xs)) + m
+    by true t later = rw t (omega (arith, later))
+    by false t later = rw t later
 
 -- the element at place i is the one with the number k of those that pass, where k of them stand before it and it passes
 pub nth-filter : {X : Type 0} (p : X → Bool) (xs : List X) (i k : ℕ) → length (filter p (take i xs)) ≤ k → k < length (filter p (take (suc i) xs)) → slice_get (filter p xs) k ≡ slice_get xs i

@@ -178,14 +178,16 @@ impl Waiting {
         if count <= k {
             return None;
         }
+        // The place is as far from the middle, at least, as the number of letters passed there is from the one wanted.
         let mut low = k;
         let mut high = k + (self.mail.len() - count);
         while low < high {
             let middle = low + (high - low) / 2;
-            if self.passed(middle) <= k {
-                low = middle + 1;
+            let passed = self.passed(middle);
+            if passed <= k {
+                low = middle + 1 + (k - passed);
             } else {
-                high = middle;
+                high = middle - (passed - k - 1);
             }
         }
         self.mail.at(low)
