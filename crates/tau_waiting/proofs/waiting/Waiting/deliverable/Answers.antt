@@ -16,12 +16,12 @@ loop-low-init c =
 pub loop-low-preserved-then-passed-k : goal.loop-low-preserved-then-passed-k
 loop-low-preserved-then-passed-k c =
     let middle = c.loop-low.low + (c.loop-low.high - c.loop-low.low) / 2 in
-    search-higher (is_deliverable c.args.self.now.busy) c.args.self.now.letters c.args.k c.loop-low.low c.loop-low.high middle c.passed-passed.result c.loop-low.invariant (omega arith) (omega (arith, c.loop-low-test.true)) c.passed-passed.ensures c.if-passed-k.true
+    search-higher (is_deliverable c.args.self.now.busy) c.args.self.now.letters c.args.k c.loop-low.low c.loop-low.high middle c.passed-passed.result c.loop-low.invariant (omega arith) (omega (arith, c.loop-low-test.true)) c.passed-passed.ensures (omega (arith, c.if-passed-k.true))
 
 pub overflow_add-low-then-passed-k : goal.overflow_add-low-then-passed-k
 overflow_add-low-then-passed-k c =
     let middle = c.loop-low.low + (c.loop-low.high - c.loop-low.low) / 2 in
-    let next = search-higher (is_deliverable c.args.self.now.busy) c.args.self.now.letters c.args.k c.loop-low.low c.loop-low.high middle c.passed-passed.result c.loop-low.invariant (omega arith) (omega (arith, c.loop-low-test.true)) c.passed-passed.ensures c.if-passed-k.true in
+    let next = search-higher (is_deliverable c.args.self.now.busy) c.args.self.now.letters c.args.k c.loop-low.low c.loop-low.high middle c.passed-passed.result c.loop-low.invariant (omega arith) (omega (arith, c.loop-low-test.true)) c.passed-passed.ensures (omega (arith, c.if-passed-k.true)) in
     omega (arith, next.ordered, c.loop-low.auto.high-fits)
 
 pub overflow_sub-high-else-passed-k-3 : goal.overflow_sub-high-else-passed-k-3
@@ -31,7 +31,7 @@ overflow_sub-high-else-passed-k-3 c =
 pub loop-low-preserved : goal.loop-low-preserved
 loop-low-preserved c =
     let middle = c.loop-low.low + (c.loop-low.high - c.loop-low.low) / 2 in
-    search-lower (is_deliverable c.args.self.now.busy) c.args.self.now.letters c.args.k c.loop-low.low c.loop-low.high middle c.passed-passed.result c.loop-low.invariant (omega arith) (omega (arith, c.loop-low-test.true)) c.passed-passed.ensures c.if-passed-k.false
+    search-lower (is_deliverable c.args.self.now.busy) c.args.self.now.letters c.args.k c.loop-low.low c.loop-low.high middle c.passed-passed.result c.loop-low.invariant (omega arith) (omega (arith, c.loop-low-test.true)) c.passed-passed.ensures (omega (arith, c.if-passed-k.false))
 
 pub returns : goal.returns
 returns c =
