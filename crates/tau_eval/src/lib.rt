@@ -5,6 +5,7 @@ mod arguments;
 mod course;
 mod effects;
 mod frames;
+mod immediates;
 mod job;
 mod laws;
 mod machine;

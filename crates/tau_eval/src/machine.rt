@@ -14,6 +14,7 @@ ghost use Rattle.tau_eval.specs.declared.machine.Focus.TheVariants as focus;
 
 use crate::Effect;
 use crate::frames::{Frame, Progress, Round};
+use crate::immediates::{branch_at, operation_at, operation_with};
 use crate::openings::{finish, gather, last_of, open, part};
 use crate::operations::{of_one, of_two};
 use crate::resumptions::{choose, create, send};
@@ -92,6 +93,16 @@ impl<'p> Machine<'p> {
     {
         if self.count >= 100_000 {
             return Ok(Move::At(Effect::Trap(6)));
+        }
+        if self.count < 99_990 {
+            if let Some(answer) = operation_at(expr, setting, &self.scope) {
+                self.count += 3;
+                return Ok(self.follow(finish(answer)));
+            }
+            if let Some(branch) = branch_at(expr, setting, &self.scope) {
+                self.count += 4;
+                return Ok(Move::On(Focus::Eval(branch)));
+            }
         }
         match open(expr, setting, &self.scope) {
             Ok(progress) => {
@@ -228,6 +239,21 @@ impl<'p> Machine<'p> {
         }
     }
 
+    // Goes on with the right part of an operation, whose left value has come.
+    fn second(&mut self, setting: Setting<'_>, prim: Prim, right: &'p Expr, left: Value) -> Move<'p>
+        requires room { vec_len self.old.frames < vec_capacity self.old.frames }
+        ensures goes { (rs : List Val) → and_then (and_then (meaning_of right.entry.now (setting_of setting.entry) self.old.scope self.old.count rs) (λ w. finished (two_by prim (val_of left) w))) (rest_of self.old (setting_of setting.entry) self.old.scope) ≡ moved self.new (setting_of setting.entry) result rs }
+        ensures falls { Falls (3 * (100000 - self.old.count) + length self.old.frames.items + 2) self.new (Ok result) }
+    {
+        if self.count < 100_000 {
+            if let Some(answer) = operation_with(prim, &left, right, setting, &self.scope) {
+                self.count += 1;
+                return self.follow(finish(answer));
+            }
+        }
+        self.follow(part(Frame::Right { prim, left }, right))
+    }
+
     // Gives a value to a frame.
     fn meet(
         &mut self,
@@ -263,10 +289,7 @@ impl<'p> Machine<'p> {
                 self.each(list, next, value, round)
             }
             Frame::One { prim } => Ok(self.follow(finish(of_one(prim, &value)))),
-            Frame::Left { prim, right } => {
-                let frame = Frame::Right { prim, left: value };
-                Ok(self.follow(part(frame, right)))
-            }
+            Frame::Left { prim, right } => Ok(self.second(setting, prim, right, value)),
             Frame::Right { prim, left } => self.combine(setting.alloc, prim, left, value),
             Frame::State => Ok(Move::At(Effect::Set(value))),
             Frame::To { value: expr } => {

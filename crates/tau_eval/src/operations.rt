@@ -44,7 +44,8 @@ fn remainder_of(dividend: i64, divisor: i64) -> Answer
     integer_or_trap(dividend.checked_rem(divisor))
 }
 
-fn of_integers(prim: Prim, one: i64, two: i64) -> Answer
+/// An operation on two integers.
+pub fn of_integers(prim: Prim, one: i64, two: i64) -> Answer
     ensures { answer_of result ≡ integers_by prim one two }
 {
     match prim {

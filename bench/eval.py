@@ -1,0 +1,89 @@
+#!/usr/bin/env python3
+"""Measures the evaluation of behaviours by `tau run`: evaluations, seconds by the clock, and evaluations a second.
+
+It builds the program by bin/tau where it isn't built, and prints a table. Each program is run several times, and the
+median is shown; the time of an empty program is taken off. The aim is 40 million simple evaluations a second, and a
+second for each of the loads: 1,000 turns of some 90,000 evaluations, a body that reads a message of 65,536 parts 90,000
+times, and a fold that pushes 20,000 items.
+"""
+
+import os
+import statistics
+import subprocess
+import sys
+import tempfile
+import time
+
+ROOT = os.path.dirname(os.path.dirname(os.path.abspath(__file__)))
+PROGRAM = os.path.join(ROOT, "crates", "tau", "out", "tau")
+RUNS = 5
+# A run that is stopped at its limit of steps has status 1, so the status is not tested.
+SILENT = {"stdout": subprocess.DEVNULL, "stderr": subprocess.DEVNULL, "check": False}
+# The steps of a turn: a Take, a Send and a Done.
+STEPS = 3
+
+
+def numbers(count):
+    """A list of small integers, as a value."""
+    return "(list " + " ".join(str(number % 7) for number in range(count)) + ")"
+
+
+def program(body, message, turns):
+    """A program whose transactor gets the message, and sends it to itself again where there are more turns."""
+    chain = f"(seq {body} (send self msg))" if turns > 1 else body
+    return f"(nodes 1)\n(behaviour b {chain})\n(start t b 0 0)\n(post t {message})\n"
+
+
+def nested(list_, body):
+    """Two folds over a list, one in the other: the body has the sum `c` and the item `d`."""
+    return f"(fold {list_} 0 (a b) (fold {list_} a (c d) {body}))"
+
+
+def in_nested(count, each):
+    """Evaluations of two folds over lists of `count` items that are at hand, with `each` in the body."""
+    return 3 + count * (3 + count * each)
+
+
+READS = "(seq " + " ".join(["msg"] * 9) + ")"
+TENS = "(list " + " ".join(["0"] * 100) + ")"
+MIXED = "(if (< d 3) (seq unit (+ c 1)) (let x d (- c x)))"
+
+# Name, body, message, turns, and evaluations of a turn.
+LOADS = [
+    ("sums of two variables, 1,000 turns", nested("msg", "(+ c d)"), numbers(172), 1000, in_nested(172, 3)),
+    ("operations in operations, 1,000 turns", nested("msg", "(% (+ (* c 3) d) 1000)"), numbers(112), 1000, in_nested(112, 7)),
+    ("a test, a let and a seq, 1,000 turns", nested("msg", MIXED), numbers(105), 1000, in_nested(105, 8)),
+    ("90,000 reads of 65,536 parts", nested(TENS, READS), numbers(65535), 1, in_nested(100, 10)),
+    ("20,000 pushes", "(len (fold msg (list) (s i) (push s i)))", numbers(20000), 1, 60004),
+]
+
+
+def seconds_of(text, steps, folder):
+    """Seconds by the clock of one run, the median of several."""
+    path = os.path.join(folder, "program.tau")
+    with open(path, "w", encoding="utf-8") as file:
+        file.write(text)
+    taken = []
+    for _ in range(RUNS):
+        with open(path, "rb") as source:
+            begun = time.monotonic()
+            subprocess.run([PROGRAM, "run", "--steps", str(steps)], stdin=source, **SILENT)
+            taken.append(time.monotonic() - begun)
+    return statistics.median(taken)
+
+
+def main():
+    if not os.path.exists(PROGRAM):
+        subprocess.run([os.path.join(ROOT, "bin", "tau")], stdin=subprocess.DEVNULL, check=False)
+    print(f"{'load':40} {'evaluations':>12} {'seconds':>8} {'millions a second':>18}")
+    with tempfile.TemporaryDirectory() as folder:
+        for name, body, message, turns, each in LOADS:
+            # The same program with a body that does nothing shows what the rest costs.
+            idle = seconds_of(program("unit", message, turns), STEPS * turns, folder)
+            seconds = seconds_of(program(body, message, turns), STEPS * turns, folder)
+            count = turns * each
+            print(f"{name:40} {count:12} {seconds:8.3f} {count / max(seconds - idle, 1e-6) / 1e6:18.1f}")
+
+
+if __name__ == "__main__":
+    sys.exit(main())
