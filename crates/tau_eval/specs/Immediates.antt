@@ -15,6 +15,10 @@ Reads c s env v = (n : ℕ) (rs : List Val) → meaning c s env n rs ≡ begun n
 abbrev pub Finishes : Code → Setting → Scope → ℕ → Answer → Type 0
 Finishes c s env spent a = (n : ℕ) (rs : List Val) → n + spent ≤ 100000 → meaning c s env n rs ≡ finished a (n + spent) rs
 
+-- an expression whose value comes after so many evaluations
+abbrev pub Gives : Code → Setting → Scope → ℕ → Val → Type 0
+Gives c s env spent v = (n : ℕ) (rs : List Val) → n + spent ≤ 100000 → meaning c s env n rs ≡ gives v (n + spent) rs
+
 -- an expression that comes to what another one does after so many evaluations
 abbrev pub GoesTo : Code → Setting → Scope → ℕ → Code → Type 0
 GoesTo c s env spent d = (n : ℕ) (rs : List Val) → n + spent ≤ 100000 → meaning c s env n rs ≡ meaning d s env (n + spent) rs

@@ -17,7 +17,8 @@ use crate::settings::Setting;
 use tau_tree::{Expr, Prim};
 use tau_value::Value;
 
-fn integer_in(value: &Value) -> Option<i64>
+/// The integer that a value is; `None` for another kind.
+pub fn integer_in(value: &Value) -> Option<i64>
     ensures { IfSome result (λ z. val_of value.now ≡ int z) }
 {
     match value {
@@ -42,9 +43,9 @@ fn integer_at(expr: &Expr, setting: Setting<'_>, scope: &Scope<'_>) -> Option<i6
     }
 }
 
-// What an operation that takes two integers gives for them; `None` for another operation.
+/// What an operation that takes two integers gives for them; `None` for another operation.
 #[tactic(auto, using(crate::proofs::SameLemmas::same_values_is))]
-fn of_two_integers(prim: Prim, one: i64, two: i64) -> Option<Answer>
+pub fn of_two_integers(prim: Prim, one: i64, two: i64) -> Option<Answer>
     ensures { IfSome result (λ a. answer_of a ≡ two_by prim (int one) (int two)) }
 {
     match prim {
@@ -76,11 +77,7 @@ pub fn operation_at(expr: &Expr, setting: Setting<'_>, scope: &Scope<'_>) -> Opt
 /// The branch that an if takes whose test is an operation on two integers at hand; `None` for another expression. It
 /// counts four evaluations.
 #[tactic(auto, using(tau_tree::proofs::ExprLemmas::codes))]
-pub fn branch_at<'p>(
-    expr: &'p Expr,
-    setting: Setting<'_>,
-    scope: &Scope<'_>,
-) -> Option<&'p Expr>
+pub fn branch_at<'p>(expr: &'p Expr, setting: Setting<'_>, scope: &Scope<'_>) -> Option<&'p Expr>
     ensures { IfSome result (λ e. GoesTo (code_of expr.entry.now) (setting_of setting.entry) scope.now 4 (code_of e.now)) }
 {
     let Expr::If { test, yes, no } = expr else {

@@ -12,6 +12,7 @@ mod machine;
 mod openings;
 mod operations;
 mod resumptions;
+mod rounds;
 mod scopes;
 mod settings;
 

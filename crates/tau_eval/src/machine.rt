@@ -9,7 +9,7 @@ ghost use Rattle.tau_eval.specs.Outcome.{and_then, finished, effect_of};
 ghost use Rattle.tau_eval.specs.Meaning.{Setting as Surrounding, items, folds, for_each};
 ghost use Rattle.tau_eval.specs.Settings.{setting_of};
 ghost use Rattle.tau_eval.specs.Frames.{parts, meaning_of, round_of, comes, StaysIn, made_of, scope_under};
-ghost use Rattle.tau_eval.specs.Machine.{rest_of, running, reached as reached_by, moved, left, SameEffect, work, Falls};
+ghost use Rattle.tau_eval.specs.Machine.{rest_of, running, meeting, reached as reached_by, moved, left, SameEffect, work, Falls};
 ghost use Rattle.tau_eval.specs.declared.machine.Focus.TheVariants as focus;
 
 use crate::Effect;
@@ -18,6 +18,7 @@ use crate::immediates::{branch_at, operation_at, operation_with};
 use crate::openings::{finish, gather, last_of, open, part};
 use crate::operations::{of_one, of_two};
 use crate::resumptions::{choose, create, send};
+use crate::rounds::{Rounds, rounds_at};
 use crate::scopes::Scope;
 use crate::settings::Setting;
 use std::alloc::{AllocError, Global};
@@ -41,8 +42,6 @@ pub enum Focus<'p> {
     Eval(&'p Expr),
     /// The value is given to the last frame.
     Give(Value),
-    /// The value is given to this frame.
-    Meet(Frame<'p>, Value),
 }
 
 /// A step of a machine.
@@ -85,6 +84,16 @@ impl<'p> Machine<'p> {
         }
     }
 
+    // Where the machine stands before a frame meets a value, once more.
+    #[cold]
+    fn put_back(&mut self, frame: Frame<'p>, value: Value) -> Focus<'p>
+        requires room { vec_len self.old.frames < vec_capacity self.old.frames }
+        ensures goes { (s : Surrounding) (rs : List Val) → meeting self.old s frame.entry (val_of value) rs ≡ running self.new s result rs }
+    {
+        self.frames.push_reserved(frame);
+        Focus::Give(value)
+    }
+
     // Begins the evaluation of an expression.
     fn eval(&mut self, expr: &'p Expr, setting: Setting<'_>) -> Result<Move<'p>, Focus<'p>>
         requires room { vec_len self.old.frames < vec_capacity self.old.frames }
@@ -125,7 +134,7 @@ impl<'p> Machine<'p> {
                 self.frames.push_reserved(Frame::Leave { height });
                 Ok(Move::On(Focus::Eval(body)))
             }
-            Err((value, _failed)) => Err(Focus::Meet(Frame::Bind { name, body }, value)),
+            Err((value, _failed)) => Err(self.put_back(Frame::Bind { name, body }, value)),
         }
     }
 
@@ -156,26 +165,49 @@ impl<'p> Machine<'p> {
                     });
                     Ok(Move::On(Focus::Eval(round.body)))
                 }
-                Err((sum, _item)) => Err(Focus::Meet(
-                    Frame::Next {
+                Err((sum, _item)) => {
+                    let frame = Frame::Next {
                         height,
                         list,
                         next,
                         round,
-                    },
-                    sum,
-                )),
+                    };
+                    Err(self.put_back(frame, sum))
+                }
             },
-            Err(_failed) => Err(Focus::Meet(
-                Frame::Next {
+            Err(_failed) => {
+                let frame = Frame::Next {
                     height,
                     list,
                     next,
                     round,
-                },
-                sum,
-            )),
+                };
+                Err(self.put_back(frame, sum))
+            }
         }
+    }
+
+    // The next rounds of a fold with this sum, or its end: first those whose value is at hand.
+    fn rounds(
+        &mut self,
+        setting: Setting<'_>,
+        list: Values,
+        next: usize,
+        sum: Value,
+        round: Round<'p>,
+    ) -> Result<Move<'p>, Focus<'p>>
+        requires room { vec_len self.old.frames < vec_capacity self.old.frames }
+        ensures goes { SameEffect (λ rs. and_then (for_each (inside (drop next list)) (val_of sum) (round_of round.entry (setting_of setting.entry) self.old.scope) self.old.count rs) (rest_of self.old (setting_of setting.entry) self.old.scope)) (left self.new (setting_of setting.entry) result) }
+        ensures falls { Falls (3 * (100000 - self.old.count) + length self.old.frames.items + 2) self.new result }
+    {
+        let from = Rounds {
+            next,
+            sum,
+            count: self.count,
+        };
+        let Rounds { next, sum, count } = rounds_at(&list, setting, &self.scope, round, from);
+        self.count = count;
+        self.each(list, next, sum, round)
     }
 
     // Lets go of the variables that the last frame leaves, so that what they share can be changed in place.
@@ -204,7 +236,7 @@ impl<'p> Machine<'p> {
     {
         match values.push(value) {
             Ok(()) => Ok(self.follow(gather(values, rest))),
-            Err((value, _failed)) => Err(Focus::Meet(Frame::Gather { values, rest }, value)),
+            Err((value, _failed)) => Err(self.put_back(Frame::Gather { values, rest }, value)),
         }
     }
 
@@ -223,18 +255,24 @@ impl<'p> Machine<'p> {
         self.release();
         match of_two(alloc, prim, one, two) {
             Ok(answer) => Ok(self.follow(finish(answer))),
-            Err((left, two, _failed)) => Err(Focus::Meet(Frame::Right { prim, left }, two)),
+            Err((left, two, _failed)) => Err(self.put_back(Frame::Right { prim, left }, two)),
         }
     }
 
     // The rounds of a fold over this value, with this first sum.
-    fn fold(&mut self, list: Value, first: Value, round: Round<'p>) -> Result<Move<'p>, Focus<'p>>
+    fn fold(
+        &mut self,
+        setting: Setting<'_>,
+        list: Value,
+        first: Value,
+        round: Round<'p>,
+    ) -> Result<Move<'p>, Focus<'p>>
         requires room { vec_len self.old.frames < vec_capacity self.old.frames }
-        ensures goes { (s : Surrounding) → SameEffect (λ rs. and_then (folds (val_of list) (val_of first) (round_of round.entry s self.old.scope) self.old.count rs) (rest_of self.old s self.old.scope)) (left self.new s result) }
+        ensures goes { SameEffect (λ rs. and_then (folds (val_of list) (val_of first) (round_of round.entry (setting_of setting.entry) self.old.scope) self.old.count rs) (rest_of self.old (setting_of setting.entry) self.old.scope)) (left self.new (setting_of setting.entry) result) }
         ensures falls { Falls (3 * (100000 - self.old.count) + length self.old.frames.items + 2) self.new result }
     {
         match list {
-            Value::List(items) => self.each(items, 0, first, round),
+            Value::List(items) => self.rounds(setting, items, 0, first, round),
             _ => Ok(Move::At(Effect::Trap(1))),
         }
     }
@@ -262,7 +300,7 @@ impl<'p> Machine<'p> {
         value: Value,
     ) -> Result<Move<'p>, Focus<'p>>
         requires room { vec_len self.old.frames < vec_capacity self.old.frames }
-        ensures goes { SameEffect (running self.old (setting_of setting.entry) (focus.Meet frame.entry value)) (left self.new (setting_of setting.entry) result) }
+        ensures goes { SameEffect (meeting self.old (setting_of setting.entry) frame.entry (val_of value)) (left self.new (setting_of setting.entry) result) }
         ensures falls { Falls (3 * (100000 - self.old.count) + length self.old.frames.items + 2) self.new result }
     {
         match frame {
@@ -278,7 +316,7 @@ impl<'p> Machine<'p> {
                 let frame = Frame::Start { list: value, round };
                 Ok(self.follow(part(frame, first)))
             }
-            Frame::Start { list, round } => self.fold(list, value, round),
+            Frame::Start { list, round } => self.fold(setting, list, value, round),
             Frame::Next {
                 height,
                 list,
@@ -286,7 +324,7 @@ impl<'p> Machine<'p> {
                 round,
             } => {
                 self.scope.cut(height);
-                self.each(list, next, value, round)
+                self.rounds(setting, list, next, value, round)
             }
             Frame::One { prim } => Ok(self.follow(finish(of_one(prim, &value)))),
             Frame::Left { prim, right } => Ok(self.second(setting, prim, right, value)),
@@ -333,7 +371,6 @@ impl<'p> Machine<'p> {
         match focus {
             Focus::Eval(expr) => self.eval(expr, setting),
             Focus::Give(value) => self.give(setting, value),
-            Focus::Meet(frame, value) => self.meet(setting, frame, value),
         }
     }
 
