@@ -18,6 +18,7 @@ use tau_tree::{Expr, Prim};
 use tau_value::Value;
 
 /// The integer that a value is; `None` for another kind.
+#[inline(always)]
 pub fn integer_in(value: &Value) -> Option<i64>
     ensures { IfSome result (λ z. val_of value.now ≡ int z) }
 {
@@ -29,6 +30,7 @@ pub fn integer_in(value: &Value) -> Option<i64>
 
 // The integer that a literal, the message or a variable is; `None` for another value and for another expression.
 #[tactic(auto, using(tau_tree::proofs::ExprLemmas::codes))]
+#[inline(always)]
 fn integer_at(expr: &Expr, setting: Setting<'_>, scope: &Scope<'_>) -> Option<i64>
     ensures { IfSome result (λ z. Reads (code_of expr.now) (setting_of setting.entry) scope.now (int z)) }
 {
@@ -45,6 +47,7 @@ fn integer_at(expr: &Expr, setting: Setting<'_>, scope: &Scope<'_>) -> Option<i6
 
 /// What an operation that takes two integers gives for them; `None` for another operation.
 #[tactic(auto, using(crate::proofs::SameLemmas::same_values_is))]
+#[inline(always)]
 pub fn of_two_integers(prim: Prim, one: i64, two: i64) -> Option<Answer>
     ensures { IfSome result (λ a. answer_of a ≡ two_by prim (int one) (int two)) }
 {

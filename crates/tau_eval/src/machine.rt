@@ -66,6 +66,7 @@ impl<'p> Machine<'p> {
     }
 
     // Goes on as an evaluation does.
+    #[inline(always)]
     fn follow(&mut self, progress: Progress<'p>) -> Move<'p>
         requires room { vec_len self.old.frames < vec_capacity self.old.frames }
         requires stays { StaysIn progress }

@@ -38,6 +38,7 @@ struct Given {
 }
 
 // The value of the nearest variable with a name in a round.
+#[inline(always)]
 fn find_in_round<'a>(
     name: &Word,
     scope: &'a Scope<'_>,
@@ -58,6 +59,7 @@ fn find_in_round<'a>(
 
 // The integer that a literal, the message or a variable is in a round; `None` for another value and another expression.
 #[tactic(auto, using(tau_tree::proofs::ExprLemmas::codes))]
+#[inline(always)]
 fn integer_in_round(
     expr: &Expr,
     setting: Setting<'_>,
@@ -160,7 +162,9 @@ fn operation_in_round(
     }
 }
 
-/// Goes through the rounds of a fold from an item on, as long as the value of the body is an integer at hand.
+/// Goes through the rounds of a fold from an item on, as long as the value of the body is an integer at hand. Where it
+/// stops before the last item, the body has other parts, or the round comes to a trap or to no integer; it has counted
+/// nothing of that round.
 pub fn rounds_at(
     list: &Values,
     setting: Setting<'_>,
