@@ -17,10 +17,6 @@ import time
 ROOT = os.path.dirname(os.path.dirname(os.path.abspath(__file__)))
 PROGRAM = os.path.join(ROOT, "crates", "tau", "out", "tau")
 RUNS = 5
-# A run that is stopped at its limit of steps has status 1, so the status is not tested.
-SILENT = {"stdout": subprocess.DEVNULL, "stderr": subprocess.DEVNULL, "check": False}
-# The steps of a turn: a Take, a Send and a Done.
-STEPS = 3
 
 
 def numbers(count):
@@ -29,9 +25,9 @@ def numbers(count):
 
 
 def program(body, message, turns):
-    """A program whose transactor gets the message, and sends it to itself again where there are more turns."""
-    chain = f"(seq {body} (send self msg))" if turns > 1 else body
-    return f"(nodes 1)\n(behaviour b {chain})\n(start t b 0 0)\n(post t {message})\n"
+    """A program whose transactor gets the message so many times: a turn is a Take and a Done."""
+    posts = f"(post t {message})\n" * turns
+    return f"(nodes 1)\n(behaviour b {body})\n(start t b 0 0)\n{posts}"
 
 
 def nested(list_, body):
@@ -44,21 +40,21 @@ def in_nested(count, each):
     return 3 + count * (3 + count * each)
 
 
-READS = "(seq " + " ".join(["msg"] * 9) + ")"
-TENS = "(list " + " ".join(["0"] * 100) + ")"
+READS = "(seq " + " ".join(["msg"] * 10) + ")"
+MANY = "(let l (list " + " ".join(["0"] * 95) + f") {nested('l', READS)})"
 MIXED = "(if (< d 3) (seq unit (+ c 1)) (let x d (- c x)))"
 
 # Name, body, message, turns, and evaluations of a turn.
 LOADS = [
-    ("sums of two variables, 1,000 turns", nested("msg", "(+ c d)"), numbers(172), 1000, in_nested(172, 3)),
-    ("operations in operations, 1,000 turns", nested("msg", "(% (+ (* c 3) d) 1000)"), numbers(112), 1000, in_nested(112, 7)),
-    ("a test, a let and a seq, 1,000 turns", nested("msg", MIXED), numbers(105), 1000, in_nested(105, 8)),
-    ("90,000 reads of 65,536 parts", nested(TENS, READS), numbers(65535), 1, in_nested(100, 10)),
+    ("sums of two variables, 500 turns", nested("msg", "(+ c d)"), numbers(172), 500, in_nested(172, 3)),
+    ("operations in operations, 500 turns", nested("msg", "(% (+ (* c 3) d) 1000)"), numbers(112), 500, in_nested(112, 7)),
+    ("a test, a let and a seq, 500 turns", nested("msg", MIXED), numbers(105), 500, in_nested(105, 8)),
+    ("90,000 reads of 65,536 parts", MANY, numbers(65535), 1, 97 + in_nested(95, 11)),
     ("20,000 pushes", "(len (fold msg (list) (s i) (push s i)))", numbers(20000), 1, 60004),
 ]
 
 
-def seconds_of(text, steps, folder):
+def seconds_of(text, folder):
     """Seconds by the clock of one run, the median of several."""
     path = os.path.join(folder, "program.tau")
     with open(path, "w", encoding="utf-8") as file:
@@ -67,7 +63,7 @@ def seconds_of(text, steps, folder):
     for _ in range(RUNS):
         with open(path, "rb") as source:
             begun = time.monotonic()
-            subprocess.run([PROGRAM, "run", "--steps", str(steps)], stdin=source, **SILENT)
+            subprocess.run([PROGRAM, "run"], stdin=source, stdout=subprocess.DEVNULL, check=True)
             taken.append(time.monotonic() - begun)
     return statistics.median(taken)
 
@@ -79,8 +75,8 @@ def main():
     with tempfile.TemporaryDirectory() as folder:
         for name, body, message, turns, each in LOADS:
             # The same program with a body that does nothing shows what the rest costs.
-            idle = seconds_of(program("unit", message, turns), STEPS * turns, folder)
-            seconds = seconds_of(program(body, message, turns), STEPS * turns, folder)
+            idle = seconds_of(program("unit", message, turns), folder)
+            seconds = seconds_of(program(body, message, turns), folder)
             count = turns * each
             print(f"{name:40} {count:12} {seconds:8.3f} {count / max(seconds - idle, 1e-6) / 1e6:18.1f}")
 

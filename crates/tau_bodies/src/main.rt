@@ -65,7 +65,8 @@ fn text_of(alloc: Global, program: &Program) -> Result<Vec<u8>, AllocError> {
     let mut text = Vec::new(alloc);
     for post in program.posts.items() {
         if let Some(turn) = turn_of(program, post) {
-            text.extend_from_slice(turn.start.name.bytes())?;
+            let start = turn.start;
+            text.extend_from_slice(start.name.bytes())?;
             text.extend_from_slice(b"\n  job  ")?;
             put_by_job(alloc, &mut text, turn)?;
             text.extend_from_slice(b"\n  plain")?;
@@ -82,7 +83,14 @@ fn put_by_job(alloc: Global, text: &mut Vec<u8>, turn: Turn<'_>) -> Result<(), A
         return Ok(());
     }
     let message = turn.message.copy()?;
-    let mut job = begin(alloc, turn.program, turn.who, turn.start.behaviour, 0, message)?;
+    let mut job = begin(
+        alloc,
+        turn.program,
+        turn.who,
+        turn.start.behaviour,
+        0,
+        message,
+    )?;
     for number in 0..LIMIT {
         match job.advance() {
             Ok(pending) => {
@@ -100,7 +108,8 @@ fn put_by_job(alloc: Global, text: &mut Vec<u8>, turn: Turn<'_>) -> Result<(), A
 
 // The effects of a turn by the plain evaluator.
 fn put_by_plain(alloc: Global, text: &mut Vec<u8>, turn: Turn<'_>) -> Result<(), AllocError> {
-    let body = &turn.behaviour.body;
+    let behaviour = turn.behaviour;
+    let body = &behaviour.body;
     let mut replies = Vec::new(alloc);
     for number in 0..LIMIT {
         let nodes = turn.program.nodes;

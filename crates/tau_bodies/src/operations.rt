@@ -13,7 +13,11 @@ pub fn trap(code: u8) -> Result<Value, Stop> {
 
 /// The value, or trap 5 where it is too large.
 pub fn bounded(value: Value) -> Result<Value, Stop> {
-    if in_bounds(&value) { Ok(value) } else { trap(5) }
+    if in_bounds(&value) {
+        Ok(value)
+    } else {
+        trap(5)
+    }
 }
 
 /// An operation on one value.

@@ -48,7 +48,12 @@ fn put_count(alloc: Global, text: &mut Vec<u8>, count: u32) -> Result<(), AllocE
 }
 
 // Adds a value at most `depth` deep; of a long list or text its length.
-fn put_value(alloc: Global, text: &mut Vec<u8>, value: &Value, depth: u32) -> Result<(), AllocError> {
+fn put_value(
+    alloc: Global,
+    text: &mut Vec<u8>,
+    value: &Value,
+    depth: u32,
+) -> Result<(), AllocError> {
     match value {
         Value::Unit => text.extend_from_slice(b"unit"),
         Value::Truth(true) => text.extend_from_slice(b"true"),
