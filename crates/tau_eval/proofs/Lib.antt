@@ -1,5 +1,6 @@
 pub mod CourseLemmas
 pub mod FrameLemmas
+pub mod ImmediateLemmas
 pub mod MachineLemmas
 pub mod SameLemmas
 pub mod ScopeLemmas

@@ -24,7 +24,7 @@ dropped [] k v e = cc
 dropped (x ∷ xs) zero v e = ap (λ w. w ∷ xs) (let h : x ≡ v = cc in h)
 dropped (x ∷ xs) (suc k) v e = dropped xs k v e
 
-dropped_at : (xs : List Val) (k : ℕ) (v : Val) → slice_get xs k ≡ Some v → drop k xs ≡ v ∷ drop (k + 1) xs
+pub dropped_at : (xs : List Val) (k : ℕ) (v : Val) → slice_get xs k ≡ Some v → drop k xs ≡ v ∷ drop (k + 1) xs
 dropped_at xs k v e = let more : suc k ≡ k + 1 = omega arith in dropped xs k v e ∙ ap (λ (n : ℕ). v ∷ drop n xs) more
 
 ends : (fs : List Frame) (f : Frame) → Some f ≡ slice_get fs (length fs - 1) → (init : List Frame) × (fs ≡ init ++ f ∷ [])

@@ -48,3 +48,20 @@ module _ {B : Type 0} (f : B → List ℕ × Val) (x : List ℕ) where
   nearest-passed bs n k b t more lt is h test e =
       let after : nearest x (map f (drop (suc k) bs)) ≡ None = ap (λ m. nearest x (map f (drop m bs))) more ∙ h in
       dropped bs k b lt is after ∙ chosen t (f b).0 (f b).1 test ∙ ap (λ a. cond a (Some (f b).1) None) e
+
+alone : (x : List ℕ) (t : Bool) (y : List ℕ) (v : Val) → (IsTrue t ↔ (y ≡ x)) → cond (bytes_eq y x) (Some v) None ≡ cond t (Some v) None
+alone x t y v h = chosen (λ (b : List ℕ × Val). b) x t y v h
+
+-- in a round of a fold the item is nearer than the sum, and the sum nearer than what is around the fold
+module _ (x sum item : List ℕ) (a b : Val) (env : Scope) where
+  pub nearest-item : (t : Bool) → (IsTrue t ↔ (item ≡ x)) → t ≡ true → nearest x (env ++ (sum, a) ∷ (item, b) ∷ []) ≡ Some b
+  nearest-item t h e =
+      nearest-append x env ((sum, a) ∷ (item, b) ∷ []) ∙ ap (λ (o : Option Val). option_or (option_or o (cond (bytes_eq sum x) (Some a) None)) (nearest x env)) (alone x t item b h ∙ ap (λ (z : Bool). cond z (Some b) None) e)
+
+  pub nearest-sum : (t u : Bool) → (IsTrue t ↔ (item ≡ x)) → t ≡ false → (IsTrue u ↔ (sum ≡ x)) → u ≡ true → nearest x (env ++ (sum, a) ∷ (item, b) ∷ []) ≡ Some a
+  nearest-sum t u h e k f =
+      nearest-append x env ((sum, a) ∷ (item, b) ∷ []) ∙ ap (λ (o : Option Val). option_or (option_or o (cond (bytes_eq sum x) (Some a) None)) (nearest x env)) (alone x t item b h ∙ ap (λ (z : Bool). cond z (Some b) None) e) ∙ ap (λ (o : Option Val). option_or o (nearest x env)) (alone x u sum a k ∙ ap (λ (z : Bool). cond z (Some a) None) f)
+
+  pub nearest-around : (t u : Bool) → (IsTrue t ↔ (item ≡ x)) → t ≡ false → (IsTrue u ↔ (sum ≡ x)) → u ≡ false → nearest x (env ++ (sum, a) ∷ (item, b) ∷ []) ≡ nearest x env
+  nearest-around t u h e k f =
+      nearest-append x env ((sum, a) ∷ (item, b) ∷ []) ∙ ap (λ (o : Option Val). option_or (option_or o (cond (bytes_eq sum x) (Some a) None)) (nearest x env)) (alone x t item b h ∙ ap (λ (z : Bool). cond z (Some b) None) e) ∙ ap (λ (o : Option Val). option_or o (nearest x env)) (alone x u sum a k ∙ ap (λ (z : Bool). cond z (Some a) None) f)

@@ -26,9 +26,13 @@ meaning_of e = meaning (code_of e)
 abbrev pub parts : List Expr → code.Codes
 parts es = code.inside (map code_of es)
 
+-- the scope of a fold's body, with the sum and an item
+abbrev pub scope_in : Round → Scope → Val → Val → Scope
+scope_in r env a b = env ++ (r.sum.now, a) ∷ (r.item.now, b) ∷ []
+
 -- what a fold makes of the sum and an item
 abbrev pub round_of : Round → Setting → Scope → Val → Val → After
-round_of r s env a b = meaning_of r.body.now s (env ++ (r.sum.now, a) ∷ (r.item.now, b) ∷ [])
+round_of r s env a b = meaning_of r.body.now s (scope_in r env a b)
 
 -- the scope in which a frame goes on: those that a let or a fold bound are left
 abbrev pub scope_under : Frame → Scope → Scope

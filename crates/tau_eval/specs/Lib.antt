@@ -6,6 +6,7 @@ pub mod Answered
 pub mod Outcome
 pub mod Arguments
 pub mod Meaning
+pub mod Immediates
 pub mod Frames
 pub mod Machine
 pub mod Turn

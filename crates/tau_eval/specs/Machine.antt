@@ -7,6 +7,7 @@ use Rattle.tau_eval.specs.Effect.{eff_of}
 use Rattle.tau_eval.specs.Outcome.{Outcome, After, and_then, effect_of}
 use Rattle.tau_eval.specs.Meaning.{Setting, Scope}
 use Rattle.tau_eval.specs.Frames.{meaning_of, scope_under, made_of, unwound, whole, answers}
+use Rattle.tau_eval.specs.declared.frames.Frame.{Frame}
 use Rattle.tau_eval.specs.declared.machine.Machine.{Machine}
 use Rattle.tau_eval.specs.declared.machine.Focus.{Focus}
 use Rattle.tau_eval.specs.declared.machine.Focus.TheVariants as focus
@@ -21,8 +22,11 @@ rest_of m = unwound m.frames.items whole
 abbrev pub running : Machine → Setting → Focus → List Val → Outcome
 running m s (focus.Eval e) rs = and_then (meaning_of e.now s m.scope m.count rs) (rest_of m s m.scope)
 running m s (focus.Give v) rs = rest_of m s m.scope (val_of v) m.count rs
-running m s (focus.Meet frame v) rs =
-    and_then (made_of frame s (scope_under frame m.scope) (val_of v) m.count rs) (rest_of m s (scope_under frame m.scope))
+
+-- what comes of a machine whose frame meets a value
+abbrev pub meeting : Machine → Setting → Frame → Val → List Val → Outcome
+meeting m s frame v rs =
+    and_then (made_of frame s (scope_under frame m.scope) v m.count rs) (rest_of m s (scope_under frame m.scope))
 
 -- what comes of a machine that has reached an effect
 abbrev pub reached : Machine → Setting → Eff → List Val → Outcome
@@ -46,7 +50,6 @@ SameEffect before after = (rs : List Val) → effect_of (before rs) ≡ effect_o
 abbrev pub work : Machine → Focus → ℕ
 work m (focus.Eval e) = 3 * (100000 - m.count) + length m.frames.items
 work m (focus.Give v) = 3 * (100000 - m.count) + length m.frames.items + 1
-work m (focus.Meet frame v) = 3 * (100000 - m.count) + length m.frames.items + 2
 
 -- a step that goes on leaves less work
 abbrev pub Falls : ℕ → Machine → Result Move Focus → Type 0

@@ -5,12 +5,14 @@ mod arguments;
 mod course;
 mod effects;
 mod frames;
+mod immediates;
 mod job;
 mod laws;
 mod machine;
 mod openings;
 mod operations;
 mod resumptions;
+mod rounds;
 mod scopes;
 mod settings;
 

@@ -9,14 +9,16 @@ ghost use Rattle.tau_eval.specs.Outcome.{and_then, finished, effect_of};
 ghost use Rattle.tau_eval.specs.Meaning.{Setting as Surrounding, items, folds, for_each};
 ghost use Rattle.tau_eval.specs.Settings.{setting_of};
 ghost use Rattle.tau_eval.specs.Frames.{parts, meaning_of, round_of, comes, StaysIn, made_of, scope_under};
-ghost use Rattle.tau_eval.specs.Machine.{rest_of, running, reached as reached_by, moved, left, SameEffect, work, Falls};
+ghost use Rattle.tau_eval.specs.Machine.{rest_of, running, meeting, reached as reached_by, moved, left, SameEffect, work, Falls};
 ghost use Rattle.tau_eval.specs.declared.machine.Focus.TheVariants as focus;
 
 use crate::Effect;
 use crate::frames::{Frame, Progress, Round};
+use crate::immediates::{branch_at, operation_at, operation_with};
 use crate::openings::{finish, gather, last_of, open, part};
 use crate::operations::{of_one, of_two};
 use crate::resumptions::{choose, create, send};
+use crate::rounds::{Rounds, rounds_at};
 use crate::scopes::Scope;
 use crate::settings::Setting;
 use std::alloc::{AllocError, Global};
@@ -40,8 +42,6 @@ pub enum Focus<'p> {
     Eval(&'p Expr),
     /// The value is given to the last frame.
     Give(Value),
-    /// The value is given to this frame.
-    Meet(Frame<'p>, Value),
 }
 
 /// A step of a machine.
@@ -66,6 +66,7 @@ impl<'p> Machine<'p> {
     }
 
     // Goes on as an evaluation does.
+    #[inline(always)]
     fn follow(&mut self, progress: Progress<'p>) -> Move<'p>
         requires room { vec_len self.old.frames < vec_capacity self.old.frames }
         requires stays { StaysIn progress }
@@ -84,6 +85,16 @@ impl<'p> Machine<'p> {
         }
     }
 
+    // Where the machine stands before a frame meets a value, once more.
+    #[cold]
+    fn put_back(&mut self, frame: Frame<'p>, value: Value) -> Focus<'p>
+        requires room { vec_len self.old.frames < vec_capacity self.old.frames }
+        ensures goes { (s : Surrounding) (rs : List Val) → meeting self.old s frame.entry (val_of value) rs ≡ running self.new s result rs }
+    {
+        self.frames.push_reserved(frame);
+        Focus::Give(value)
+    }
+
     // Begins the evaluation of an expression.
     fn eval(&mut self, expr: &'p Expr, setting: Setting<'_>) -> Result<Move<'p>, Focus<'p>>
         requires room { vec_len self.old.frames < vec_capacity self.old.frames }
@@ -92,6 +103,16 @@ impl<'p> Machine<'p> {
     {
         if self.count >= 100_000 {
             return Ok(Move::At(Effect::Trap(6)));
+        }
+        if self.count < 99_990 {
+            if let Some(answer) = operation_at(expr, setting, &self.scope) {
+                self.count += 3;
+                return Ok(self.follow(finish(answer)));
+            }
+            if let Some(branch) = branch_at(expr, setting, &self.scope) {
+                self.count += 4;
+                return Ok(Move::On(Focus::Eval(branch)));
+            }
         }
         match open(expr, setting, &self.scope) {
             Ok(progress) => {
@@ -114,7 +135,7 @@ impl<'p> Machine<'p> {
                 self.frames.push_reserved(Frame::Leave { height });
                 Ok(Move::On(Focus::Eval(body)))
             }
-            Err((value, _failed)) => Err(Focus::Meet(Frame::Bind { name, body }, value)),
+            Err((value, _failed)) => Err(self.put_back(Frame::Bind { name, body }, value)),
         }
     }
 
@@ -145,26 +166,49 @@ impl<'p> Machine<'p> {
                     });
                     Ok(Move::On(Focus::Eval(round.body)))
                 }
-                Err((sum, _item)) => Err(Focus::Meet(
-                    Frame::Next {
+                Err((sum, _item)) => {
+                    let frame = Frame::Next {
                         height,
                         list,
                         next,
                         round,
-                    },
-                    sum,
-                )),
+                    };
+                    Err(self.put_back(frame, sum))
+                }
             },
-            Err(_failed) => Err(Focus::Meet(
-                Frame::Next {
+            Err(_failed) => {
+                let frame = Frame::Next {
                     height,
                     list,
                     next,
                     round,
-                },
-                sum,
-            )),
+                };
+                Err(self.put_back(frame, sum))
+            }
         }
+    }
+
+    // The next rounds of a fold with this sum, or its end: first those whose value is at hand.
+    fn rounds(
+        &mut self,
+        setting: Setting<'_>,
+        list: Values,
+        next: usize,
+        sum: Value,
+        round: Round<'p>,
+    ) -> Result<Move<'p>, Focus<'p>>
+        requires room { vec_len self.old.frames < vec_capacity self.old.frames }
+        ensures goes { SameEffect (λ rs. and_then (for_each (inside (drop next list)) (val_of sum) (round_of round.entry (setting_of setting.entry) self.old.scope) self.old.count rs) (rest_of self.old (setting_of setting.entry) self.old.scope)) (left self.new (setting_of setting.entry) result) }
+        ensures falls { Falls (3 * (100000 - self.old.count) + length self.old.frames.items + 2) self.new result }
+    {
+        let from = Rounds {
+            next,
+            sum,
+            count: self.count,
+        };
+        let Rounds { next, sum, count } = rounds_at(&list, setting, &self.scope, round, from);
+        self.count = count;
+        self.each(list, next, sum, round)
     }
 
     // Lets go of the variables that the last frame leaves, so that what they share can be changed in place.
@@ -193,7 +237,7 @@ impl<'p> Machine<'p> {
     {
         match values.push(value) {
             Ok(()) => Ok(self.follow(gather(values, rest))),
-            Err((value, _failed)) => Err(Focus::Meet(Frame::Gather { values, rest }, value)),
+            Err((value, _failed)) => Err(self.put_back(Frame::Gather { values, rest }, value)),
         }
     }
 
@@ -212,20 +256,41 @@ impl<'p> Machine<'p> {
         self.release();
         match of_two(alloc, prim, one, two) {
             Ok(answer) => Ok(self.follow(finish(answer))),
-            Err((left, two, _failed)) => Err(Focus::Meet(Frame::Right { prim, left }, two)),
+            Err((left, two, _failed)) => Err(self.put_back(Frame::Right { prim, left }, two)),
         }
     }
 
     // The rounds of a fold over this value, with this first sum.
-    fn fold(&mut self, list: Value, first: Value, round: Round<'p>) -> Result<Move<'p>, Focus<'p>>
+    fn fold(
+        &mut self,
+        setting: Setting<'_>,
+        list: Value,
+        first: Value,
+        round: Round<'p>,
+    ) -> Result<Move<'p>, Focus<'p>>
         requires room { vec_len self.old.frames < vec_capacity self.old.frames }
-        ensures goes { (s : Surrounding) → SameEffect (λ rs. and_then (folds (val_of list) (val_of first) (round_of round.entry s self.old.scope) self.old.count rs) (rest_of self.old s self.old.scope)) (left self.new s result) }
+        ensures goes { SameEffect (λ rs. and_then (folds (val_of list) (val_of first) (round_of round.entry (setting_of setting.entry) self.old.scope) self.old.count rs) (rest_of self.old (setting_of setting.entry) self.old.scope)) (left self.new (setting_of setting.entry) result) }
         ensures falls { Falls (3 * (100000 - self.old.count) + length self.old.frames.items + 2) self.new result }
     {
         match list {
-            Value::List(items) => self.each(items, 0, first, round),
+            Value::List(items) => self.rounds(setting, items, 0, first, round),
             _ => Ok(Move::At(Effect::Trap(1))),
         }
+    }
+
+    // Goes on with the right part of an operation, whose left value has come.
+    fn second(&mut self, setting: Setting<'_>, prim: Prim, right: &'p Expr, left: Value) -> Move<'p>
+        requires room { vec_len self.old.frames < vec_capacity self.old.frames }
+        ensures goes { (rs : List Val) → and_then (and_then (meaning_of right.entry.now (setting_of setting.entry) self.old.scope self.old.count rs) (λ w. finished (two_by prim (val_of left) w))) (rest_of self.old (setting_of setting.entry) self.old.scope) ≡ moved self.new (setting_of setting.entry) result rs }
+        ensures falls { Falls (3 * (100000 - self.old.count) + length self.old.frames.items + 2) self.new (Ok result) }
+    {
+        if self.count < 100_000 {
+            if let Some(answer) = operation_with(prim, &left, right, setting, &self.scope) {
+                self.count += 1;
+                return self.follow(finish(answer));
+            }
+        }
+        self.follow(part(Frame::Right { prim, left }, right))
     }
 
     // Gives a value to a frame.
@@ -236,7 +301,7 @@ impl<'p> Machine<'p> {
         value: Value,
     ) -> Result<Move<'p>, Focus<'p>>
         requires room { vec_len self.old.frames < vec_capacity self.old.frames }
-        ensures goes { SameEffect (running self.old (setting_of setting.entry) (focus.Meet frame.entry value)) (left self.new (setting_of setting.entry) result) }
+        ensures goes { SameEffect (meeting self.old (setting_of setting.entry) frame.entry (val_of value)) (left self.new (setting_of setting.entry) result) }
         ensures falls { Falls (3 * (100000 - self.old.count) + length self.old.frames.items + 2) self.new result }
     {
         match frame {
@@ -252,7 +317,7 @@ impl<'p> Machine<'p> {
                 let frame = Frame::Start { list: value, round };
                 Ok(self.follow(part(frame, first)))
             }
-            Frame::Start { list, round } => self.fold(list, value, round),
+            Frame::Start { list, round } => self.fold(setting, list, value, round),
             Frame::Next {
                 height,
                 list,
@@ -260,13 +325,10 @@ impl<'p> Machine<'p> {
                 round,
             } => {
                 self.scope.cut(height);
-                self.each(list, next, value, round)
+                self.rounds(setting, list, next, value, round)
             }
             Frame::One { prim } => Ok(self.follow(finish(of_one(prim, &value)))),
-            Frame::Left { prim, right } => {
-                let frame = Frame::Right { prim, left: value };
-                Ok(self.follow(part(frame, right)))
-            }
+            Frame::Left { prim, right } => Ok(self.second(setting, prim, right, value)),
             Frame::Right { prim, left } => self.combine(setting.alloc, prim, left, value),
             Frame::State => Ok(Move::At(Effect::Set(value))),
             Frame::To { value: expr } => {
@@ -310,7 +372,6 @@ impl<'p> Machine<'p> {
         match focus {
             Focus::Eval(expr) => self.eval(expr, setting),
             Focus::Give(value) => self.give(setting, value),
-            Focus::Meet(frame, value) => self.meet(setting, frame, value),
         }
     }
 

@@ -24,6 +24,7 @@ use tau_tree::{Expr, Exprs, Prim};
 use tau_value::{Value, Values};
 
 /// The value of an operation, or its trap.
+#[inline(always)]
 pub fn finish<'p>(answer: Answer) -> Progress<'p>
     ensures value { (s : Surrounding) (env : Variables) (n : ℕ) (rs : List Val) → finished (answer_of answer) n rs ≡ comes result s env n rs }
     ensures stays { StaysIn result }
@@ -59,6 +60,7 @@ pub fn gather<'p>(values: Values, rest: &'p [Expr]) -> Progress<'p>
 }
 
 /// The value of the last of the rest, and this one where there is none.
+#[inline(always)]
 pub fn last_of<'p>(value: Value, rest: &'p [Expr]) -> Progress<'p>
     ensures value { (s : Surrounding) (env : Variables) (n : ℕ) (rs : List Val) → last (parts rest.entry.now) s env (val_of value) n rs ≡ comes result s env n rs }
     ensures stays { StaysIn result }
@@ -74,6 +76,7 @@ pub fn last_of<'p>(value: Value, rest: &'p [Expr]) -> Progress<'p>
 }
 
 /// A part is evaluated first, and the frame goes on with its value.
+#[inline(always)]
 pub fn part<'p>(frame: Frame<'p>, part: &'p Expr) -> Progress<'p>
     ensures { result ≡ progress.Part frame.entry part.entry }
 {

@@ -17,6 +17,7 @@ pub enum Answer {
     Trap(u8),
 }
 
+#[inline(always)]
 fn integer_or_trap(number: Option<i64>) -> Answer
     ensures { answer_of result ≡ found_or_two number }
 {
@@ -44,7 +45,9 @@ fn remainder_of(dividend: i64, divisor: i64) -> Answer
     integer_or_trap(dividend.checked_rem(divisor))
 }
 
-fn of_integers(prim: Prim, one: i64, two: i64) -> Answer
+/// An operation on two integers.
+#[inline(always)]
+pub fn of_integers(prim: Prim, one: i64, two: i64) -> Answer
     ensures { answer_of result ≡ integers_by prim one two }
 {
     match prim {

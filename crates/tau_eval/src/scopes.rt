@@ -103,6 +103,7 @@ impl<'p> Scope<'p> {
     }
 }
 
+#[inline(always)]
 fn find_in<'b, 'p>(bindings: &'b [Binding<'p>], name: &Word) -> Option<&'b Value>
     ensures { option_map (λ v. val_of v.now) result ≡ nearest name.now (map (λ b. (b.name.now, val_of b.value)) bindings.entry.now) }
 {

@@ -1,0 +1,120 @@
+//! Operations of the plain evaluator (docs/language.md, "Expressions").
+use crate::plain::Stop;
+use std::alloc::Global;
+use tau_eval::Effect;
+use tau_sexpr::{Text, are_text_bytes};
+use tau_tree::Prim;
+use tau_value::{Value, Values, in_bounds};
+
+/// An evaluation that ends with a trap.
+pub fn trap(code: u8) -> Result<Value, Stop> {
+    Err(Stop::At(Effect::Trap(code)))
+}
+
+/// The value, or trap 5 where it is too large.
+pub fn bounded(value: Value) -> Result<Value, Stop> {
+    if in_bounds(&value) {
+        Ok(value)
+    } else {
+        trap(5)
+    }
+}
+
+/// An operation on one value.
+pub fn of_one(prim: Prim, value: Value) -> Result<Value, Stop> {
+    match (prim, value) {
+        (Prim::Not, Value::Truth(truth)) => Ok(Value::Truth(!truth)),
+        (Prim::Len, Value::List(items)) => length(items.len()),
+        (Prim::Len, Value::Text(text)) => length(text.len()),
+        _ => trap(1),
+    }
+}
+
+fn length(length: usize) -> Result<Value, Stop> {
+    match i64::try_from(length) {
+        Ok(length) => Ok(Value::Int(length)),
+        Err(_) => trap(2),
+    }
+}
+
+/// An operation on two values.
+pub fn of_two(alloc: Global, prim: Prim, one: Value, two: Value) -> Result<Value, Stop> {
+    match prim {
+        Prim::Same => Ok(Value::Truth(one.same(&two))),
+        Prim::Push => push(one, two),
+        Prim::Item => item(one, two),
+        Prim::Cat => cat(alloc, one, two),
+        _ => match (one, two) {
+            (Value::Int(one), Value::Int(two)) => of_integers(prim, one, two),
+            _ => trap(1),
+        },
+    }
+}
+
+fn of_integers(prim: Prim, one: i64, two: i64) -> Result<Value, Stop> {
+    if two == 0 && matches!(prim, Prim::Div | Prim::Rem) {
+        return trap(3);
+    }
+    let number = match prim {
+        Prim::Add => one.checked_add(two),
+        Prim::Sub => one.checked_sub(two),
+        Prim::Mul => one.checked_mul(two),
+        Prim::Div => one.checked_div(two),
+        Prim::Rem => one.checked_rem(two),
+        Prim::Less => return Ok(Value::Truth(one < two)),
+        _ => return trap(1),
+    };
+    match number {
+        Some(number) => Ok(Value::Int(number)),
+        None => trap(2),
+    }
+}
+
+fn push(one: Value, two: Value) -> Result<Value, Stop> {
+    let Value::List(mut items) = one else {
+        return trap(1);
+    };
+    if items.push(two).is_err() {
+        return Err(Stop::NoMemory);
+    }
+    bounded(Value::List(items))
+}
+
+fn item(one: Value, two: Value) -> Result<Value, Stop> {
+    let (Value::List(items), Value::Int(place)) = (one, two) else {
+        return trap(1);
+    };
+    let Ok(place) = usize::try_from(place) else {
+        return trap(4);
+    };
+    match items.item(place) {
+        Some(item) => Ok(item.copy()?),
+        None => trap(4),
+    }
+}
+
+fn cat(alloc: Global, one: Value, two: Value) -> Result<Value, Stop> {
+    match (one, two) {
+        (Value::Text(one), Value::Text(two)) => join_texts(alloc, &one, &two),
+        (Value::List(one), Value::List(two)) => join_lists(one, &two),
+        _ => trap(1),
+    }
+}
+
+fn join_texts(alloc: Global, one: &Text, two: &Text) -> Result<Value, Stop> {
+    let mut bytes = Vec::from_slice(alloc, one.bytes())?;
+    bytes.extend_from_slice(two.bytes())?;
+    if !are_text_bytes(&bytes) {
+        return trap(1);
+    }
+    bounded(Value::Text(Text::from_vec(alloc, bytes)?))
+}
+
+fn join_lists(mut one: Values, two: &Values) -> Result<Value, Stop> {
+    for item in two.items() {
+        if one.push(item.copy()?).is_err() {
+            return Err(Stop::NoMemory);
+        }
+    }
+    bounded(Value::List(one))
+}

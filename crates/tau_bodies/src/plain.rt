@@ -1,0 +1,269 @@
+//! The plain evaluator: the rules of docs/language.md as a recursion that begins with the body each time. Its answers
+//! stand beside those of jobs.
+use crate::operations::{bounded, of_one, of_two, trap};
+use std::alloc::{AllocError, Global};
+use tau_eval::Effect;
+use tau_sexpr::Word;
+use tau_tree::{Expr, Exprs, Prim};
+use tau_value::{Value, Values};
+
+/// Why an evaluation ends without a value.
+#[derive(Drop)]
+pub enum Stop {
+    At(Effect),
+    NoMemory,
+}
+
+impl From<AllocError> for Stop {
+    fn from(_error: AllocError) -> Stop {
+        Stop::NoMemory
+    }
+}
+
+#[derive(Drop)]
+struct Binding<'p> {
+    name: &'p Word,
+    value: Value,
+}
+
+/// What a body is evaluated with, and how far the evaluation has come.
+#[derive(Drop)]
+pub struct Plain<'p> {
+    nodes: u32,
+    own: u32,
+    message: &'p Value,
+    replies: &'p [Value],
+    used: usize,
+    count: u32,
+    bindings: Vec<Binding<'p>>,
+    alloc: Global,
+}
+
+/// The names and the body of a fold.
+#[derive(Clone, Copy)]
+struct Round<'p> {
+    sum: &'p Word,
+    item: &'p Word,
+    body: &'p Expr,
+}
+
+/// The effect that comes after these replies. The error is want of memory.
+pub fn next<'p>(
+    alloc: Global,
+    nodes: u32,
+    own: u32,
+    body: &'p Expr,
+    message: &'p Value,
+    replies: &'p [Value],
+) -> Result<Effect, AllocError> {
+    let mut plain = Plain {
+        nodes,
+        own,
+        message,
+        replies,
+        used: 0,
+        count: 0,
+        bindings: Vec::new(alloc),
+        alloc,
+    };
+    match plain.value(body, 400) {
+        Ok(_value) => Ok(Effect::Done),
+        Err(Stop::At(effect)) => Ok(effect),
+        Err(Stop::NoMemory) => Err(AllocError),
+    }
+}
+
+impl<'p> Plain<'p> {
+    // The value of an expression at most `depth` deep.
+    #[cycle(value)]
+    fn value(&mut self, expr: &'p Expr, depth: u32) -> Result<Value, Stop> {
+        if self.count >= 100_000 || depth == 0 {
+            return trap(6);
+        }
+        self.count += 1;
+        let below = depth - 1;
+        match expr {
+            Expr::Unit => Ok(Value::Unit),
+            Expr::Truth(truth) => Ok(Value::Truth(*truth)),
+            Expr::Int(number) => Ok(Value::Int(*number)),
+            Expr::Text(text) => Ok(Value::Text(text.copy()?)),
+            Expr::Msg => Ok(self.message.copy()?),
+            Expr::Own => Ok(Value::Name(self.own)),
+            Expr::Var(name) => self.variable(name),
+            Expr::Start(number) => Ok(Value::Name(*number)),
+            Expr::List(items) => self.list(items, below),
+            Expr::Let { name, value, body } => self.bound(name, value, body, below),
+            Expr::If { test, yes, no } => match self.value(test, below)? {
+                Value::Truth(true) => self.value(yes, below),
+                Value::Truth(false) => self.value(no, below),
+                _ => trap(1),
+            },
+            Expr::Seq(items) => self.seq(items, below),
+            Expr::Fold {
+                list,
+                first,
+                sum,
+                item,
+                body,
+            } => self.fold(list, first, Round { sum, item, body }, below),
+            Expr::Apply { prim, args } => self.apply(*prim, args, below),
+            Expr::Get => self.reply(Effect::Get),
+            Expr::Set(value) => {
+                let value = self.value(value, below)?;
+                self.reply(Effect::Set(value))
+            }
+            Expr::Send { to, value } => self.send(to, value, below),
+            Expr::New {
+                behaviour,
+                node,
+                state,
+            } => self.create(*behaviour, node, state, below),
+            Expr::Stabilize => self.reply(Effect::Stabilize),
+            Expr::Checkpoint => Err(Stop::At(Effect::Checkpoint)),
+            Expr::Rollback => Err(Stop::At(Effect::Rollback)),
+            Expr::Dependent => self.reply(Effect::Ask),
+        }
+    }
+
+    // The nearest variable of a name.
+    fn variable(&mut self, name: &Word) -> Result<Value, Stop> {
+        for binding in self.bindings.iter().rev() {
+            if binding.name.same(name) {
+                return Ok(binding.value.copy()?);
+            }
+        }
+        Ok(Value::Unit)
+    }
+
+    // The next reply; without one the evaluation ends at the effect.
+    fn reply(&mut self, effect: Effect) -> Result<Value, Stop> {
+        match self.replies.get(self.used) {
+            Some(reply) => {
+                let reply = reply.copy()?;
+                self.used = self.used.saturating_add(1);
+                Ok(reply)
+            }
+            None => Err(Stop::At(effect)),
+        }
+    }
+
+    fn bind(&mut self, name: &'p Word, value: Value) -> Result<(), Stop> {
+        match self.bindings.push(Binding { name, value }) {
+            Ok(()) => Ok(()),
+            Err(_failed) => Err(Stop::NoMemory),
+        }
+    }
+
+    #[cycle(value)]
+    fn list(&mut self, items: &'p Exprs, depth: u32) -> Result<Value, Stop> {
+        let mut values = Values::new(self.alloc);
+        for item in items.items() {
+            let value = self.value(item, depth)?;
+            if values.push(value).is_err() {
+                return Err(Stop::NoMemory);
+            }
+        }
+        bounded(Value::List(values))
+    }
+
+    #[cycle(value)]
+    fn bound(
+        &mut self,
+        name: &'p Word,
+        value: &'p Expr,
+        body: &'p Expr,
+        depth: u32,
+    ) -> Result<Value, Stop> {
+        let value = self.value(value, depth)?;
+        let height = self.bindings.len();
+        self.bind(name, value)?;
+        let value = self.value(body, depth)?;
+        self.bindings.truncate(height);
+        Ok(value)
+    }
+
+    #[cycle(value)]
+    fn seq(&mut self, items: &'p Exprs, depth: u32) -> Result<Value, Stop> {
+        let mut last = Value::Unit;
+        for item in items.items() {
+            last = self.value(item, depth)?;
+        }
+        Ok(last)
+    }
+
+    #[cycle(value)]
+    fn fold(
+        &mut self,
+        list: &'p Expr,
+        first: &'p Expr,
+        round: Round<'p>,
+        depth: u32,
+    ) -> Result<Value, Stop> {
+        let list = self.value(list, depth)?;
+        let mut sum = self.value(first, depth)?;
+        let Value::List(items) = list else {
+            return trap(1);
+        };
+        let height = self.bindings.len();
+        for item in items.items() {
+            self.bind(round.sum, sum)?;
+            self.bind(round.item, item.copy()?)?;
+            sum = self.value(round.body, depth)?;
+            self.bindings.truncate(height);
+        }
+        Ok(sum)
+    }
+
+    #[cycle(value)]
+    fn apply(&mut self, prim: Prim, args: &'p Exprs, depth: u32) -> Result<Value, Stop> {
+        let Some(first) = args.item(0) else {
+            return trap(1);
+        };
+        let one = self.value(first, depth)?;
+        match args.item(1) {
+            Some(second) => {
+                let two = self.value(second, depth)?;
+                of_two(self.alloc, prim, one, two)
+            }
+            None => of_one(prim, one),
+        }
+    }
+
+    #[cycle(value)]
+    fn send(&mut self, to: &'p Expr, value: &'p Expr, depth: u32) -> Result<Value, Stop> {
+        let to = self.value(to, depth)?;
+        let value = self.value(value, depth)?;
+        match to {
+            Value::Name(number) => self.reply(Effect::Send(number, value)),
+            _ => trap(1),
+        }
+    }
+
+    #[cycle(value)]
+    fn create(
+        &mut self,
+        behaviour: u32,
+        node: &'p Expr,
+        state: &'p Expr,
+        depth: u32,
+    ) -> Result<Value, Stop> {
+        let node = self.value(node, depth)?;
+        let state = self.value(state, depth)?;
+        let Value::Int(integer) = node else {
+            return trap(1);
+        };
+        match u32::try_from(integer) {
+            Ok(node) => {
+                if node >= self.nodes {
+                    return trap(8);
+                }
+                self.reply(Effect::New {
+                    behaviour,
+                    node,
+                    state,
+                })
+            }
+            Err(_) => trap(8),
+        }
+    }
+}
