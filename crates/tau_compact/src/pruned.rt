@@ -100,6 +100,9 @@ impl View for PrunedView {
     }
 
     fn merge_facts(&mut self, other: &PrunedView) -> Result<(), AllocError> {
+        if self.facts.covers(&other.facts) {
+            return Ok(());
+        }
         self.facts.merge_facts(&other.facts)?;
         self.facts.drop_by::<Pruning>();
         Ok(())

@@ -5,12 +5,12 @@ use Rattle.tau_history.specs.declared.fate.Fate.{Fate}
 use Rattle.tau_history.specs.declared.fate.Fate.TheVariants.{Ahead, Open, Stable, Closed, Fallen}
 use Rattle.tau_points.specs.declared.point.Point.{Point}
 use Rattle.tau_points.specs.Reach.{start, next}
-use Rattle.tau_points.proofs.Reach.{monotone}
+use Rattle.tau_points.proofs.Reach.{monotone, nested}
 use Rattle.tau_view.specs.Held.{Held, Points, fate_in, is_firm, only}
-use Rattle.tau_view.specs.Past.{Link, OpenLink, KnownPast, PastUpToClosed, FallenIn, NotFirmIn, Settled}
+use Rattle.tau_view.specs.Past.{Link, OpenLink, KnownPast, PastUpToClosed, FallenIn, NotFirmIn, SomeFallen, Settled}
 use Rattle.tau_view.proofs.Sets.{same_self}
 use Rattle.tau_fate.specs.Least.{IsLeast, IsLeastIfAny}
-use Rattle.tau_fate.specs.Found.{FallenAmong, NotFirmAmong}
+use Rattle.tau_fate.specs.Found.{IsFound, FallenAmong, NotFirmAmong}
 
 -- a fate is Closed or isn't
 closed_or_not : (f : Fate) → (f ≡ Closed) ⊎ (f ≢ Closed)
@@ -66,3 +66,8 @@ module _ (v : Held) (from : Points) (past : List Point) (settled : Settled v) (i
   pub not_firm_of_found : (r : Option Point) → IsLeastIfAny (NotFirmAmong v.history past) r → IsLeastIfAny (NotFirmIn v from) r
   not_firm_of_found None none = λ q f. none q (of_not_firm q f)
   not_firm_of_found (Some p) l = record { holds = to_not_firm p l.holds; least = λ q f. l.least q (of_not_firm q f) }
+
+-- where a set's known past has no Fallen point, that of points that were found from it has none
+pub none_beyond : (v : Held) (from roots : Points) (past : List Point) → IsFound v from past → ¬ SomeFallen v from → ((q : Point) → IsTrue (roots q) → Contains past q) → (q : Point) → ¬ FallenIn v roots q
+none_beyond v from roots past is none has q f =
+    none (q, record { in_past = nested (Link v) (λ x. IsTrue (from x)) (λ x. IsTrue (roots x)) (λ x r. found_known v from x ((is x).0 (has x r))) q f.in_past; is_fallen = f.is_fallen })

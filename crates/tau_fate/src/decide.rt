@@ -4,7 +4,8 @@ ghost use Rattle.tau_fate.specs.Decisions.{IsVerdict, IsFreedom};
 
 use crate::freedom::Freedom;
 use crate::least::{
-    least_fallen, least_fallen_settled, least_not_firm, least_not_firm_settled, single,
+    least_fallen, least_fallen_beyond, least_fallen_found, least_not_firm, least_not_firm_settled,
+    past_of_own, single,
 };
 use crate::verdict::Verdict;
 use std::alloc::{AllocError, Global};
@@ -50,11 +51,11 @@ pub fn judge_settled<V: View>(
     requires { Settled (V.held merged.now) }
     ensures { IfOk result (IsVerdict (V.held merged.now) me (V.held sent.now).root) }
 {
-    let points = single(alloc, me)?;
-    if let Some(point) = least_fallen_settled(merged, &points)? {
+    let past = past_of_own(alloc, merged, me)?;
+    if let Some(point) = least_fallen_found(merged, me, &past) {
         return Ok(Verdict::Fall { point });
     }
-    match least_fallen_settled(merged, sent.roots())? {
+    match least_fallen_beyond(merged, me, &past, sent.roots())? {
         Some(point) => Ok(Verdict::Drop { point }),
         None => Ok(Verdict::Take),
     }

@@ -1,12 +1,14 @@
 // The least point of a known past with a fate.
-ghost use Rattle.std.specs.Prelude.{◌≡◌, IfOk, IsFalse};
+ghost use Rattle.std.specs.Prelude.{◌≡◌, IfOk, IsTrue, IsFalse, Contains};
+ghost use Rattle.std.specs.Bool.{OnTrue};
+ghost use Rattle.tau_points.specs.declared.point.Point.{Point};
 ghost use Rattle.tau_history.specs.declared.fate.Fate.TheVariants.{Fallen};
 ghost use Rattle.tau_points.specs.Order.{IsAscending};
 ghost use Rattle.tau_view.specs.Held.{fate_in, is_firm, only};
-ghost use Rattle.tau_view.specs.Past.{FallenIn, NotFirmIn, Settled};
+ghost use Rattle.tau_view.specs.Past.{FallenIn, NotFirmIn, SomeFallen, Settled};
 ghost use Rattle.tau_view.specs.Stored.{point_in};
 ghost use Rattle.tau_fate.specs.Least.{IsLeastIfAny};
-ghost use Rattle.tau_fate.specs.Found.{FallenAmong, NotFirmAmong};
+ghost use Rattle.tau_fate.specs.Found.{IsFound, FallenAmong, NotFirmAmong};
 
 use std::alloc::{AllocError, Global};
 use tau_history::Fate;
@@ -44,6 +46,18 @@ fn first_fallen<V: View>(view: &V, points: &PointSet) -> Option<Point>
     None
 }
 
+/// Whether a set has each point of another.
+fn has_all(points: &PointSet, others: &PointSet) -> bool
+    ensures { OnTrue result ((q : Point) → IsTrue (point_in others.now q) → Contains points.now q) }
+{
+    for point in others.points() {
+        if !points.has(point) {
+            return false;
+        }
+    }
+    true
+}
+
 /// The first point of a set that isn't firm.
 fn first_not_firm<V: View>(view: &V, points: &PointSet) -> Option<Point>
     ensures { IsLeastIfAny (NotFirmAmong (V.held view.now).history points.now) result }
@@ -76,15 +90,44 @@ pub(crate) fn least_not_firm<V: View>(
     Ok(first_not_firm(view, &known))
 }
 
-/// The least Fallen point of the known past of these points, by a search that stops at Closed points.
-pub(crate) fn least_fallen_settled<V: View>(
+/// What is found from the own point by a search that stops at Closed points.
+pub(crate) fn past_of_own<V: View>(
+    alloc: Global,
     view: &V,
-    from: &PointSet,
-) -> Result<Option<Point>, AllocError>
-    requires { Settled (V.held view.now) }
-    ensures { IfOk result (IsLeastIfAny (FallenIn (V.held view.now) (point_in from.now))) }
+    me: Point,
+) -> Result<PointSet, AllocError>
+    ensures { IfOk result (IsFound (V.held view.now) (only me)) }
 {
-    let found = view.past_up_to_closed(from)?;
+    let own = single(alloc, me)?;
+    view.past_up_to_closed(&own)
+}
+
+/// The least Fallen point of the known past of the own point, from which these points were found.
+pub(crate) fn least_fallen_found<V: View>(view: &V, _me: Point, past: &PointSet) -> Option<Point>
+    requires settled { Settled (V.held view.now) }
+    requires found { IsFound (V.held view.now) (only _me) past.now }
+    ensures { IsLeastIfAny (FallenIn (V.held view.now) (only _me)) result }
+{
+    first_fallen(view, past)
+}
+
+/// The least Fallen point of the known past of the roots, where that of the own point, from which these points were
+/// found, has none. Where the roots are among those points, so is their past.
+pub(crate) fn least_fallen_beyond<V: View>(
+    view: &V,
+    _me: Point,
+    past: &PointSet,
+    roots: &PointSet,
+) -> Result<Option<Point>, AllocError>
+    requires settled { Settled (V.held view.now) }
+    requires found { IsFound (V.held view.now) (only _me) past.now }
+    requires none { ¬ SomeFallen (V.held view.now) (only _me) }
+    ensures { IfOk result (IsLeastIfAny (FallenIn (V.held view.now) (point_in roots.now))) }
+{
+    if has_all(past, roots) {
+        return Ok(None);
+    }
+    let found = view.past_up_to_closed(roots)?;
     Ok(first_fallen(view, &found))
 }
 

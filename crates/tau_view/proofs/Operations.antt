@@ -1,9 +1,9 @@
 -- The stored lists after an operation, and what they hold.
-use Rattle.std.proofs.Common.{◌≡◌, ◌≢◌, ℕ, ◌+◌, ◌<◌, Bool, true, false, not, ◌&&◌, ◌||◌, IsTrue, List, [], ◌∷◌, ◌++◌, length, take, get_or, refl, sym, ap, ◌∙◌, subst}
+use Rattle.std.proofs.Common.{◌≡◌, ◌≢◌, inl, ⊎_elim, ℕ, ◌+◌, ◌<◌, Bool, true, false, not, ◌&&◌, ◌||◌, IsTrue, List, [], ◌∷◌, ◌++◌, length, take, get_or, refl, sym, ap, ◌∙◌, subst}
 use Rattle.std.proofs.lemmas.List.{take_more}
 use Rattle.tau_history.specs.Timeline.{Timeline}
 use Rattle.tau_points.specs.declared.point.Point.{Point}
-use Rattle.tau_points.specs.Members.{Adds, Joins}
+use Rattle.tau_points.specs.Members.{Adds, Joins, HasAll}
 use Rattle.tau_view.specs.Held.{Held, Edges, same_point, only}
 use Rattle.tau_view.specs.Edges.{edges_to, both_edges}
 use Rattle.tau_view.specs.Rules.{touched, depended, merged, merged_in}
@@ -74,3 +74,7 @@ pub new_edge : (p r : Point) (old new : List (Point × Point)) → r ≢ p → A
 new_edge p r old new n a =
     pair_in-Adds old new p r a
     ∙ (λ i x y. pair_in old x y || apart (same_point x p) (same_point y r) (same_point y p) (λ t u. n (sym (is_same y r t) ∙ is_same y p u)) i)
+
+-- a merge that gives the same again
+pub merged_covered : (s t : Stored) → merged_in (history_in s.histories) (history_in t.histories) ≡ history_in s.histories → HasAll s.edges t.edges → merged (held s) (held t) ≡ held s
+merged_covered s t e has = sym (merged_is s t s.histories s.edges (sym e) (λ x. (λ c. inl c, λ c. ⊎_elim (λ h. h) (has x) c)))

@@ -10,3 +10,4 @@ pub mod Places
 pub mod Edges
 pub mod Before
 pub mod Dropping
+pub mod Seen

@@ -1,5 +1,7 @@
 ghost use Rattle.std.specs.Prelude.{◌≡◌, [], IfOk, OnOk, OnErr};
+ghost use Rattle.std.specs.Bool.{OnTrue};
 ghost use Rattle.std.specs.Option.{option_map};
+ghost use Rattle.tau_points.specs.Members.{HasAll};
 ghost use Rattle.tau_view.specs.Held.{AllComparable, only};
 ghost use Rattle.tau_view.specs.Rules.{noted, touched, depended, merged, with_roots, with_no_roots};
 ghost use Rattle.tau_view.specs.Dropping.{edges_by, roots_by};
@@ -52,6 +54,19 @@ fn edges_from(alloc: Global, from: Point, roots: &PointSet) -> Result<Relation, 
         add_edge(&mut edges, from, *root)?;
     }
     Ok(edges)
+}
+
+/// Whether all of the second list stands in the first, in the same order.
+fn has_in_order(ours: &[(Point, Point)], theirs: &[(Point, Point)]) -> bool
+    ensures { OnTrue result (HasAll ours.now theirs.now) }
+{
+    let mut found = 0;
+    for pair in ours {
+        if found < theirs.len() && theirs[found] == *pair {
+            found += 1;
+        }
+    }
+    found == theirs.len()
 }
 
 impl Facts {
@@ -142,6 +157,16 @@ impl Facts {
         self.edges.union(&other.edges)?;
         self.histories = histories;
         Ok(())
+    }
+
+    /// Whether a merge with the facts of the other value was found to give this one again. The two histories of a transactor
+    /// are comparable. The time is by the number of histories and edges of both.
+    pub fn covers(&self, other: &Facts) -> bool
+        requires { AllComparable (history_in self.now.histories) (history_in other.now.histories) }
+        ensures { OnTrue result (merged (held self.now) (held other.now) ≡ held self.now) }
+    {
+        self.histories.covers(&other.histories)
+            && has_in_order(self.edges.pairs(), other.edges.pairs())
     }
 
     /// Makes the roots those of the other value.

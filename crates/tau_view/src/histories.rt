@@ -3,6 +3,7 @@ ghost use Rattle.std.specs.Option.{option_map};
 ghost use Rattle.std.specs.Bool.{OnTrue};
 ghost use Rattle.tau_view.specs.Held.{AllComparable, fate_in};
 ghost use Rattle.tau_view.specs.Rules.{noted_in, merged_in};
+ghost use Rattle.tau_history.specs.Fates.{fate};
 ghost use Rattle.tau_history.specs.Order.{AreComparable, later_of};
 ghost use Rattle.tau_view.specs.Entries.{entries_of};
 ghost use Rattle.tau_view.specs.Places.{IsAt, IsGap};
@@ -15,12 +16,23 @@ use std::marker::Model;
 use tau_history::{Fate, History};
 use tau_points::Point;
 
-/// The place of a transactor's entry, or as an `Err` the place at which it would stand.
+/// Whether the transactor's entry stands at a place.
+fn stands_at(entries: &[Entry], place: usize, who: u32) -> bool
+    ensures { OnTrue result (IsAt who (entries_of entries.now) place) }
+{
+    place < entries.len() && entries[place].who == who
+}
+
+/// The place of a transactor's entry, or as an `Err` the place at which it would stand. Where there is an entry of each
+/// lower transactor, as of the starts of a run that all have heard of one another, it is found at once.
 fn find(entries: &[Entry], who: u32) -> Result<usize, usize>
     requires { AscendsFrom 0 (entries_of entries.now) }
     ensures found { IfOk result (IsAt who (entries_of entries.now)) }
     ensures gap { IfErr result (IsGap who (entries_of entries.now)) }
 {
+    if stands_at(entries, who as usize, who) {
+        return Ok(who as usize);
+    }
     let mut low = 0;
     let mut high = entries.len();
     'search: while low < high {
@@ -147,6 +159,20 @@ fn merged(alloc: Global, ours: &[Entry], theirs: &[Entry]) -> Result<Vec<Entry>,
     Ok(all)
 }
 
+/// The fate of a point by the history of its transactor. That of the own point is told without a look at the numbers.
+fn fate_by(history: &History, point: &Point) -> Fate
+    ensures { result ≡ fate history.now.history point.now.interval point.now.incarnation }
+{
+    if point.interval != history.interval() || point.incarnation != history.incarnation() {
+        return history.fate(point.interval, point.incarnation);
+    }
+    if history.is_stable() {
+        Fate::Stable
+    } else {
+        Fate::Open
+    }
+}
+
 /// Histories by ascending transactor, at most one of each.
 #[derive(Drop)]
 pub(crate) struct Histories {
@@ -177,6 +203,11 @@ impl Histories {
         }
     }
 
+    /// How many transactors have a history.
+    pub(crate) fn len(&self) -> usize {
+        self.entries.len()
+    }
+
     /// The history of a transactor.
     pub(crate) fn get(&self, who: u32) -> Option<&History>
         ensures { option_map (λ h. h.now.history) result ≡ history_in self.now who }
@@ -192,7 +223,7 @@ impl Histories {
         ensures { result ≡ fate_in (history_in self.now) point.now }
     {
         match self.get(point.who) {
-            Some(history) => history.fate(point.interval, point.incarnation),
+            Some(history) => fate_by(history, point),
             None => Fate::Ahead,
         }
     }

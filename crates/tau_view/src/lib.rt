@@ -8,6 +8,7 @@ mod full;
 mod histories;
 pub mod laws;
 mod past;
+mod seen;
 mod view;
 
 pub use dropping::Dropping;

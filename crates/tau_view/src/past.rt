@@ -7,9 +7,10 @@ ghost use Rattle.tau_view.specs.Before.{before_in};
 ghost use Rattle.tau_view.specs.Stored.{history_in, point_in, held};
 
 use crate::facts::Facts;
+use crate::seen::search;
 use std::alloc::AllocError;
 use tau_history::Fate;
-use tau_points::{Links, Point, PointSet, search};
+use tau_points::{Links, Point, PointSet};
 
 /// What leads on from a point that isn't Closed.
 #[derive(Drop)]
@@ -49,7 +50,7 @@ impl Facts {
         ensures past { IfOk result
             (λ past. (q : Point) → Contains past q ↔ KnownPast (held self.now) (point_in from.now) q) }
     {
-        search(self.allocator(), self, from)
+        search(self.allocator(), self.histories().len(), self, from)
     }
 
     /// The part of the known past that is reached without going on from a Closed point, in time by its own size.
@@ -58,7 +59,12 @@ impl Facts {
         ensures past { IfOk result
             (λ past. (q : Point) → Contains past q ↔ PastUpToClosed (held self.now) (point_in from.now) q) }
     {
-        search(self.allocator(), &OpenLinks { facts: self }, from)
+        search(
+            self.allocator(),
+            self.histories().len(),
+            &OpenLinks { facts: self },
+            from,
+        )
     }
 }
 

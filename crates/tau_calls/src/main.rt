@@ -1,0 +1,130 @@
+//! Calls of the system, one after another, over views of both types. Standard input has sections: a line `# VIEWS NAME`, where
+//! VIEWS is `full`, `pruned` or `both`, then a program, a line `(calls)`, and calls, one a line. For each section the line is
+//! written, and for each type of view what the calls answer: a step that was made, or why none was, or what was asked for.
+#![tactic(auto)]
+
+mod answers;
+mod run;
+mod showing;
+
+use crate::run::Run;
+use crate::showing::Shown;
+use std::alloc::{AllocError, Global};
+use std::process::ExitCode;
+use tau_cli::read_program;
+use tau_compact::PrunedView;
+use tau_io::{StdSink, StdSource, read_all, write_all_of};
+use tau_tree::Program;
+use tau_view::FullView;
+
+ghost use Rattle.tau_tree.specs.Sound.{Sound};
+
+fn main(rt: HostRuntime) -> ExitCode {
+    let alloc = rt.alloc();
+    let mut input = StdSource::new(rt.stdin());
+    let mut output = StdSink::new(rt.stdout());
+    let Ok(bytes) = read_all(alloc, &mut input, 16_777_216) else {
+        return ExitCode::from(5);
+    };
+    let Ok(text) = text_of(alloc, &bytes) else {
+        return ExitCode::from(7);
+    };
+    match write_all_of(&mut output, text.as_bytes()) {
+        Ok(()) => ExitCode::from(0),
+        Err(_) => ExitCode::from(6),
+    }
+}
+
+// The text for all sections.
+fn text_of(alloc: Global, bytes: &[u8]) -> Result<String, AllocError> {
+    let mut text = String::new(alloc);
+    let mut rest = bytes;
+    for _ in 0..bytes.len() {
+        let Some((line, after)) = line_of(rest) else {
+            break;
+        };
+        let (section, next) = section_of(after);
+        add_section(alloc, &mut text, line, section)?;
+        rest = next;
+    }
+    Ok(text)
+}
+
+// The first line, without its line feed, and what follows it.
+fn line_of(bytes: &[u8]) -> Option<(&[u8], &[u8])> {
+    let end = bytes.iter().position(|byte| *byte == b'\n')?;
+    Some((&bytes[..end], &bytes[end + 1..]))
+}
+
+// What stands before the first line that begins with `#`, and from there on.
+fn section_of(bytes: &[u8]) -> (&[u8], &[u8]) {
+    let mut at_start = true;
+    for (place, byte) in bytes.iter().enumerate() {
+        if at_start && *byte == b'#' {
+            return (&bytes[..place], &bytes[place..]);
+        }
+        at_start = *byte == b'\n';
+    }
+    (bytes, &bytes[bytes.len()..])
+}
+
+// What stands before the line `(calls)`, and what follows it.
+fn parts_of(section: &[u8]) -> (&[u8], &[u8]) {
+    let mut at = 0;
+    for _ in 0..section.len() {
+        let Some((line, after)) = line_of(&section[at..]) else {
+            break;
+        };
+        if line == b"(calls)".as_slice() {
+            return (&section[..at], after);
+        }
+        at = section.len() - after.len();
+    }
+    (section, &section[section.len()..])
+}
+
+// Adds the line of a section, and what its calls answer.
+fn add_section(
+    alloc: Global,
+    text: &mut String,
+    line: &[u8],
+    section: &[u8],
+) -> Result<(), AllocError> {
+    let line = str::from_utf8(line).unwrap_or("");
+    writeln!(text, "{line}")?;
+    let (program, calls) = parts_of(section);
+    let Ok(program) = read_program(alloc, program) else {
+        return text.push_str("(no program)\n");
+    };
+    let views = line.split_whitespace().nth(1).unwrap_or("");
+    if views != "pruned" {
+        text.push_str("; full\n")?;
+        add_run::<FullView>(alloc, text, &program, calls)?;
+    }
+    if views != "full" {
+        text.push_str("; pruned\n")?;
+        add_run::<PrunedView>(alloc, text, &program, calls)?;
+    }
+    Ok(())
+}
+
+// Adds what the calls answer on a run of the program.
+fn add_run<V: Shown>(
+    alloc: Global,
+    text: &mut String,
+    program: &Program,
+    calls: &[u8],
+) -> Result<(), AllocError>
+    requires { Sound program.now }
+{
+    let mut run: Run<V> = Run::open(alloc, program)?;
+    let mut rest = calls;
+    for _ in 0..calls.len() {
+        let Some((line, after)) = line_of(rest) else {
+            break;
+        };
+        run.call(text, str::from_utf8(line).unwrap_or(""))?;
+        rest = after;
+    }
+    Ok(())
+}

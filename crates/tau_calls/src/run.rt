@@ -1,0 +1,196 @@
+//! A run, and the calls that make its steps.
+ghost use Rattle.tau_tree.specs.Sound.{Sound};
+
+use crate::answers::Answer;
+use crate::showing::{Shown, add_step};
+use std::alloc::{AllocError, Global};
+use tau_eval::{Job, begin};
+use tau_rules::{ActError, Acted, DeliverError, Delivered, FailError, LoseError, System};
+use tau_tree::Program;
+use tau_value::Value;
+
+// How many steps a run may have.
+const MOST: u32 = 1_000_000;
+
+/// A system, and the jobs that it handed out.
+#[derive(Drop)]
+pub(crate) struct Run<'p, V: Shown> {
+    pub(crate) alloc: Global,
+    pub(crate) system: System<'p, V>,
+    jobs: Vec<Job<'p>>,
+}
+
+impl<'p, V: Shown> Run<'p, V> {
+    /// The run of a program before its first step.
+    pub(crate) fn open(alloc: Global, program: &'p Program) -> Result<Run<'p, V>, AllocError>
+        requires { Sound program.now }
+    {
+        Ok(Run {
+            alloc,
+            system: System::open(alloc, program)?,
+            jobs: Vec::new(alloc),
+        })
+    }
+
+    /// Makes the call of a line, and adds what it answers to the text: a verb and up to two numbers.
+    pub(crate) fn call(&mut self, text: &mut String, line: &str) -> Result<(), AllocError> {
+        let mut words = line.split_whitespace();
+        let verb = words.next().unwrap_or("");
+        let number = words.next().and_then(number_of).unwrap_or(0);
+        let value = words.next().and_then(number_of).unwrap_or(0);
+        match verb {
+            "run" => self.run(text, number),
+            "begin" => self.begin(number, value),
+            "deliver" | "act" | "fail" | "lose" => {
+                let answer = self.step(verb, number)?;
+                self.tell(text, answer)
+            }
+            _ => self.show(text, verb, number),
+        }
+    }
+
+    // Makes a call that makes a step.
+    fn step(&mut self, verb: &str, number: u32) -> Result<Answer, AllocError> {
+        match verb {
+            "deliver" => self.deliver(number),
+            "act" => self.act(number),
+            "fail" => self.fail(number),
+            _ => self.lose(number),
+        }
+    }
+
+    // Adds what a call came to.
+    fn tell(&mut self, text: &mut String, answer: Answer) -> Result<(), AllocError> {
+        match answer {
+            Answer::Made => add_step(self.alloc, text, self.system.trace()),
+            Answer::Redone => text.push_str("(redo)\n"),
+            Answer::NotInFlight { ended_by } => writeln!(text, "(not in flight {ended_by})"),
+            Answer::Busy { turn } => writeln!(text, "(busy {turn})"),
+            Answer::Stale { ended_by } => writeln!(text, "(stale {ended_by})"),
+            Answer::Ended { place } => writeln!(text, "(ended {place})"),
+            Answer::Nothing => text.push_str("(nothing)\n"),
+        }
+    }
+
+    // Delivers a message. The job of the turn that begins is kept.
+    fn deliver(&mut self, message: u32) -> Result<Answer, AllocError> {
+        if message >= self.system.trace().sent() || self.system.trace().len() >= MOST {
+            return Ok(Answer::Nothing);
+        }
+        match self.system.deliver(message) {
+            Ok(Delivered::Began(job)) => {
+                self.jobs.push(job)?;
+                Ok(Answer::Made)
+            }
+            Ok(_) => Ok(Answer::Made),
+            Err(DeliverError::NotInFlight { ended_by }) => Ok(Answer::NotInFlight { ended_by }),
+            Err(DeliverError::Busy { turn }) => Ok(Answer::Busy { turn }),
+            Err(DeliverError::NoMemory) => Err(AllocError),
+        }
+    }
+
+    // Makes the next step of the job that is kept for a transactor.
+    fn act(&mut self, who: u32) -> Result<Answer, AllocError> {
+        let Some(place) = self.jobs.iter().position(|job| job.who() == who) else {
+            return Ok(Answer::Nothing);
+        };
+        let job = self.jobs.swap_remove(place);
+        self.act_job(job)
+    }
+
+    // Makes the next step of a job. The job with its reply is kept.
+    fn act_job(&mut self, job: Job<'p>) -> Result<Answer, AllocError> {
+        let pending = match job.advance() {
+            Ok(pending) => pending,
+            Err((_job, failed)) => return Err(failed),
+        };
+        if self.system.trace().len() >= MOST {
+            return Ok(Answer::Nothing);
+        }
+        match self.system.act(&pending) {
+            Ok(Acted::Reply(reply)) => {
+                self.jobs.push(pending.resume(reply))?;
+                Ok(Answer::Made)
+            }
+            Ok(Acted::TurnOver) => Ok(Answer::Made),
+            Ok(Acted::Redo(job)) => {
+                self.jobs.push(job)?;
+                Ok(Answer::Redone)
+            }
+            Err(ActError::Stale { ended_by }) => Ok(Answer::Stale { ended_by }),
+            Err(ActError::NoMemory) => Err(AllocError),
+        }
+    }
+
+    // Lets a transactor fail.
+    fn fail(&mut self, who: u32) -> Result<Answer, AllocError> {
+        if who >= self.system.trace().born() || self.system.trace().len() >= MOST {
+            return Ok(Answer::Nothing);
+        }
+        match self.system.fail(who) {
+            Ok(()) => Ok(Answer::Made),
+            Err(FailError::Ended { place }) => Ok(Answer::Ended { place }),
+            Err(FailError::NoMemory) => Err(AllocError),
+        }
+    }
+
+    // Loses a message.
+    fn lose(&mut self, message: u32) -> Result<Answer, AllocError> {
+        if message >= self.system.trace().sent() || self.system.trace().len() >= MOST {
+            return Ok(Answer::Nothing);
+        }
+        match self.system.lose(message) {
+            Ok(()) => Ok(Answer::Made),
+            Err(LoseError::NotInFlight { ended_by }) => Ok(Answer::NotInFlight { ended_by }),
+            Err(LoseError::NoMemory) => Err(AllocError),
+        }
+    }
+
+    // Keeps, in place of the jobs there, one of a turn from a place that takes this number as its message, of the first
+    // transactor with the first behaviour.
+    fn begin(&mut self, place: u32, number: u32) -> Result<(), AllocError> {
+        let program = self.system.program();
+        if program.behaviours.len() == 0 {
+            return Ok(());
+        }
+        let message = Value::Int(i64::from(number));
+        let job = begin(self.alloc, program, 0, 0, place, message)?;
+        self.jobs.clear();
+        self.jobs.push(job)?;
+        Ok(())
+    }
+
+    // Makes up to so many steps, each of the job that was kept last, or the receipt of the least message in flight, and adds
+    // how many the run has.
+    fn run(&mut self, text: &mut String, limit: u32) -> Result<(), AllocError> {
+        let mut least = 0;
+        for _ in 0..limit {
+            if let Some(job) = self.jobs.pop() {
+                self.act_job(job)?;
+            } else {
+                least = self.in_flight_from(least);
+                if least >= self.system.trace().sent() {
+                    break;
+                }
+                self.deliver(least)?;
+            }
+        }
+        let steps = self.system.trace().len();
+        writeln!(text, "(steps {steps})")
+    }
+
+    // The least message in flight that isn't less, or the number of messages.
+    fn in_flight_from(&self, from: u32) -> u32 {
+        let trace = self.system.trace();
+        for message in from..trace.sent() {
+            if trace.ended_by(message).is_none() {
+                return message;
+            }
+        }
+        trace.sent()
+    }
+}
+
+fn number_of(word: &str) -> Option<u32> {
+    word.parse().ok()
+}
