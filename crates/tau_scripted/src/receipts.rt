@@ -1,0 +1,24 @@
+//! Messages delivered.
+ghost use Rattle.std.specs.Prelude.{◌≡◌, ◌<◌, ℕ, Some, IfOk, OnErr, slice_get, length};
+ghost use Rattle.tau_trace.specs.Run.{len};
+ghost use Rattle.tau_script.specs.Scripts.{NoneDue};
+ghost use Rattle.tau_rules.specs.Answers.{IsDelivered};
+
+use crate::Scripted;
+use std::alloc::AllocError;
+use tau_rules::Delivered;
+use tau_view::View;
+
+impl<'p, V: View + Drop> Scripted<'p, V> {
+    /// Delivers one of the deliverable messages, counted from 0 by ascending number (docs/rules.md, "Steps"). No step of the script
+    /// is due. The error is want of memory, and nothing is different then.
+    pub fn deliver(&mut self, number: usize) -> Result<Delivered<'p>, AllocError>
+        requires few { len self.old.system.run < 1000000 }
+        requires none_due { NoneDue self.old.system.program.script self.old.system.run (len self.old.system.run) }
+        requires deliverable { number < length self.old.messages }
+        ensures ok { IfOk result (λ d. (m : ℕ) → slice_get self.old.messages number ≡ Some m → IsDelivered self.old.system self.new.system m d) }
+        ensures err { OnErr result (self.new ≡ self.old) }
+    {
+        Err(AllocError)
+    }
+}
