@@ -1,7 +1,7 @@
 -- What a book answers to a hand that asks for something to do (docs/rules.md, "Choice of a worker").
 use Rattle.std.specs.Prelude.{◌≡◌, ◌⊎◌, ◌<◌, ◌≤◌, ◌+◌, ℕ, List, [], Some, length, slice_get, ◌++◌, ◌∷◌}
 use Rattle.tau_trace.specs.declared.step.Step.{Step}
-use Rattle.tau_trace.specs.Run.{Run, len}
+use Rattle.tau_trace.specs.Run.{len}
 use Rattle.tau_script.specs.Scripts.{DueStep}
 use Rattle.tau_eval.specs.Turn.{Turn}
 use Rattle.tau_rules.specs.Answers.{IsDelivered}
@@ -9,7 +9,7 @@ use Rattle.tau_rules.specs.declared.answers.Delivered.{Delivered}
 use Rattle.tau_rules.specs.declared.answers.Delivered.TheVariants.{Began, Dropped, Fell, Voided}
 use Rattle.tau_book.specs.declared.answers.Next.{Next}
 use Rattle.tau_book.specs.declared.answers.Next.TheVariants as nexts
-use Rattle.tau_book.specs.Hands.{Held, joined, IsNumbered}
+use Rattle.tau_book.specs.Hands.{Held, IsNumbered}
 use Rattle.tau_book.specs.Books.{Booked, IsAppended, IsAtLimit, GoesOn, IsComplete}
 use Rattle.tau_book.specs.Offers.{Offer, jobs_with, store_without, options, number_drawn, generator_after}
 

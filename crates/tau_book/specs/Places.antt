@@ -1,5 +1,5 @@
 -- What the calls of a place on a book answer, whoever else calls it (docs/rules.md, "Choice of a worker").
-use Rattle.std.specs.Prelude.{◌≡◌, ◌<◌, ℕ, Option, Some, None, length, IsSome}
+use Rattle.std.specs.Prelude.{◌≡◌, ◌<◌, Option, Some, None, length, IsSome}
 use Rattle.tau_eval.specs.Turn.{Turn}
 use Rattle.tau_book.specs.declared.answers.Next.{Next}
 use Rattle.tau_book.specs.declared.answers.Next.TheVariants as nexts
@@ -33,3 +33,8 @@ LeavesRoom h answer = Unit {0}
 abbrev pub ComesBack : Held → Held → Turn → Told → Type 0
 ComesBack h k pending (tolds.Later back) = (back ≡ pending) × (k ≡ h)
 ComesBack h k pending answer = Unit {0}
+
+-- an answer other than Idle
+abbrev pub IsNotIdle : Next → Type 0
+IsNotIdle (nexts.Idle out) = ⊥
+IsNotIdle answer = Unit {0}

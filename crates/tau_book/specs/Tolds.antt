@@ -1,8 +1,8 @@
 -- What a book answers to a hand that brings an effect, and that gives back its jobs (docs/rules.md, "Choice of a worker").
-use Rattle.std.specs.Prelude.{◌≡◌, ◌⊎◌, ◌<◌, ℕ, Bool, true, false, List, [], Option, Some, None}
+use Rattle.std.specs.Prelude.{◌≡◌, ◌<◌, ℕ, Bool, true, false, List, [], Option, Some, None}
 use Rattle.tau_value.specs.declared.shared.Value.{Value}
 use Rattle.tau_value.specs.Value.{val_of}
-use Rattle.tau_trace.specs.Run.{Run, len}
+use Rattle.tau_trace.specs.Run.{len}
 use Rattle.tau_eval.specs.Turn.{Turn, with_reply}
 use Rattle.tau_rules.specs.Answers.{IsActed, NoTurnFrom, IsTurnEnd}
 use Rattle.tau_rules.specs.declared.answers.Acted.{Acted}

