@@ -1,3 +1,6 @@
 pub mod Members
 pub mod FlightLemmas
 pub mod OpenLemmas
+pub mod Receivers
+pub mod DeliverableLemmas
+pub mod Ends

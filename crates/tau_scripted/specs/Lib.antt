@@ -1,3 +1,4 @@
 pub mod OpenTurns
 pub mod Flight
 pub mod ScriptedRun
+pub mod Index
