@@ -1,6 +1,3 @@
 pub mod Members
 pub mod FlightLemmas
 pub mod OpenLemmas
-pub mod Receivers
-pub mod DeliverableLemmas
-pub mod Ends

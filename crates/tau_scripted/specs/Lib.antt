@@ -1,4 +1,3 @@
 pub mod OpenTurns
 pub mod Flight
 pub mod ScriptedRun
-pub mod Index

