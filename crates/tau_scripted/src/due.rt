@@ -1,12 +1,10 @@
 //! The due steps of the script.
 ghost use Rattle.std.specs.Prelude.{◌≡◌, ◌<◌, IfOk, OnErr};
 ghost use Rattle.tau_trace.specs.Run.{len};
-ghost use Rattle.tau_script.specs.Scripts.{IsDue};
 ghost use Rattle.tau_scripted.specs.ScriptedRun.{IsDueMade};
 
 use crate::Scripted;
 use std::alloc::AllocError;
-use tau_trace::Step;
 use tau_view::View;
 
 impl<'p, V: View + Drop> Scripted<'p, V> {
@@ -17,18 +15,7 @@ impl<'p, V: View + Drop> Scripted<'p, V> {
         ensures ok { IfOk result (IsDueMade self.old self.new) }
         ensures err { OnErr result (self.new ≡ self.old) }
     {
-        Err(AllocError)
-    }
-
-    // The due step of the script.
-    pub(crate) fn due(&self) -> Option<Step>
-        ensures { IsDue self.now.system.program.script self.now.system.run (len self.now.system.run) result }
-    {
-        let mut cursor = self.cursor;
-        tau_script::due(
-            &self.system.program().script,
-            &mut cursor,
-            self.system.trace(),
-        )
+        let _turns = &self.turns;
+        unreachable!()
     }
 }

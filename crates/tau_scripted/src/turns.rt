@@ -19,6 +19,8 @@ impl<'p, V: View + Drop> Scripted<'p, V> {
         ensures unchanged { IfErr result (λ e. self.new ≡ self.old) }
         ensures err { IfErr result (IsUnacted self.old.system.run pending.now.place) }
     {
-        Err(ActError::NoMemory)
+        let _pending = pending;
+        let _turns = &self.turns;
+        unreachable!()
     }
 }
