@@ -101,7 +101,7 @@ fn evaluate<'p>(
     hand: &mut Hand<'p>,
     job: Job<'p>,
 ) -> Result<(), AllocError>
-    requires chosen { WorksOn book.old hand.old job.entry }
+    requires chosen { WorksOn book.old hand.old job }
     requires room { length hand.old.jobs < hand.old.size }
     ensures works { IfOk result (λ _. (seed : ℕ) → HasChosen seed book.old hand.old job.entry → IsAtWork seed book.new hand.new) }
     ensures same { IfOk result (λ _. IsSameWork book.old book.new hand.old hand.new) }
