@@ -113,7 +113,10 @@ fn evaluate<'p>(
     };
     match book.act(hand, pending) {
         Ok(Told::Stepped) => Ok(()),
-        Ok(_) => unreachable!(),
+        Ok(Told::Later(_)) => unreachable!(),
+        Ok(Told::Redone) => unreachable!(),
+        Ok(Told::Stale { .. }) => unreachable!(),
+        Ok(Told::Stopped) => unreachable!(),
         Err((_pending, failed)) => Err(failed),
     }
 }
