@@ -20,7 +20,7 @@ at_place (x ∷ xs) (suc k) l = at_place xs k (omega (arith, l))
 abbrev pub HasReceiver : Run → ℕ → Type 0
 HasReceiver T m = (t : ℕ) × Receives T m t
 
-below_or_last : (j k : ℕ) → j < k + 1 → (j < k) ⊎ (j ≡ k)
+pub below_or_last : (j k : ℕ) → j < k + 1 → (j < k) ⊎ (j ≡ k)
 below_or_last j k l = grind arith
 
 module _ (T : Run) (k m : ℕ) where
