@@ -1,5 +1,5 @@
 -- The deliverable messages, by the letters and the receivers in a turn.
-use Rattle.std.proofs.Common.{◌≡◌, ◌↔◌, ℕ, zero, suc, ◌<◌, Bool, true, false, not, ◌||◌, eqb, eqb-true, eq-eqb, cond, List, [], ◌∷◌, length, get_or, filter, map, Some, None, refl, sym, ap, ◌∙◌, subst, arith}
+use Rattle.std.proofs.Common.{◌≡◌, ℕ, zero, suc, ◌<◌, Bool, true, false, not, ◌||◌, eqb, eqb-true, eq-eqb, List, [], ◌∷◌, length, get_or, filter, map, Some, None, refl, sym, ap, ◌∙◌, subst, arith}
 use Rattle.std.specs.Prelude.{slice_get}
 use Rattle.std.specs.List.{AllPairs, Contains, list_any}
 use Rattle.std.proofs.lemmas.List.{get_or-map, length-map}
@@ -14,7 +14,7 @@ use Rattle.tau_trace.specs.Numbering.{InFlight, Receives}
 use Rattle.tau_trace.proofs.Lists.{same_some}
 use Rattle.tau_scripted.specs.Flight.{IsWaiting, AreInFlight, IsDeliverable, AreDeliverable}
 use Rattle.tau_scripted.specs.ScriptedRun.{messages_of}
-use Rattle.tau_scripted.proofs.Members.{contains_nothing, contains_here, contains_there, contains_cases, contains_filter, filter_contains, contains_map, map_contains}
+use Rattle.tau_scripted.proofs.Members.{contains_here, contains_there, contains_filter, filter_contains, contains_map, map_contains}
 use Rattle.tau_scripted.proofs.OpenLemmas.{AreBusy}
 
 -- being in a list, as a test

@@ -1,5 +1,5 @@
 -- The letters of the posts, and a run without steps.
-use Rattle.std.proofs.Common.{◌≡◌, ◌⊎◌, ⊎_elim, inl, inr, ℕ, zero, suc, ◌+◌, ◌<◌, Some, List, [], ◌∷◌, ◌++◌, length, get_or, refl, sym, ap, ◌∙◌, subst, arith}
+use Rattle.std.proofs.Common.{◌≡◌, ⊎_elim, ℕ, ◌+◌, ◌<◌, List, [], ◌∷◌, ◌++◌, length, get_or, sym, ap, subst, arith}
 use Rattle.std.specs.List.{Contains}
 use Rattle.std.proofs.lemmas.List.Quantifiers.{all_pairs_push}
 use Rattle.std.proofs.lemmas.List.Elements.{Contains-append_left, Contains-push, Contains-push_cases, Contains-get_or}
@@ -7,15 +7,13 @@ use Rattle.std.proofs.lemmas.Option.{slice_get_within}
 use Rattle.tau_waiting.specs.declared.letter.Letter.{Letter}
 use Rattle.tau_waiting.specs.Letters.{AllBelow}
 use Rattle.tau_tree.specs.declared.programs.Program.{Program}
-use Rattle.tau_trace.specs.declared.step.Step.{Step}
-use Rattle.tau_trace.specs.Run.{Run, len, step_at}
+use Rattle.tau_trace.specs.Run.{Run, len}
 use Rattle.tau_trace.specs.Known.{WellFormed}
 use Rattle.tau_trace.specs.Numbering.{sent, Receives}
 use Rattle.tau_trace.proofs.Once.{receives_once}
 use Rattle.tau_script.specs.declared.cursor.Cursor.{Cursor}
 use Rattle.tau_script.specs.Cursors.{CursorAt}
 use Rattle.tau_script.specs.Openings.{program_opening}
-use Rattle.tau_legal.specs.Traces.{Legal}
 use Rattle.tau_scripted.specs.Posted.{ArePosted}
 use Rattle.tau_scripted.specs.Flight.{AreInFlight}
 use Rattle.tau_scripted.specs.ScriptedRun.{IsScripted}
@@ -49,9 +47,9 @@ one_posted T n t ls r h = record {
   back l k = ⊎_elim
       (λ lt. Contains-append_left ls (record { message = n; who = t } ∷ []) l ((h.each l).1 (lt, k.1)))
       (λ (e : l.message ≡ n).
-          let who : t ≡ l.who = receives_once T n t l.who r (subst (λ m. Receives T m l.who) e k.1) in
-          let same : record { message = n; who = t } ≡ l = λ i. record { message = sym e i; who = who i } in
-          subst (λ (x : Letter). Contains (ls ++ record { message = n; who = t } ∷ []) x) same (Contains-push ls (record { message = n; who = t })))
+      let who : t ≡ l.who = receives_once T n t l.who r (subst (λ m. Receives T m l.who) e k.1) in
+      let same : record { message = n; who = t } ≡ l = λ i. record { message = sym e i; who = who i } in
+      subst (λ (x : Letter). Contains (ls ++ record { message = n; who = t } ∷ []) x) same (Contains-push ls (record { message = n; who = t })))
       (below_or_last l.message n k.0)
 
 -- without steps, all messages are in flight

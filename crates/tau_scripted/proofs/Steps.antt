@@ -1,9 +1,6 @@
 -- What is kept after each kind of step.
-use Rattle.std.proofs.Common.{◌≡◌, ◌≢◌, ◌⊎◌, inl, inr, ⊎_elim, ℕ, suc, ◌+◌, ◌<◌, ◌≤◌, Bool, true, false, IsTrue, Option, Some, None, List, [], ◌∷◌, ◌++◌, length, filter, refl, sym, ap, ◌∙◌, subst, arith}
+use Rattle.std.proofs.Common.{◌≡◌, ◌≢◌, inl, inr, ℕ, false, IsTrue, Option, Some, None, List, [], ◌∷◌, ◌++◌, filter, refl, sym, ap, ◌∙◌, subst, arith}
 use Rattle.std.specs.Prelude.{IsFalse}
-use Rattle.std.specs.List.{Contains}
-use Rattle.tau_value.specs.declared.shared.Value.{Value}
-use Rattle.tau_value.specs.Value.{val_of}
 use Rattle.tau_waiting.specs.declared.letter.Letter.{Letter}
 use Rattle.tau_waiting.specs.Letters.{is_other}
 use Rattle.tau_tree.specs.declared.programs.Program.{Program}
@@ -12,9 +9,9 @@ use Rattle.tau_trace.specs.declared.step.Step.TheVariants.{Take, Drop, Fall, Voi
 use Rattle.tau_trace.specs.Steps.{actor, removed_by, is_send, ends_turn}
 use Rattle.tau_trace.specs.Run.{Run, len, appended}
 use Rattle.tau_trace.specs.Known.{WellFormed, IsKnownAt, MayFollow}
-use Rattle.tau_trace.specs.Numbering.{born, sent, Receives}
-use Rattle.tau_trace.specs.Turns.{Turn, IsOpenTurn}
-use Rattle.tau_trace.proofs.Agreement.{agree_appended, agree_sym, step_at-appended, born-same, sent-same}
+use Rattle.tau_trace.specs.Numbering.{born, sent}
+use Rattle.tau_trace.specs.Turns.{IsOpenTurn}
+use Rattle.tau_trace.proofs.Agreement.{agree_appended, step_at-appended, born-same, sent-same}
 use Rattle.tau_trace.proofs.Indexing.{known_same, len-appended}
 use Rattle.tau_trace.proofs.Lists.{same_some}
 use Rattle.tau_trace.proofs.Once.{receives_once}
@@ -40,7 +37,6 @@ use Rattle.tau_rules.specs.declared.answers.Acted.{Acted}
 use Rattle.tau_rules.specs.declared.answers.Acted.TheVariants.{Reply, TurnOver, Redo}
 use Rattle.tau_rules.specs.Answers.{IsDelivered, IsActed, IsStepped, IsOpenJob}
 use Rattle.tau_check.specs.Checkers.{HasAsked}
-use Rattle.tau_check.specs.Families.{turn_of}
 use Rattle.tau_check.proofs.Endings.{fits_at_end, turn_no_failure}
 use Rattle.tau_check.proofs.FamilyLemmas.{IsRow, of_effect, effect_once}
 use Rattle.tau_check.proofs.TurnSteps.{acts_in_turn}

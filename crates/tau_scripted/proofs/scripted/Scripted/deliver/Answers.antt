@@ -2,7 +2,7 @@ use Rattle.std.proofs.Common.{◌≡◌, ◌∙◌, ℕ, Some, List, sym, ap, su
 use Rattle.std.specs.Prelude.{slice_get}
 use Rattle.tau_waiting.specs.declared.letter.Letter.{Letter}
 use Rattle.tau_waiting.specs.MailState.{is_busy}
-use Rattle.tau_trace.specs.Run.{Run, len}
+use Rattle.tau_trace.specs.Run.{len}
 use Rattle.tau_script.specs.Scripts.{NoneDue}
 use Rattle.tau_rules.specs.System.{Core}
 use Rattle.tau_rules.specs.Answers.{IsDelivered}
