@@ -6,3 +6,4 @@ pub mod DeliverableLemmas
 pub mod Ends
 pub mod Steps
 pub mod PostLemmas
+pub mod TurnCounts

@@ -1,4 +1,4 @@
-use Rattle.std.proofs.Common.{◌≡◌, ◌∙◌, ℕ, List, sym, ap, subst}
+use Rattle.std.proofs.Common.{◌≡◌, ◌∙◌, ◌≤◌, ℕ, List, length, sym, ap, subst}
 use Rattle.tau_waiting.specs.declared.letter.Letter.{Letter}
 use Rattle.tau_waiting.specs.Letters.{AllBelow}
 use Rattle.tau_trace.specs.Run.{Run, len}
@@ -11,6 +11,7 @@ use Rattle.tau_scripted.specs.ScriptedRun.{ScriptedRun, IsUnchangedAtRedo, messa
 use Rattle.tau_scripted.specs.Index.{letters_acted, busy_acted, turns_acted}
 use Rattle.tau_scripted.proofs.FlightLemmas.{letters_below}
 use Rattle.tau_scripted.proofs.Steps.{after_act, redo_same, of_lists}
+use Rattle.tau_scripted.proofs.TurnCounts.{fewer_acted}
 use Rattle.tau_scripted.proofs.scripted.Scripted.act.Goals as goal
 
 pub act-requires-2-clause-last : goal.act-requires-2-clause-last
@@ -53,3 +54,12 @@ returns-clause-redone g c =
     (c.act-2.ensures.letters ∙ ap (λ (ls : List Letter). letters_acted c.sent-message.result ls effect acted) c.in_ok-reserve_letter.ensures.same.letters)
     (c.act-2.ensures.busy ∙ ap (λ (bs : List ℕ). busy_acted job.who bs acted) c.in_ok-reserve_letter.ensures.same.busy)
     (c.act-2.ensures.turns ∙ ap (λ (ts : List ℕ). turns_acted job.place ts acted) c.in_ok-reserve_letter.ensures.same.turns))
+
+pub returns-clause-turns : goal.returns-clause-turns
+returns-clause-turns g c =
+    let s = c.self.inside in
+    let job : jobs.Turn = c.args.pending.now in
+    let acted = c.in_ok-acted.acted in
+    let is = c.act-2.ensures.turns ∙ ap (λ (ts : List ℕ). turns_acted job.place ts acted) c.in_ok-reserve_letter.ensures.same.turns in
+    let fewer : length c.act-2.new.self.turns.items ≤ length s.index.turns.items = subst (λ (ts : List ℕ). length ts ≤ length s.index.turns.items) (sym is) (fewer_acted job.place s.index.turns.items acted) in
+    subst (λ (r : ScriptedRun). length c.act-2.new.self.turns.items ≤ length r.turns) c.self.view_is fewer

@@ -1,4 +1,4 @@
-use Rattle.std.proofs.Common.{◌≡◌, ◌∙◌, ℕ, Some, List, sym, ap, subst}
+use Rattle.std.proofs.Common.{◌≡◌, ◌∙◌, ◌+◌, ◌≤◌, ℕ, Some, List, length, take, sym, ap, subst}
 use Rattle.std.specs.Prelude.{slice_get}
 use Rattle.tau_waiting.specs.declared.letter.Letter.{Letter}
 use Rattle.tau_waiting.specs.MailState.{is_busy}
@@ -10,6 +10,7 @@ use Rattle.tau_scripted.specs.ScriptedRun.{ScriptedRun}
 use Rattle.tau_scripted.specs.Index.{letters_received, busy_received, turns_received}
 use Rattle.tau_scripted.proofs.DeliverableLemmas.{letter_waits, receiver_free, receiver_idle, message_is, not_busy}
 use Rattle.tau_scripted.proofs.Steps.{after_receipt, of_lists}
+use Rattle.tau_scripted.proofs.TurnCounts.{front_received, one_received}
 use Rattle.tau_scripted.proofs.scripted.Scripted.deliver.Goals as goal
 
 pub make_receipt-requires-clause-waits : goal.make_receipt-requires-clause-waits
@@ -58,3 +59,19 @@ returns-clause-ok g c m e =
     let same : l.message ≡ m = message_is s.system.run s.index.waiting.letters s.index.waiting.busy c.self.invariant.letters_are c.self.invariant.busy_are c.args.number l at m here in
     subst (λ (r : ScriptedRun). IsDelivered r.system c.make_receipt.new.system m c.in_ok-delivered.delivered) c.self.view_is
     (subst (λ (n : ℕ). IsDelivered s.system c.make_receipt.new.system n c.in_ok-delivered.delivered) same c.in_ok-delivered.ensures.ok)
+
+pub returns-clause-turns : goal.returns-clause-turns
+returns-clause-turns g c =
+    let s = c.self.inside in
+    let delivered = c.in_ok-delivered.delivered in
+    let is = c.receive.ensures.turns ∙ ap (λ (ts : List ℕ). turns_received c.len-place.result ts delivered) c.in_ok-reserve_turn.ensures.same.turns in
+    subst (λ (r : ScriptedRun). take (length r.turns) c.receive.new.self.turns.items ≡ r.turns) c.self.view_is
+    (ap (take (length s.index.turns.items)) is ∙ front_received c.len-place.result s.index.turns.items delivered)
+
+pub returns-clause-one : goal.returns-clause-one
+returns-clause-one g c =
+    let s = c.self.inside in
+    let delivered = c.in_ok-delivered.delivered in
+    let is = c.receive.ensures.turns ∙ ap (λ (ts : List ℕ). turns_received c.len-place.result ts delivered) c.in_ok-reserve_turn.ensures.same.turns in
+    let one : length c.receive.new.self.turns.items ≤ length s.index.turns.items + 1 = subst (λ (ts : List ℕ). length ts ≤ length s.index.turns.items + 1) (sym is) (one_received c.len-place.result s.index.turns.items delivered) in
+    subst (λ (r : ScriptedRun). length c.receive.new.self.turns.items ≤ length r.turns + 1) c.self.view_is one

@@ -1,4 +1,4 @@
-use Rattle.std.proofs.Common.{Some, sym, subst}
+use Rattle.std.proofs.Common.{◌≡◌, ◌≤◌, ℕ, Option, Some, List, length, sym, ap, subst}
 use Rattle.tau_trace.specs.declared.step.Step.TheVariants.{Fail}
 use Rattle.tau_trace.specs.Run.{Run, len}
 use Rattle.tau_trace.specs.Turns.{IsOpenTurn}
@@ -7,6 +7,7 @@ use Rattle.tau_check.specs.Checkers.{HasAsked}
 use Rattle.tau_scripted.specs.ScriptedRun.{ScriptedRun}
 use Rattle.tau_scripted.specs.Index.{busy_ended, turns_ended}
 use Rattle.tau_scripted.proofs.Steps.{after_fail, of_lists}
+use Rattle.tau_scripted.proofs.TurnCounts.{fewer_ended}
 use Rattle.tau_scripted.proofs.scripted.Scripted.fail.Goals as goal
 
 pub invariant_of-self-2 : goal.invariant_of-self-2
@@ -20,3 +21,9 @@ invariant_of-self-2 g c =
     (turns_ended s.index.turns.items c.open_turn-turn.result) c.end.new.self.turns.items c.end.ensures.letters c.end.ensures.busy c.end.ensures.turns
     (after_fail old new s.cursor c.move_past.new.cursor s.index.waiting.letters s.index.waiting.busy s.index.turns.items c.self.invariant c.move_past.ensures.well_formed c.move_past.ensures.fitting
     c.args.who c.open_turn-turn.result asked c.in_ok-make_fail.ensures.ok c.move_past.ensures.current turn)
+
+pub returns-clause-turns : goal.returns-clause-turns
+returns-clause-turns g c =
+    let s = c.self.inside in
+    let fewer : length c.end.new.self.turns.items ≤ length s.index.turns.items = subst (λ (ts : List ℕ). length ts ≤ length s.index.turns.items) (sym c.end.ensures.turns) (fewer_ended s.index.turns.items c.open_turn-turn.result) in
+    subst (λ (r : ScriptedRun). length c.end.new.self.turns.items ≤ length r.turns) c.self.view_is fewer
