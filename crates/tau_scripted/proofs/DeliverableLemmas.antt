@@ -1,5 +1,6 @@
 -- The deliverable messages, by the letters and the receivers in a turn.
-use Rattle.std.proofs.Common.{◌≡◌, ◌↔◌, ℕ, zero, suc, ◌<◌, Bool, true, false, not, ◌||◌, eqb, eqb-true, eq-eqb, cond, List, [], ◌∷◌, length, get_or, filter, map, None, refl, sym, ap, ◌∙◌, subst, arith}
+use Rattle.std.proofs.Common.{◌≡◌, ℕ, zero, suc, ◌<◌, Bool, true, false, not, ◌||◌, eqb, eqb-true, eq-eqb, List, [], ◌∷◌, length, get_or, filter, map, Some, None, refl, sym, ap, ◌∙◌, subst, arith}
+use Rattle.std.specs.Prelude.{slice_get}
 use Rattle.std.specs.List.{AllPairs, Contains, list_any}
 use Rattle.std.proofs.lemmas.List.{get_or-map, length-map}
 use Rattle.std.proofs.lemmas.List.Kept.{AllPairs-filter}
@@ -10,9 +11,10 @@ use Rattle.tau_waiting.specs.MailState.{is_busy, is_deliverable}
 use Rattle.tau_trace.specs.Run.{Run, len}
 use Rattle.tau_trace.specs.Turns.{IsOpenTurn}
 use Rattle.tau_trace.specs.Numbering.{InFlight, Receives}
+use Rattle.tau_trace.proofs.Lists.{same_some}
 use Rattle.tau_scripted.specs.Flight.{IsWaiting, AreInFlight, IsDeliverable, AreDeliverable}
 use Rattle.tau_scripted.specs.ScriptedRun.{messages_of}
-use Rattle.tau_scripted.proofs.Members.{contains_nothing, contains_here, contains_there, contains_cases, contains_filter, filter_contains, contains_map, map_contains}
+use Rattle.tau_scripted.proofs.Members.{contains_here, contains_there, contains_filter, filter_contains, contains_map, map_contains}
 use Rattle.tau_scripted.proofs.OpenLemmas.{AreBusy}
 
 -- being in a list, as a test
@@ -82,3 +84,31 @@ module _ (T : Run) (ls : List Letter) (busy : List ℕ) (letters : AreInFlight T
     ascending = ascends (filter (is_deliverable busy) ls) (AllPairs-filter (λ a b. a.message < b.message) (is_deliverable busy) ls letters.ascending);
     each = λ m. (there m, back m);
   }
+
+-- the letter at a place is one of the list, and its message stands at that place
+pub contains_at : {X : Type 0} (xs : List X) (k : ℕ) (x : X) → slice_get xs k ≡ Some x → Contains xs x
+contains_at [] k x e = absurd (cc)
+contains_at {X} (y ∷ ys) zero x e = subst (λ (z : X). Contains (y ∷ ys) z) (same_some e) (contains_here y ys)
+contains_at (y ∷ ys) (suc k) x e = contains_there y x ys (contains_at ys k x e)
+
+pub map_at : {X Y : Type 0} (f : X → Y) (xs : List X) (k : ℕ) (x : X) → slice_get xs k ≡ Some x → slice_get (map f xs) k ≡ Some (f x)
+map_at f [] k x e = absurd (cc)
+map_at f (y ∷ ys) zero x e = ap (λ z. Some (f z)) (same_some e)
+map_at f (y ∷ ys) (suc k) x e = map_at f ys k x e
+
+module _ (T : Run) (ls : List Letter) (busy : List ℕ) (letters : AreInFlight T ls) (are : AreBusy T busy) (k : ℕ) (l : Letter) (at : slice_get (filter (is_deliverable busy) ls) k ≡ Some l) where
+  found : Contains ls l × (is_deliverable busy l ≡ true)
+  found = filter_contains (is_deliverable busy) ls l (contains_at (filter (is_deliverable busy) ls) k l at)
+
+  -- the letter waits, and its receiver is in no turn
+  pub letter_waits : IsWaiting T l
+  letter_waits = (letters.each l).0 found.0
+
+  pub receiver_free : ¬ Contains busy l.who
+  receiver_free = is_busy-not busy l.who found.1
+
+  pub receiver_idle : IsOpenTurn T l.who (len T) None
+  receiver_idle = free_idle T busy l.who are receiver_free
+
+  pub message_is : (m : ℕ) → slice_get (messages_of busy ls) k ≡ Some m → l.message ≡ m
+  message_is m e = same_some (sym (map_at (λ (x : Letter). x.message) (filter (is_deliverable busy) ls) k l at) ∙ e)

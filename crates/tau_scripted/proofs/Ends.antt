@@ -1,5 +1,5 @@
 -- Whether anything is left to do after a run, and what holds after one more step.
-use Rattle.std.proofs.Common.{◌≡◌, ◌⊎◌, ◌↔◌, inl, inr, ℕ, suc, ◌<◌, ◌≤◌, Bool, true, false, IsTrue, Option, Some, None, List, [], ◌∷◌, length, refl, sym, ap, ◌∙◌, subst, arith}
+use Rattle.std.proofs.Common.{◌≡◌, inr, ℕ, ◌<◌, Option, Some, None, List, [], ◌∷◌, length, refl, sym, subst}
 use Rattle.std.specs.List.{Contains}
 use Rattle.std.specs.Prelude.{IfSome}
 use Rattle.std.proofs.lemmas.Option.{slice_get_within}
@@ -8,17 +8,14 @@ use Rattle.tau_tree.specs.declared.programs.Program.{Program}
 use Rattle.tau_trace.specs.declared.step.Step.{Step}
 use Rattle.tau_trace.specs.Run.{Run, len, appended}
 use Rattle.tau_trace.specs.Known.{WellFormed}
-use Rattle.tau_trace.specs.Numbering.{InFlight}
-use Rattle.tau_trace.specs.Turns.{Turn}
 use Rattle.tau_trace.proofs.Indexing.{len-appended}
 use Rattle.tau_script.specs.declared.cursor.Cursor.{Cursor}
 use Rattle.tau_script.specs.Cursors.{CursorAt, ComesTo, IsCurrent, IsDueAt, PassesTo, moved_past_due}
 use Rattle.tau_script.specs.Scripts.{Allows}
 use Rattle.tau_script.proofs.Passing.{stays, cursor_rests}
 use Rattle.tau_script.proofs.Same.{goes_on as cursors_go_on}
-use Rattle.tau_legal.specs.Traces.{Fitting, Legal}
+use Rattle.tau_legal.specs.Traces.{Fitting}
 use Rattle.tau_legal.proofs.TraceLemmas.{legal_grows}
-use Rattle.tau_rules.specs.System.{Core, with_step}
 use Rattle.tau_check.specs.Checkers.{HasAsked, NothingLeft}
 use Rattle.tau_check.proofs.Endings.{fits_at_end}
 use Rattle.tau_scripted.specs.OpenTurns.{AreOpenTurns}

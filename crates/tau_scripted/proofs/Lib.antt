@@ -4,3 +4,6 @@ pub mod OpenLemmas
 pub mod Receivers
 pub mod DeliverableLemmas
 pub mod Ends
+pub mod Steps
+pub mod PostLemmas
+pub mod TurnCounts

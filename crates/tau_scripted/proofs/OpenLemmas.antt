@@ -1,14 +1,13 @@
 -- The open turns after one more step.
-use Rattle.std.proofs.Common.{◌≡◌, ◌≢◌, ◌⊎◌, ◌↔◌, inl, inr, ⊎_elim, ℕ, suc, ◌+◌, ◌<◌, ◌≤◌, Bool, true, false, not, IsTrue, eqb, eqb-true, eq-eqb, Option, Some, None, List, [], ◌∷◌, ◌++◌, length, get_or, filter, refl, sym, ap, ◌∙◌, subst, arith}
-use Rattle.std.specs.List.{All, Contains, AllPairs}
-use Rattle.std.specs.Prelude.{IsFalse, ◌||◌}
+use Rattle.std.proofs.Common.{◌≡◌, ◌≢◌, ◌⊎◌, ◌↔◌, inl, inr, ⊎_elim, ℕ, suc, ◌<◌, Bool, true, false, not, IsTrue, eqb, eqb-true, eq-eqb, Some, None, List, [], ◌∷◌, ◌++◌, get_or, filter, refl, sym, ap, ◌∙◌, subst, arith}
+use Rattle.std.specs.List.{Contains}
 use Rattle.std.proofs.lemmas.List.Kept.{AllPairs-filter}
 use Rattle.std.proofs.lemmas.List.Quantifiers.{all_pairs_push}
 use Rattle.std.proofs.lemmas.List.Elements.{Contains-append_left, Contains-push, Contains-push_cases, Contains-get_or}
 use Rattle.tau_trace.specs.declared.step.Step.{Step}
 use Rattle.tau_trace.specs.declared.step.Step.TheVariants.{Take, Get, Set, Skip, Send, New, Stabilize, Ask}
-use Rattle.tau_trace.specs.Steps.{actor, ends_turn, is_take}
-use Rattle.tau_trace.specs.Run.{Run, len, step_at, appended, ActsAt, Does}
+use Rattle.tau_trace.specs.Steps.{actor, ends_turn}
+use Rattle.tau_trace.specs.Run.{Run, len, step_at, appended, Does}
 use Rattle.tau_trace.specs.Turns.{Turn, IsOpenTurn}
 use Rattle.tau_trace.proofs.Agreement.{agree_appended, step_at-appended, same_at}
 use Rattle.tau_trace.proofs.Indexing.{len-appended}

@@ -1,5 +1,5 @@
 -- Each message has a receiver.
-use Rattle.std.proofs.Common.{◌≡◌, ◌⊎◌, ⊎_elim, ℕ, zero, suc, ◌+◌, ◌<◌, Bool, true, false, cond, Option, Some, None, List, [], ◌∷◌, length, refl, sym, ap, ◌∙◌, subst, arith}
+use Rattle.std.proofs.Common.{◌≡◌, ◌⊎◌, ⊎_elim, ℕ, zero, suc, ◌+◌, ◌<◌, Bool, true, false, cond, Option, Some, None, List, [], ◌∷◌, length, refl, ap, subst, arith}
 use Rattle.std.specs.Prelude.{slice_get}
 use Rattle.std.specs.Option.{option_map_or}
 use Rattle.tau_value.specs.declared.shared.Value.{Value}
@@ -20,7 +20,7 @@ at_place (x ∷ xs) (suc k) l = at_place xs k (omega (arith, l))
 abbrev pub HasReceiver : Run → ℕ → Type 0
 HasReceiver T m = (t : ℕ) × Receives T m t
 
-below_or_last : (j k : ℕ) → j < k + 1 → (j < k) ⊎ (j ≡ k)
+pub below_or_last : (j k : ℕ) → j < k + 1 → (j < k) ⊎ (j ≡ k)
 below_or_last j k l = grind arith
 
 module _ (T : Run) (k m : ℕ) where

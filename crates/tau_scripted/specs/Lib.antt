@@ -2,3 +2,4 @@ pub mod OpenTurns
 pub mod Flight
 pub mod ScriptedRun
 pub mod Index
+pub mod Posted

@@ -19,6 +19,7 @@ impl<'p, V: View + Drop> Scripted<'p, V> {
     pub fn make_due(&mut self) -> Result<bool, AllocError>
         requires { len self.old.system.run < 1000000 }
         ensures ok { IfOk result (IsDueMade self.old self.new) }
+        ensures turns { length self.new.turns ≤ length self.old.turns }
         ensures err { OnErr result (self.new ≡ self.old) }
     {
         let Some(step) = self.due() else {
@@ -40,6 +41,7 @@ impl<'p, V: View + Drop> Scripted<'p, V> {
         requires entry { self.old.cursor.entry < length self.old.system.program.script }
         requires last { who < u32.MAX }
         ensures ok { OnOk result (self.new.system ≡ with_step self.old.system (steps.Fail who)) }
+        ensures turns { length self.new.turns ≤ length self.old.turns }
         ensures err { OnErr result (self.new ≡ self.old) }
     {
         let turn = self.system.trace().open_turn(who);
@@ -56,6 +58,7 @@ impl<'p, V: View + Drop> Scripted<'p, V> {
         requires entries { length self.old.system.program.script ≤ 4096 }
         requires entry { self.old.cursor.entry < length self.old.system.program.script }
         ensures ok { OnOk result (self.new.system ≡ with_step self.old.system (steps.Lose message)) }
+        ensures turns { self.new.turns ≡ self.old.turns }
         ensures err { OnErr result (self.new ≡ self.old) }
     {
         make_lose(&mut self.system, message)?;

@@ -114,7 +114,13 @@ impl Index {
     }
 
     /// Takes in what came of an effect, where the next message has this number.
-    pub(crate) fn act(&mut self, message: u32, pending: &Pending<'_>, effect: &Effect, acted: &Acted<'_>)
+    pub(crate) fn act(
+        &mut self,
+        message: u32,
+        pending: &Pending<'_>,
+        effect: &Effect,
+        acted: &Acted<'_>,
+    )
         requires last { AllBelow message self.old.waiting.letters }
         requires room { IfSome (receiver_of effect.now) (λ u. 1 ≤ room self.old.waiting.rooms u) }
         ensures letters { self.new.waiting.letters ≡ letters_acted message self.old.waiting.letters effect.now acted.now }

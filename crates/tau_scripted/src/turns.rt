@@ -1,5 +1,5 @@
 //! Steps of turns.
-ghost use Rattle.std.specs.Prelude.{◌≡◌, ◌<◌, IfOk, IfErr};
+ghost use Rattle.std.specs.Prelude.{◌≡◌, ◌<◌, ◌≤◌, length, IfOk, IfErr};
 ghost use Rattle.tau_trace.specs.Run.{len};
 ghost use Rattle.tau_script.specs.Scripts.{NoneDue};
 ghost use Rattle.tau_rules.specs.Answers.{IsActed, IsUnacted};
@@ -18,6 +18,7 @@ impl<'p, V: View + Drop> Scripted<'p, V> {
         requires few { len self.old.system.run < 1000000 }
         requires none_due { NoneDue self.old.system.program.script self.old.system.run (len self.old.system.run) }
         ensures ok { IfOk result (IsActed self.old.system self.new.system pending.now) }
+        ensures turns { length self.new.turns ≤ length self.old.turns }
         ensures redone { IfOk result (IsUnchangedAtRedo self.old self.new) }
         ensures unchanged { IfErr result (λ e. self.new ≡ self.old) }
         ensures err { IfErr result (IsUnacted self.old.system.run pending.now.place) }

@@ -1,4 +1,4 @@
-use Rattle.std.proofs.Common.{◌∙◌, ◌↔◌, IsTrue, sym, subst}
+use Rattle.std.proofs.Common.{◌∙◌, sym}
 use Rattle.tau_rules.specs.System.{Core}
 use Rattle.tau_check.proofs.Endings.{due_incomplete, complete_where}
 use Rattle.tau_scripted.proofs.scripted.Scripted.is_complete.Goals as goal

@@ -1,4 +1,4 @@
-use Rattle.std.proofs.Common.{List, ℕ, sym, subst}
+use Rattle.std.proofs.Common.{subst}
 use Rattle.tau_scripted.specs.Flight.{AreDeliverable}
 use Rattle.tau_scripted.specs.ScriptedRun.{ScriptedRun}
 use Rattle.tau_scripted.proofs.DeliverableLemmas.{are_deliverable}
