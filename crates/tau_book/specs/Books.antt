@@ -4,6 +4,7 @@ use Rattle.std.specs.List.{AllPairs}
 use Rattle.tau_waiting.specs.declared.letter.Letter.{Letter}
 use Rattle.tau_trace.specs.declared.step.Step.{Step}
 use Rattle.tau_trace.specs.Run.{len}
+use Rattle.tau_trace.specs.Known.{WellFormed}
 use Rattle.tau_script.specs.declared.cursor.Cursor.{Cursor}
 use Rattle.tau_script.specs.Cursors.{CursorAt}
 use Rattle.tau_script.specs.Scripts.{NoneDue}
@@ -24,9 +25,10 @@ pub record Booked : Type 0 where
 abbrev pub AreOfDifferentTurns : List Turn → Type 0
 AreOfDifferentTurns jobs = AllPairs (λ a b. a.place ≢ b.place) jobs
 
--- what holds of each book: its trace is legal and has at most `limit` steps, the letters are the messages in flight, the cursor is
+-- what holds of each book: its trace is well formed and legal and has at most `limit` steps, the letters are the messages in flight, the cursor is
 -- the script's, and the returned jobs are of different turns
 pub record IsBook (b : Booked) : Type 0 where
+  pub well_formed : WellFormed b.system.run
   pub legal : Legal b.system.program b.system.run
   pub letters_are : AreInFlight b.system.run b.letters
   pub cursor_is : CursorAt b.system.program.script b.system.run (len b.system.run) b.cursor

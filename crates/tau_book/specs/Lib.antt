@@ -4,4 +4,3 @@ pub mod Offers
 pub mod Nexts
 pub mod Tolds
 pub mod Places
-pub mod Serial

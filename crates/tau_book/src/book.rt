@@ -2,6 +2,8 @@
 ghost use Rattle.std.specs.Prelude.{◌≡◌, ◌<◌, ◌≤◌, [], IfOk, IfErr, OnErr, length};
 ghost use Rattle.tau_tree.specs.Sound.{Sound};
 ghost use Rattle.tau_script.specs.Openings.{program_opening};
+ghost use Rattle.tau_trace.specs.Known.{WellFormed};
+ghost use Rattle.tau_legal.specs.Traces.{Legal};
 ghost use Rattle.tau_book.specs.Books.{IsBook};
 ghost use Rattle.tau_book.specs.Nexts.{IsNext};
 ghost use Rattle.tau_book.specs.Tolds.{IsTold, IsGivenBack, IsFinished};
@@ -13,6 +15,7 @@ use std::marker::Model;
 use tau_eval::{Job, Pending};
 use tau_rules::System;
 use tau_scripted::Scripted;
+use tau_trace::Trace;
 use tau_tree::Program;
 use tau_view::View;
 
@@ -76,6 +79,8 @@ impl<'p, V: View + Drop> Book<'p, V> {
     /// different then.
     pub fn next(&mut self, hand: &mut Hand<'p>) -> Result<Next<'p>, AllocError>
         ensures ok { IfOk result (IsNext self.old self.new hand.old hand.new) }
+        ensures was_book { IsBook self.old }
+        ensures is_book { IsBook self.new }
         ensures room { IfOk result (LeavesRoom hand.new) }
         ensures size { hand.new.size ≡ hand.old.size }
         ensures book_on_err { OnErr result (self.new ≡ self.old) }
@@ -96,6 +101,8 @@ impl<'p, V: View + Drop> Book<'p, V> {
     ) -> Result<Told<'p>, (Pending<'p>, AllocError)>
         requires room { length hand.old.jobs < hand.old.size }
         ensures ok { IfOk result (IsTold self.old self.new hand.old hand.new pending.entry) }
+        ensures was_book { IsBook self.old }
+        ensures is_book { IsBook self.new }
         ensures later { IfOk result (ComesBack hand.old hand.new pending.entry) }
         ensures size { hand.new.size ≡ hand.old.size }
         ensures pending_on_err { IfErr result (λ e. e.0 ≡ pending.entry) }
@@ -116,6 +123,16 @@ impl<'p, V: View + Drop> Book<'p, V> {
         ensures size { hand.new.size ≡ hand.old.size }
     {
         let _size = hand.size;
+        let _limit = self.limit;
+        unreachable!()
+    }
+
+    /// The trace.
+    pub fn into_trace(self) -> Trace
+        ensures run { result.run ≡ self.entry.system.run }
+        ensures well_formed { WellFormed result.run }
+        ensures legal { Legal self.entry.system.program result.run }
+    {
         let _limit = self.limit;
         unreachable!()
     }

@@ -1,14 +1,13 @@
-//! The step book: a legal run to which workers append steps, what each of them does next, and the run of one worker.
+//! The step book: a legal run to which workers append steps, and what each of them does next.
 #![tactic(auto)]
 
 mod answers;
 mod book;
 mod hand;
 mod place;
-mod serial;
 
 pub use answers::{Next, Told};
 pub use book::Book;
 pub use hand::Hand;
 pub use place::StepPlace;
-pub use serial::{Serial, run};
+
