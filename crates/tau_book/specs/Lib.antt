@@ -5,3 +5,5 @@ pub mod Nexts
 pub mod Tolds
 pub mod Places
 pub mod Serial
+pub mod Jobs
+pub mod Returns

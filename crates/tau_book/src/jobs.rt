@@ -1,11 +1,12 @@
 //! Lists of jobs.
-ghost use Rattle.std.specs.Prelude.{◌≡◌, ◌+◌, ◌<◌, ◌==◌, ℕ, Some, take, length, slice_get, slice_index_or, count_by, remove, IfSome, IfNone, IsTrue};
+ghost use Rattle.std.specs.Prelude.{◌≡◌, ◌+◌, ◌<◌, ◌==◌, ℕ, Some, take, length, slice_get, slice_index_or, count_by};
 ghost use Rattle.std.specs.List.{list_any};
 ghost use Rattle.std.specs.Vec.{vec_capacity};
 ghost use Rattle.tau_eval.specs.Turn.{Turn};
 ghost use Rattle.tau_book.specs.Hands.{is_earlier, is_of};
 ghost use Rattle.tau_book.specs.Books.{AreOfDifferentTurns};
 ghost use Rattle.tau_book.specs.Offers.{open_jobs, earliest, without};
+ghost use Rattle.tau_book.specs.Jobs.{IsEarliestFrom};
 
 use tau_eval::Job;
 
@@ -46,26 +47,32 @@ pub(crate) fn take_earliest<'p>(jobs: &mut Vec<Job<'p>>) -> Option<Job<'p>>
 
 // Where the first job of the earliest turn is.
 fn place_of_earliest(jobs: &[Job<'_>]) -> Option<usize>
-    ensures none { IfNone result (jobs.now ≡ []) }
-    ensures some { IfSome result (λ k. (k < length jobs.now) × (earliest jobs.now ≡ slice_get jobs.now k)) }
+    ensures { IsEarliestFrom jobs.now 0 result }
 {
     let mut best = None;
-    let mut k = jobs.len();
-    'jobs: while k > 0 {
-        k -= 1;
-        best = Some(earlier(jobs, k, best));
+    let mut from = jobs.len();
+    'jobs: while from > 0 {
+        from -= 1;
+        best = Some(earlier(jobs, from, best));
     }
     best
 }
 
-// Of two places the one of the earlier turn, and the first of one turn.
-fn earlier(jobs: &[Job<'_>], k: usize, other: Option<usize>) -> usize
-    requires { k < length jobs.now }
-    ensures { result ≡ 0 }
+// Of a place and that of the earliest turn behind it, the one of the earlier turn.
+fn earlier(jobs: &[Job<'_>], place: usize, best: Option<usize>) -> usize
+    requires within { place < length jobs.now }
+    requires best { IsEarliestFrom jobs.now (place + 1) best }
+    ensures { IsEarliestFrom jobs.now place (Some result) }
 {
-    match other {
-        Some(best) if jobs[best].turn() < jobs[k].turn() => best,
-        _ => k,
+    match best {
+        Some(best) => {
+            if jobs[best].turn() < jobs[place].turn() {
+                best
+            } else {
+                place
+            }
+        }
+        None => place,
     }
 }
 

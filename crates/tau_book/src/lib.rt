@@ -4,8 +4,11 @@
 mod answers;
 mod book;
 mod hand;
+mod jobs;
 mod place;
+mod returns;
 mod serial;
+mod tidying;
 
 pub use answers::{Next, Told};
 pub use book::Book;
