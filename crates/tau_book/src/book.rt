@@ -60,12 +60,10 @@ impl<'p, V: View + Drop> Book<'p, V> {
         ensures limit { IfOk result (λ b. b.limit ≡ limit) }
         ensures store { IfOk result (λ b. b.store ≡ []) }
     {
-        let scripted = Scripted::open(alloc, program)?;
-        let store = Vec::with_capacity(alloc, scripted.turns().len())?;
         Ok(Book {
-            scripted,
+            scripted: Scripted::open(alloc, program)?,
             limit,
-            store,
+            store: Vec::new(alloc),
         })
     }
 

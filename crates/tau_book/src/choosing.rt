@@ -80,22 +80,12 @@ fn number_of(word: u32, jobs: usize, messages: usize) -> usize
     word as usize % jobs.saturating_add(messages)
 }
 
-// How many turns are open.
-fn count_turns<V: View + Drop>(scripted: &Scripted<'_, V>) -> u32
-    requires { len scripted.now.system.run ≤ 1000000 }
-    ensures count { result ≡ length scripted.now.turns }
-    ensures few { result ≤ 1000000 }
-{
-    scripted.turns().len() as u32
-}
-
 // There is nothing to choose from. Gives up the jobs of turns that aren't open, and tells how many are.
 fn idle<'p, V: View + Drop>(
     scripted: &Scripted<'p, V>,
     store: &mut Vec<Job<'p>>,
     hand: &mut Hand<'p>,
 ) -> u32
-    requires few { len scripted.now.system.run < 1000000 }
     requires none_due { NoneDue scripted.now.system.program.script scripted.now.system.run (len scripted.now.system.run) }
     requires incomplete { ¬ Complete scripted.now.system.program scripted.now.system.run }
     requires differ { AreOfDifferentTurns store.old.items }
@@ -106,9 +96,8 @@ fn idle<'p, V: View + Drop>(
     ensures differ { AreOfDifferentTurns store.new.items }
     ensures places { vec_capacity store.new ≡ vec_capacity store.old }
 {
-    let out = count_turns(scripted);
     tidy(scripted.turns(), hand, store);
-    out
+    scripted.open_turns()
 }
 
 // Hands out the job with a number that a word chose, and has the generator after the word.
@@ -162,7 +151,7 @@ fn receive<'p, V: View + Drop>(
     ensures store_on_err { OnErr result (store.new.items ≡ store.old.items) }
     ensures hand_on_err { OnErr result (hand.new ≡ hand.old) }
 {
-    let turns = count_turns(scripted) as usize;
+    let turns = scripted.open_turns() as usize;
     store.reserve(turns + 1)?;
     let delivered = scripted.deliver(number)?;
     tidy(&scripted.turns()[..turns], hand, store);

@@ -1,6 +1,6 @@
 -- The open turns after one more step.
-use Rattle.std.proofs.Common.{◌≡◌, ◌≢◌, ◌⊎◌, ◌↔◌, inl, inr, ⊎_elim, ℕ, suc, ◌<◌, Bool, true, false, not, IsTrue, eqb, eqb-true, eq-eqb, Some, None, List, [], ◌∷◌, ◌++◌, get_or, filter, refl, sym, ap, ◌∙◌, subst, arith}
-use Rattle.std.specs.List.{Contains}
+use Rattle.std.proofs.Common.{◌≡◌, ◌≢◌, ◌⊎◌, ◌↔◌, inl, inr, ⊎_elim, ℕ, zero, suc, ◌<◌, ◌≤◌, Bool, true, false, not, IsTrue, eqb, eqb-true, eq-eqb, Some, None, List, [], ◌∷◌, ◌++◌, get_or, filter, length, refl, sym, ap, ◌∙◌, subst, arith}
+use Rattle.std.specs.List.{Contains, AllPairs}
 use Rattle.std.proofs.lemmas.List.Kept.{AllPairs-filter}
 use Rattle.std.proofs.lemmas.List.Quantifiers.{all_pairs_push}
 use Rattle.std.proofs.lemmas.List.Elements.{Contains-append_left, Contains-push, Contains-push_cases, Contains-get_or}
@@ -211,3 +211,15 @@ module _ (T : Run) (s : Step) (busy : List ℕ) (h : AreBusy T busy) where
     λ c. let r = filter_contains (is_not who) busy t c in let f = (h t).0 r.0 in record { place = f.place; message = f.message; turn = (ends t f.place f.message).1 (f.turn, not_same who t r.1) },
     λ f. let r = (ends t f.place f.message).0 f.turn in contains_filter (is_not who) busy t ((h t).1 (record { place = f.place; message = f.message; turn = r.0 })) (is_not-true who t r.1),
   )
+
+-- ascending numbers below a bound are no more than it
+ascending_fewer : (xs : List ℕ) (n : ℕ) → AllPairs (λ a b. a < b) xs → ((k d : ℕ) → k < length xs → get_or xs k d < n) → (k d : ℕ) → k < length xs → k ≤ get_or xs k d
+ascending_fewer xs n ascending below zero d l = omega arith
+ascending_fewer xs n ascending below (suc k) d l = omega (arith, ascending_fewer xs n ascending below k d (omega (arith, l)), ascending k (suc k) d (omega arith) l)
+
+pub few_turns : (T : Run) (places : List ℕ) → AreOpenTurns T places → length places ≤ len T
+few_turns T [] h = omega arith
+few_turns T (p ∷ ps) h =
+    let last : ℕ = length ps in
+    let below : (k d : ℕ) → k < length (p ∷ ps) → get_or (p ∷ ps) k d < len T = λ k d lt. open_before T (p ∷ ps) (get_or (p ∷ ps) k d) h (Contains-get_or (p ∷ ps) k d lt) in
+    omega (arith, ascending_fewer (p ∷ ps) (len T) h.ascending below last 0 (omega arith), below last 0 (omega arith))

@@ -53,6 +53,7 @@ impl<'p, V: View + Drop> Scripted<'p, V> {
         requires { Sound program.now }
         ensures program { IfOk result (λ s. s.system.program ≡ program.entry.now) }
         ensures run { IfOk result (λ s. s.system.run ≡ record { opening = program_opening program.entry.now; steps = [] }) }
+        ensures turns { IfOk result (λ s. s.turns ≡ []) }
     {
         let system = System::open(alloc, program)?;
         let mut index = Index::new(alloc);
@@ -93,6 +94,13 @@ impl<'p, V: View + Drop> Scripted<'p, V> {
         ensures turns { AreOpenTurns self.now.system.run result.now }
     {
         &self.index.turns
+    }
+
+    /// How many turns are open.
+    pub fn open_turns(&self) -> u32
+        ensures { result ≡ length self.now.turns }
+    {
+        self.index.turns.len() as u32
     }
 
     /// How many messages can be delivered.

@@ -12,6 +12,7 @@ invariant-jobs l = record {
   open_jobs : AreOfTurns l.turns l.store.items;
   given : AreOfTurns l.turns l.jobs.items;
   capacity : vec_capacity l.store ≡ vec_capacity l.initial.store;
+  jobs_capacity : vec_capacity l.jobs ≡ vec_capacity l.initial.jobs;
 }
 
 abbrev pub decreases-jobs : goal.decreases-jobs
