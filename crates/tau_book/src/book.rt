@@ -149,6 +149,7 @@ impl<'p, V: View + Drop> Book<'p, V> {
         ensures book_on_err { OnErr result (self.new ≡ self.old) }
         ensures hand_on_err { OnErr result (hand.new ≡ hand.old) }
     {
+        let _system = self.scripted.system();
         choose(&mut self.scripted, &mut self.store, hand)
     }
 

@@ -4,6 +4,8 @@ ghost use Rattle.std.specs.Vec.{vec_capacity};
 ghost use Rattle.tau_trace.specs.Run.{len};
 ghost use Rattle.tau_script.specs.Scripts.{NoneDue};
 ghost use Rattle.tau_legal.specs.Traces.{Complete};
+ghost use Rattle.tau_scripted.specs.OpenTurns.{AreOpenTurns};
+ghost use Rattle.tau_scripted.specs.Flight.{AreDeliverable};
 ghost use Rattle.tau_book.specs.Books.{AreOfDifferentTurns, booked};
 ghost use Rattle.tau_book.specs.Offers.{jobs_with, options, number_drawn, generator_after};
 ghost use Rattle.tau_book.specs.Nexts.{IsNext, IsIdle, IsHandedOut, IsReceived};
@@ -24,6 +26,7 @@ pub(crate) fn choose<'p, V: View + Drop>(
     hand: &mut Hand<'p>,
 ) -> Result<Next<'p>, AllocError>
     requires few { len scripted.old.system.run < 1000000 }
+    requires messages { AreDeliverable scripted.old.system.run scripted.old.messages }
     requires none_due { NoneDue scripted.old.system.program.script scripted.old.system.run (len scripted.old.system.run) }
     requires incomplete { ¬ Complete scripted.old.system.program scripted.old.system.run }
     requires differ { AreOfDifferentTurns store.old.items }
@@ -62,7 +65,8 @@ fn count_messages<'p, V: View + Drop>(
     hand: &Hand<'p>,
     jobs: usize,
 ) -> usize
-    ensures { result ≡ (if nat_lt jobs hand.now.size then length scripted.now.messages else 0) }
+    ensures count { result ≡ (if nat_lt jobs hand.now.size then length scripted.now.messages else 0) }
+    ensures none { jobs ≡ 0 → result ≡ 0 → scripted.now.messages ≡ [] }
 {
     if jobs < hand.size() {
         scripted.deliverable()
@@ -86,6 +90,7 @@ fn idle<'p, V: View + Drop>(
     store: &mut Vec<Job<'p>>,
     hand: &mut Hand<'p>,
 ) -> u32
+    requires messages { AreDeliverable scripted.now.system.run scripted.now.messages }
     requires none_due { NoneDue scripted.now.system.program.script scripted.now.system.run (len scripted.now.system.run) }
     requires incomplete { ¬ Complete scripted.now.system.program scripted.now.system.run }
     requires differ { AreOfDifferentTurns store.old.items }
@@ -108,6 +113,7 @@ fn hand_out<'p, V: View + Drop>(
     number: usize,
     generator: Pcg32,
 ) -> Job<'p>
+    requires messages { AreDeliverable scripted.now.system.run scripted.now.messages }
     requires none_due { NoneDue scripted.now.system.program.script scripted.now.system.run (len scripted.now.system.run) }
     requires differ { AreOfDifferentTurns store.old.items }
     requires number { number < length (jobs_with scripted.now.turns hand.old store.old.items) }
@@ -134,6 +140,8 @@ fn receive<'p, V: View + Drop>(
     generator: Pcg32,
 ) -> Result<(), AllocError>
     requires few { len scripted.old.system.run < 1000000 }
+    requires turns { AreOpenTurns scripted.old.system.run scripted.old.turns }
+    requires messages { AreDeliverable scripted.old.system.run scripted.old.messages }
     requires none_due { NoneDue scripted.old.system.program.script scripted.old.system.run (len scripted.old.system.run) }
     requires differ { AreOfDifferentTurns store.old.items }
     requires places { length scripted.old.turns ≤ vec_capacity store.old }

@@ -4,4 +4,4 @@ use Rattle.tau_book.specs.Tolds.{goes_on}
 use Rattle.tau_book.proofs.book.Book.make.Goals as goal
 
 pub returns-in-Ok-Reply-clause-ok : goal.returns-in-Ok-Reply-clause-ok
-returns-in-Ok-Reply-clause-ok g c = goes_on c.in-Ok-Reply.ensures.ok (c.keep.ensures ∙ ap (joined c.args.hand.now) c.resume.ensures)
+returns-in-Ok-Reply-clause-ok g c = goes_on (rw c.in-Ok-Reply.field-0-is at c.in-Ok-Reply.ensures.ok) (c.keep.ensures ∙ ap (joined c.args.hand.now) c.resume.ensures)
