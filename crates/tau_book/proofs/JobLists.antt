@@ -1,14 +1,13 @@
 -- Lists of jobs: the earliest of them, and their numbers by ascending turn.
-use Rattle.std.proofs.Common.{◌≡◌, ◌≢◌, ◌⊎◌, inl, inr, ⊎_elim, ℕ, zero, suc, ◌+◌, ◌-◌, ◌<◌, ◌≤◌, Bool, true, false, not, cond, eqb, eqb-true, eq-eqb, Option, Some, None, List, [], ◌∷◌, ◌++◌, length, get_or, take, drop, filter, map, All, refl, sym, ap, ◌∙◌, subst, arith, length-append}
+use Rattle.std.proofs.Common.{◌≡◌, ◌≢◌, ◌⊎◌, inl, inr, ⊎_elim, ℕ, zero, suc, ◌+◌, ◌-◌, ◌<◌, ◌≤◌, Bool, true, false, not, cond, eqb, eqb-true, eq-eqb, Option, Some, None, List, [], ◌∷◌, ◌++◌, length, get_or, take, drop, refl, sym, ap, ◌∙◌, subst, arith, length-append}
 use Rattle.std.specs.Prelude.{slice_get, count_by, nat_lt, nat_le, remove}
-use Rattle.std.specs.List.{AllPairs, Contains, list_any}
 use Rattle.std.specs.Option.{option_to_list}
 use Rattle.std.proofs.lemmas.Bool.Decides.{nat_tests}
 use Rattle.std.proofs.lemmas.Option.{slice_get-get_or, get_or_from_slice_get}
 use Rattle.std.proofs.lemmas.List.Sums.{sum_by-cons, count_by-le-length}
 use Rattle.std.proofs.Math.Seq.{drop-cons}
 use Rattle.std.proofs.lemmas.List.{take-append-drop}
-use Rattle.tau_waiting.proofs.Lists.{filter-one, length-filter-le}
+use Rattle.tau_waiting.proofs.Lists.{filter-one}
 use Rattle.tau_eval.specs.Turn.{Turn}
 use Rattle.tau_book.specs.Hands.{is_earlier, is_of, IsNumbered}
 use Rattle.tau_book.specs.Books.{AreOfDifferentTurns}
@@ -156,13 +155,13 @@ module _ (j : Turn) (jobs : List Turn) where
     later d = ⊎_elim
         (λ so. so)
         (λ (not_so : (get_or jobs k d).place < j.place).
-            absurd (omega (
-              arith,
-              h.is d,
-              earlier_and_of (get_or jobs k d).place j.place jobs not_so,
-              count_front (is_of (get_or jobs k d).place) jobs k d h.within (eq-eqb (get_or jobs k d).place (get_or jobs k d).place refl),
-              l,
-            )))
+        absurd (omega (
+          arith,
+          h.is d,
+          earlier_and_of (get_or jobs k d).place j.place jobs not_so,
+          count_front (is_of (get_or jobs k d).place) jobs k d h.within (eq-eqb (get_or jobs k d).place (get_or jobs k d).place refl),
+          l,
+        )))
         (le_or_above j.place (get_or jobs k d).place)
 
 three_ways : (n m : ℕ) → (n < m) ⊎ ((n ≡ m) ⊎ ((k : ℕ) × (n ≡ suc k) × (m ≤ k)))

@@ -1,5 +1,5 @@
 -- Returned jobs: of different turns, each of an open turn, and so no more than there are open turns.
-use Rattle.std.proofs.Common.{◌≡◌, ◌≢◌, ◌⊎◌, inl, inr, ⊎_elim, ℕ, zero, suc, ◌+◌, ◌<◌, ◌≤◌, Bool, true, false, not, cond, eqb, eqb-true, eq-eqb, IsTrue, Option, Some, None, List, [], ◌∷◌, ◌++◌, length, get_or, filter, map, fold, All, refl, sym, ap, ◌∙◌, subst, arith, length-append}
+use Rattle.std.proofs.Common.{◌≡◌, ◌≢◌, ◌⊎◌, inl, inr, ℕ, suc, ◌+◌, ◌<◌, ◌≤◌, Bool, true, false, not, cond, eqb, eqb-true, eq-eqb, IsTrue, Option, Some, None, List, [], ◌∷◌, ◌++◌, length, get_or, filter, map, refl, sym, ◌∙◌, subst, arith, length-append}
 use Rattle.std.specs.List.{AllPairs, Contains, list_any}
 use Rattle.std.proofs.lemmas.List.Kept.{AllPairs-filter}
 use Rattle.std.proofs.lemmas.List.Quantifiers.{all_pairs_push}
@@ -10,10 +10,10 @@ use Rattle.tau_waiting.proofs.Lists.{length-filter-le}
 use Rattle.tau_waiting.specs.MailState.{is_not}
 use Rattle.tau_eval.specs.Turn.{Turn}
 use Rattle.tau_scripted.proofs.Members.{contains_nothing, contains_here, contains_there, contains_cases, contains_filter, filter_contains, map_contains}
-use Rattle.tau_scripted.proofs.DeliverableLemmas.{contains_any, any_contains}
+use Rattle.tau_scripted.proofs.DeliverableLemmas.{contains_any}
 use Rattle.tau_book.specs.Hands.{is_of}
 use Rattle.tau_book.specs.Books.{AreOfDifferentTurns}
-use Rattle.tau_book.specs.Offers.{open_jobs, without, stored}
+use Rattle.tau_book.specs.Offers.{open_jobs, without}
 use Rattle.tau_book.specs.Returns.{AreOfTurns}
 
 -- Numbers that differ are no more than those among which they are.
@@ -42,8 +42,8 @@ few [] ys differ all = omega arith
 few (x ∷ xs) ys differ all =
     let apart : (q : ℕ) → Contains xs q → q ≢ x = λ q c e. differ 0 (suc c.0) q (omega arith) (omega (arith, c.1)) (sym e ∙ sym c.2) in
     let rest : length xs ≤ length (filter (is_not x) ys) =
-        few xs (filter (is_not x) ys) (λ i j d a b. differ (suc i) (suc j) d (omega (arith, a)) (omega (arith, b)))
-        (λ q c. contains_filter (is_not x) ys q (all q (contains_there x q xs c)) (is_not-true x q (apart q c))) in
+    few xs (filter (is_not x) ys) (λ i j d a b. differ (suc i) (suc j) d (omega (arith, a)) (omega (arith, b)))
+    (λ q c. contains_filter (is_not x) ys q (all q (contains_there x q xs c)) (is_not-true x q (apart q c))) in
     omega (arith, rest, shorter ys x (all x (contains_here x xs)))
 
 -- the places of jobs of different turns differ
@@ -61,8 +61,8 @@ pub few_jobs : (turns : List ℕ) (jobs : List Turn) → AreOfDifferentTurns job
 few_jobs turns jobs differ are =
     let place : Turn → ℕ = λ t. t.place in
     let all : (q : ℕ) → Contains (map place jobs) q → Contains turns q = λ q c.
-        let came = map_contains place jobs q c in
-        subst (Contains turns) came.2 (contains_any turns came.0.place (All-contains (λ (j : Turn). IsTrue (list_any (λ p. eqb p j.place) turns)) jobs came.0 are came.1)) in
+    let came = map_contains place jobs q c in
+    subst (Contains turns) came.2 (contains_any turns came.0.place (All-contains (λ (j : Turn). IsTrue (list_any (λ p. eqb p j.place) turns)) jobs came.0 are came.1)) in
     let fewer : length (map place jobs) ≤ length turns = few (map place jobs) turns (places_differ jobs differ) all in
     omega (arith, fewer, length-map jobs place)
 

@@ -72,7 +72,6 @@ impl<'p, V: View + Drop> Book<'p, V> {
         ensures system { result.now ≡ self.now.system }
         ensures book { IsBook self.now }
     {
-        let _limit = &self.limit;
         self.scripted.system()
     }
 

@@ -1,4 +1,3 @@
-use Rattle.std.proofs.Common.{eqb-true}
 use Rattle.tau_book.proofs.choosing.choose.Goals as goal
 
 pub idle-out-requires-clause-no_message : goal.idle-out-requires-clause-no_message

@@ -1,6 +1,5 @@
-use Rattle.std.proofs.Common.{◌≡◌, ◌≤◌, ◌∙◌, ap, sym, subst, List, ℕ, suc, take, length, arith}
+use Rattle.std.proofs.Common.{◌≡◌, ◌∙◌, List, ℕ, suc, take, arith}
 use Rattle.tau_trace.specs.Run.{len}
-use Rattle.tau_scripted.specs.OpenTurns.{AreOpenTurns}
 use Rattle.tau_scripted.specs.ScriptedRun.{ScriptedRun}
 use Rattle.tau_scripted.proofs.Receivers.{at_place}
 use Rattle.tau_book.specs.Hands.{Held}

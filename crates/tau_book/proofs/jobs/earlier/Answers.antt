@@ -1,4 +1,4 @@
-use Rattle.std.proofs.Common.{◌≡◌, ◌<◌, ◌≤◌, ◌+◌, ◌∙◌, ℕ, Option, length, get_or, List, sym, ap, subst, arith}
+use Rattle.std.proofs.Common.{◌≡◌, ◌≤◌, ◌+◌, ◌∙◌, ℕ, Option, length, get_or, List, ap, subst, arith}
 use Rattle.tau_eval.specs.Turn.{Turn}
 use Rattle.tau_book.specs.Jobs.{IsEarliestFrom}
 use Rattle.tau_book.proofs.JobLists.{earliest_at_end, earliest_kept, earliest_taken, same_default}

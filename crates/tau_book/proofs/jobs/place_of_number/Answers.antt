@@ -1,4 +1,4 @@
-use Rattle.std.proofs.Common.{◌<◌, ◌≤◌, length, List, below_more, arith}
+use Rattle.std.proofs.Common.{List, below_more, arith}
 use Rattle.tau_eval.specs.Turn.{Turn}
 use Rattle.tau_book.proofs.JobLists.{place_of, not_there}
 use Rattle.tau_book.proofs.jobs.place_of_number.Goals as goal

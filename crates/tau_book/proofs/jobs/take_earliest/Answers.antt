@@ -1,4 +1,4 @@
-use Rattle.std.proofs.Common.{◌≡◌, ◌<◌, ◌∙◌, List, length, sym, ap, subst}
+use Rattle.std.proofs.Common.{◌≡◌, ◌<◌, ◌∙◌, List, length, sym, subst}
 use Rattle.std.specs.Prelude.{slice_get}
 use Rattle.tau_eval.specs.Turn.{Turn}
 use Rattle.tau_book.specs.Offers.{earliest}

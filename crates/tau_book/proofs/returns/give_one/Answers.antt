@@ -1,4 +1,4 @@
-use Rattle.std.proofs.Common.{◌≡◌, ◌∙◌, ◌<◌, List, length, ap, sym, subst, arith, false}
+use Rattle.std.proofs.Common.{◌≡◌, ◌∙◌, ◌<◌, List, length, sym, subst, arith, false}
 use Rattle.std.specs.List.{list_any}
 use Rattle.tau_eval.specs.Turn.{Turn}
 use Rattle.tau_book.specs.Hands.{is_of}

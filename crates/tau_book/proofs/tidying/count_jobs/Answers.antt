@@ -1,4 +1,4 @@
-use Rattle.std.proofs.Common.{◌≡◌, ◌∙◌, ◌<◌, ◌+◌, List, length, sym, ap, subst, arith}
+use Rattle.std.proofs.Common.{◌∙◌, ◌<◌, ◌+◌, List, length, sym, ap, arith}
 use Rattle.tau_eval.specs.Turn.{Turn}
 use Rattle.tau_book.specs.Offers.{open_jobs}
 use Rattle.tau_book.proofs.JobLists.{one_taken_up}

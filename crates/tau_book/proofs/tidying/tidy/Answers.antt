@@ -1,7 +1,7 @@
-use Rattle.std.proofs.Common.{◌∙◌, List, sym, ap, subst}
+use Rattle.std.proofs.Common.{List, sym, subst}
 use Rattle.tau_eval.specs.Turn.{Turn}
 use Rattle.tau_book.specs.Books.{AreOfDifferentTurns}
-use Rattle.tau_book.specs.Offers.{earliest, without}
+use Rattle.tau_book.specs.Offers.{earliest}
 use Rattle.tau_book.proofs.StoreLemmas.{differ_open, differ_without}
 use Rattle.tau_book.proofs.tidying.tidy.Goals as goal
 

@@ -1,4 +1,4 @@
-use Rattle.std.proofs.Common.{◌≤◌, length, List, arith, eqb, subst, sym}
+use Rattle.std.proofs.Common.{◌≤◌, arith, eqb, subst}
 use Rattle.std.specs.List.{list_any}
 use Rattle.tau_waiting.proofs.Lists.{length-filter-le}
 use Rattle.tau_eval.specs.Turn.{Turn}

@@ -1,4 +1,4 @@
-use Rattle.std.proofs.Common.{◌≡◌, ◌<◌, ◌+◌, ◌∙◌, ℕ, List, length, get_or, take, sym, ap, subst}
+use Rattle.std.proofs.Common.{◌≡◌, ◌<◌, ℕ, List, length, sym, subst}
 use Rattle.tau_eval.specs.Turn.{Turn}
 use Rattle.tau_book.specs.Hands.{Held, IsNumbered}
 use Rattle.tau_book.proofs.JobLists.{numbered, number_at}

@@ -1,4 +1,4 @@
-use Rattle.std.proofs.Common.{◌≡◌, ◌≤◌, List, length, ap, arith, eqb}
+use Rattle.std.proofs.Common.{◌≡◌, length, ap, arith, eqb}
 use Rattle.std.specs.List.{list_any}
 use Rattle.tau_waiting.proofs.Lists.{length-filter-le}
 use Rattle.tau_eval.specs.Turn.{Turn}
