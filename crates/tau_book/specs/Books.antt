@@ -1,5 +1,5 @@
 -- What contracts see of a book, and what it keeps.
-use Rattle.std.specs.Prelude.{◌≡◌, ◌≢◌, ◌<◌, ◌≤◌, ℕ, List}
+use Rattle.std.specs.Prelude.{◌≡◌, ◌≢◌, ◌<◌, ◌≤◌, ℕ, List, length}
 use Rattle.std.specs.List.{AllPairs}
 use Rattle.tau_waiting.specs.declared.letter.Letter.{Letter}
 use Rattle.tau_trace.specs.declared.step.Step.{Step}
@@ -12,6 +12,7 @@ use Rattle.tau_legal.specs.Traces.{Legal, Complete}
 use Rattle.tau_eval.specs.Turn.{Turn}
 use Rattle.tau_rules.specs.System.{Core, with_step}
 use Rattle.tau_scripted.specs.Flight.{AreInFlight}
+use Rattle.tau_scripted.specs.ScriptedRun.{ScriptedRun}
 
 -- the system, the letters of the messages in flight, the cursor of the script, the limit of steps, and the returned jobs
 pub record Booked : Type 0 where
@@ -21,12 +22,16 @@ pub record Booked : Type 0 where
   pub limit : ℕ
   pub store : List Turn
 
+-- the book over a system that follows its script
+abbrev pub booked : ScriptedRun → ℕ → List Turn → Booked
+booked s limit store = record { system = s.system; letters = s.letters; cursor = s.cursor; limit = limit; store = store }
+
 -- no two jobs are of one turn
 abbrev pub AreOfDifferentTurns : List Turn → Type 0
 AreOfDifferentTurns jobs = AllPairs (λ a b. a.place ≢ b.place) jobs
 
--- what holds of each book: its trace is well formed and legal and has at most `limit` steps, the letters are the messages in flight, the cursor is
--- the script's, and the returned jobs are of different turns
+-- what holds of each book: its trace is well formed and legal and has at most `limit` steps, the letters are the messages in flight,
+-- the cursor is the script's, and the returned jobs are of different turns
 pub record IsBook (b : Booked) : Type 0 where
   pub well_formed : WellFormed b.system.run
   pub legal : Legal b.system.program b.system.run
@@ -35,6 +40,13 @@ pub record IsBook (b : Booked) : Type 0 where
   pub limited : len b.system.run ≤ b.limit
   pub few : b.limit ≤ 1000000
   pub one_each : AreOfDifferentTurns b.store
+
+-- what a book keeps beside that of its system: the limits, jobs of different turns, and a place for a job of each open turn
+pub record IsKept (s : ScriptedRun) (limit : ℕ) (store : List Turn) (places : ℕ) : Type 0 where
+  pub limited : len s.system.run ≤ limit
+  pub few : limit ≤ 1000000
+  pub one_each : AreOfDifferentTurns store
+  pub room : length s.turns ≤ places
 
 -- the step was appended, and the returned jobs are these; letters and cursor are those of the longer trace
 pub record IsAppended (old new : Booked) (s : Step) (store : List Turn) : Type 0 where

@@ -4,3 +4,5 @@ pub mod Offers
 pub mod Nexts
 pub mod Tolds
 pub mod Places
+pub mod Jobs
+pub mod Returns

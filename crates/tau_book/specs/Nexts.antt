@@ -1,8 +1,8 @@
 -- What a book answers to a hand that asks for something to do (docs/rules.md, "Choice of a worker").
-use Rattle.std.specs.Prelude.{◌≡◌, ◌⊎◌, ◌<◌, ◌≤◌, ◌+◌, ℕ, List, [], Some, length, slice_get, ◌++◌, ◌∷◌}
+use Rattle.std.specs.Prelude.{◌≡◌, ◌⊎◌, ◌<◌, ◌≤◌, ◌+◌, ℕ, Bool, true, false, List, [], Some, length, slice_get, ◌++◌, ◌∷◌}
 use Rattle.tau_trace.specs.declared.step.Step.{Step}
 use Rattle.tau_trace.specs.Run.{len}
-use Rattle.tau_script.specs.Scripts.{DueStep}
+use Rattle.tau_script.specs.Scripts.{DueStep, NoneDue}
 use Rattle.tau_eval.specs.Turn.{Turn}
 use Rattle.tau_rules.specs.Answers.{IsDelivered}
 use Rattle.tau_rules.specs.declared.answers.Delivered.{Delivered}
@@ -20,6 +20,11 @@ pub record IsDueMade (old new : Booked) (h k : Held) : Type 0 where
   pub due : DueStep old.system.program.script old.system.run (len old.system.run) step
   pub appended : IsAppended old new step old.store
   pub hand_is : k ≡ h
+
+-- the due step of the script was appended; or none is due, and nothing is different
+abbrev pub IsDueTried : Booked → Booked → Bool → Type 0
+IsDueTried old new true = (s : Step) × DueStep old.system.program.script old.system.run (len old.system.run) s × IsAppended old new s old.store
+IsDueTried old new false = NoneDue old.system.program.script old.system.run (len old.system.run) × (new ≡ old)
 
 -- there is nothing to choose from; `out` turns are open
 pub record IsIdle (old new : Booked) (h k : Held) (out : ℕ) : Type 0 where

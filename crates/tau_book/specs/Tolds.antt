@@ -22,6 +22,11 @@ pub record IsTried (old new : Booked) (pending : Turn) (a : Acted) : Type 0 wher
   pub limit_is : new.limit ≡ old.limit
   pub store_is : new.store ≡ old.store
 
+-- where another job is the record of the turn, the book is as it was
+abbrev pub StaysAtRedo : Booked → Booked → Acted → Type 0
+StaysAtRedo old new (Redo job) = new ≡ old
+StaysAtRedo old new a = Unit {0}
+
 -- its step was appended: the turn goes on, and the job with the reply joins the hand; or the turn is over
 pub data IsTurnStep (old new : Booked) (h k : Held) (pending : Turn) : Type 0 where
   goes_on : {r : Value} → IsTried old new pending (Reply r) → k ≡ joined h (with_reply pending (val_of r)) → IsTurnStep old new h k pending

@@ -1,19 +1,23 @@
 //! The book.
-ghost use Rattle.std.specs.Prelude.{◌≡◌, ◌<◌, ◌≤◌, [], IfOk, IfErr, OnErr, length};
+ghost use Rattle.std.specs.Prelude.{◌≡◌, ◌<◌, ◌≤◌, ◌↔◌, [], IsTrue, IsFalse, IfOk, IfErr, OnErr, length};
 ghost use Rattle.tau_tree.specs.Sound.{Sound};
 ghost use Rattle.tau_script.specs.Openings.{program_opening};
+ghost use Rattle.tau_trace.specs.Run.{len};
 ghost use Rattle.tau_trace.specs.Known.{WellFormed};
 ghost use Rattle.tau_legal.specs.Traces.{Legal};
-ghost use Rattle.tau_book.specs.Books.{IsBook};
-ghost use Rattle.tau_book.specs.Nexts.{IsNext};
-ghost use Rattle.tau_book.specs.Tolds.{IsTold, IsGivenBack, IsFinished};
+ghost use Rattle.tau_rules.specs.Answers.{IsUnacted};
+ghost use Rattle.tau_book.specs.Books.{IsBook, IsComplete, IsAtLimit, GoesOn};
+ghost use Rattle.tau_book.specs.Nexts.{IsNext, IsDueTried};
+ghost use Rattle.tau_book.specs.Tolds.{IsTold, IsTried, StaysAtRedo, IsGivenBack, IsFinished};
 ghost use Rattle.tau_book.specs.Places.{LeavesRoom, ComesBack};
 
+use crate::choosing::choose;
+use crate::jobs::keep_open;
 use crate::{Hand, Next, Told};
 use std::alloc::{AllocError, Global};
 use std::marker::Model;
 use tau_eval::{Job, Pending};
-use tau_rules::System;
+use tau_rules::{ActError, Acted, System};
 use tau_scripted::Scripted;
 use tau_trace::Trace;
 use tau_tree::Program;
@@ -30,22 +34,20 @@ pub struct Book<'p, V: View + Drop> {
 }
 
 impl<'p, V: View + Drop> Model for Book<'p, V> {
-    ghost use Rattle.std.specs.Prelude.{◌≤◌, length};
     ghost use Rattle.std.specs.Vec.{vec_capacity};
     ghost use Rattle.std.specs.Coded.{codes};
     ghost use Rattle.tau_value.specs.Val.{val_code};
     ghost use Rattle.tau_tree.specs.Code.{code_code};
     ghost use Rattle.tau_eval.specs.Turn.{turn_code};
-    ghost use Rattle.tau_trace.specs.Run.{len};
-    ghost use Rattle.tau_book.specs.Books.{Booked, AreOfDifferentTurns};
+    ghost use Rattle.tau_book.specs.Books.{Booked, booked, IsKept};
 
     ghost Value = { Booked };
 
     ghost coded = { Prim.hlevel (codes, val_code, code_code, turn_code) };
 
-    ghost view = { λ b. record { system = b.scripted.system; letters = b.scripted.letters; cursor = b.scripted.cursor; limit = b.limit; store = b.store.items } };
+    ghost view = { λ b. booked b.scripted b.limit b.store.items };
 
-    ghost invariant = { λ b. ⊥ };
+    ghost invariant = { λ b. IsKept b.scripted b.limit b.store.items (vec_capacity b.store) };
 }
 
 impl<'p, V: View + Drop> Book<'p, V> {
@@ -58,10 +60,11 @@ impl<'p, V: View + Drop> Book<'p, V> {
         ensures limit { IfOk result (λ b. b.limit ≡ limit) }
         ensures store { IfOk result (λ b. b.store ≡ []) }
     {
-        let _program = program;
-        let _alloc = alloc;
-        let _most = limit;
-        Err(AllocError)
+        Ok(Book {
+            scripted: Scripted::open(alloc, program)?,
+            limit,
+            store: Vec::new(alloc),
+        })
     }
 
     /// The system: the program and the trace so far, which is legal.
@@ -69,8 +72,7 @@ impl<'p, V: View + Drop> Book<'p, V> {
         ensures system { result.now ≡ self.now.system }
         ensures book { IsBook self.now }
     {
-        let _limit = self.limit;
-        unreachable!()
+        self.scripted.system()
     }
 
     /// What the worker of this hand is to do next (docs/rules.md, "Choice of a worker"): the first that applies of `Complete`,
@@ -86,9 +88,68 @@ impl<'p, V: View + Drop> Book<'p, V> {
         ensures book_on_err { OnErr result (self.new ≡ self.old) }
         ensures hand_on_err { OnErr result (hand.new ≡ hand.old) }
     {
-        let _size = hand.size;
-        let _limit = self.limit;
-        unreachable!()
+        let _before = self.system();
+        let answer = self.answer(hand)?;
+        let _after = self.system();
+        Ok(answer)
+    }
+
+    // The answer of `next`.
+    fn answer(&mut self, hand: &mut Hand<'p>) -> Result<Next<'p>, AllocError>
+        ensures ok { IfOk result (IsNext self.old self.new hand.old hand.new) }
+        ensures room { IfOk result (LeavesRoom hand.new) }
+        ensures size { hand.new.size ≡ hand.old.size }
+        ensures book_on_err { OnErr result (self.new ≡ self.old) }
+        ensures hand_on_err { OnErr result (hand.new ≡ hand.old) }
+    {
+        if self.is_complete() {
+            return Ok(Next::Complete);
+        }
+        if self.is_at_limit() {
+            return Ok(Next::Stopped);
+        }
+        if self.make_due()? {
+            return Ok(Next::Stepped);
+        }
+        self.choose(hand)
+    }
+
+    // Whether the trace is complete.
+    fn is_complete(&self) -> bool
+        ensures { IsTrue result ↔ IsComplete self.now }
+    {
+        self.scripted.is_complete()
+    }
+
+    // Whether the trace has as many steps as the limit, or fewer.
+    fn is_at_limit(&self) -> bool
+        ensures at { IsTrue result → IsAtLimit self.now }
+        ensures below { IsFalse result → len self.now.system.run < self.now.limit }
+    {
+        self.scripted.len() == self.limit
+    }
+
+    // Appends the step of the script that is due, if one is.
+    fn make_due(&mut self) -> Result<bool, AllocError>
+        requires { len self.old.system.run < self.old.limit }
+        ensures ok { IfOk result (IsDueTried self.old self.new) }
+        ensures err { OnErr result (self.new ≡ self.old) }
+    {
+        self.scripted.make_due()
+    }
+
+    // Chooses what the hand does next.
+    fn choose(&mut self, hand: &mut Hand<'p>) -> Result<Next<'p>, AllocError>
+        requires goes_on { GoesOn self.old }
+        requires incomplete { ¬ IsComplete self.old }
+        ensures ok { IfOk result (IsNext self.old self.new hand.old hand.new) }
+        ensures room { IfOk result (LeavesRoom hand.new) }
+        ensures size { hand.new.size ≡ hand.old.size }
+        ensures book_on_err { OnErr result (self.new ≡ self.old) }
+        ensures hand_on_err { OnErr result (hand.new ≡ hand.old) }
+    {
+        let _system = self.scripted.system();
+        choose(&mut self.scripted, &mut self.store, hand)
     }
 
     /// Takes the effect to which a job has come (docs/rules.md, "Choice of a worker"): the first that applies of `Stopped`, `Later`
@@ -109,10 +170,75 @@ impl<'p, V: View + Drop> Book<'p, V> {
         ensures book_on_err { OnErr result (self.new ≡ self.old) }
         ensures hand_on_err { OnErr result (hand.new ≡ hand.old) }
     {
-        let _size = hand.size;
-        let _pending = pending;
-        let _limit = self.limit;
-        unreachable!()
+        let _before = self.system();
+        let told = self.tell(hand, pending)?;
+        let _after = self.system();
+        Ok(told)
+    }
+
+    // The answer of `act`.
+    fn tell(
+        &mut self,
+        hand: &mut Hand<'p>,
+        pending: Pending<'p>,
+    ) -> Result<Told<'p>, (Pending<'p>, AllocError)>
+        requires room { length hand.old.jobs < hand.old.size }
+        ensures ok { IfOk result (IsTold self.old self.new hand.old hand.new pending.entry) }
+        ensures later { IfOk result (ComesBack hand.old hand.new pending.entry) }
+        ensures size { hand.new.size ≡ hand.old.size }
+        ensures pending_on_err { IfErr result (λ e. e.0 ≡ pending.entry) }
+        ensures book_on_err { OnErr result (self.new ≡ self.old) }
+        ensures hand_on_err { OnErr result (hand.new ≡ hand.old) }
+    {
+        if self.is_at_limit() {
+            return Ok(Told::Stopped);
+        }
+        match self.make_due() {
+            Ok(true) => Ok(Told::Later(pending)),
+            Ok(false) => self.make(hand, pending),
+            Err(failed) => Err((pending, failed)),
+        }
+    }
+
+    // Makes the step of an effect; none of the script is due.
+    fn make(
+        &mut self,
+        hand: &mut Hand<'p>,
+        pending: Pending<'p>,
+    ) -> Result<Told<'p>, (Pending<'p>, AllocError)>
+        requires room { length hand.old.jobs < hand.old.size }
+        requires goes_on { GoesOn self.old }
+        ensures ok { IfOk result (IsTold self.old self.new hand.old hand.new pending.entry) }
+        ensures later { IfOk result (ComesBack hand.old hand.new pending.entry) }
+        ensures size { hand.new.size ≡ hand.old.size }
+        ensures pending_on_err { IfErr result (λ e. e.0 ≡ pending.entry) }
+        ensures book_on_err { OnErr result (self.new ≡ self.old) }
+        ensures hand_on_err { OnErr result (hand.new ≡ hand.old) }
+    {
+        match self.try_effect(&pending) {
+            Ok(Acted::Reply(reply)) => {
+                hand.keep(pending.resume(reply));
+                Ok(Told::Stepped)
+            }
+            Ok(Acted::TurnOver) => Ok(Told::Stepped),
+            Ok(Acted::Redo(job)) => {
+                hand.keep(job);
+                Ok(Told::Redone)
+            }
+            Err(ActError::Stale { ended_by }) => Ok(Told::Stale { ended_by }),
+            Err(ActError::NoMemory) => Err((pending, AllocError)),
+        }
+    }
+
+    // Tries the effect; no step of the script is due.
+    fn try_effect(&mut self, pending: &Pending<'p>) -> Result<Acted<'p>, ActError>
+        requires { GoesOn self.old }
+        ensures ok { IfOk result (IsTried self.old self.new pending.now) }
+        ensures redone { IfOk result (StaysAtRedo self.old self.new) }
+        ensures unchanged { IfErr result (λ e. self.new ≡ self.old) }
+        ensures err { IfErr result (IsUnacted self.old.system.run pending.now.place) }
+    {
+        self.scripted.act(pending)
     }
 
     /// Takes back the jobs of a hand, which is empty then. Those whose turn isn't open are given up, and so is a second job of one
@@ -122,9 +248,9 @@ impl<'p, V: View + Drop> Book<'p, V> {
         ensures empty { hand.new.jobs ≡ [] }
         ensures size { hand.new.size ≡ hand.old.size }
     {
-        let _size = hand.size;
-        let _limit = self.limit;
-        unreachable!()
+        let turns = self.scripted.turns();
+        keep_open(turns, &mut self.store);
+        hand.give_to(turns, &mut self.store);
     }
 
     /// The trace.
@@ -133,15 +259,19 @@ impl<'p, V: View + Drop> Book<'p, V> {
         ensures well_formed { WellFormed result.run }
         ensures legal { Legal self.entry.system.program result.run }
     {
-        let _limit = self.limit;
-        unreachable!()
+        self.scripted.into_trace()
     }
 
     /// Whether the trace is complete, where it is or has as many steps as the limit; otherwise `None`.
     pub fn finished(&self) -> Option<bool>
         ensures { IsFinished self.now result }
     {
-        let _limit = self.limit;
-        unreachable!()
+        if self.is_complete() {
+            Some(true)
+        } else if self.is_at_limit() {
+            Some(false)
+        } else {
+            None
+        }
     }
 }

@@ -1,14 +1,23 @@
 //! The hand of a worker.
-ghost use Rattle.std.specs.Prelude.{◌≡◌, ◌<◌, ◌≤◌, ◌-◌, [], IfOk, length};
+ghost use Rattle.std.specs.Prelude.{◌≡◌, ◌<◌, ◌≤◌, ◌-◌, [], IfOk, length, fold};
+ghost use Rattle.std.specs.Vec.{vec_capacity};
 ghost use Rattle.rand_core.specs.Pcg32Seed.{pcg32_seed};
-ghost use Rattle.rand_pcg.specs.Pcg.{pcg32_of_seed};
-ghost use Rattle.tau_book.specs.Hands.{joined};
+ghost use Rattle.rand_pcg.specs.Pcg.{pcg32, pcg32_of_seed};
+ghost use Rattle.tau_book.specs.Hands.{joined, IsNumbered};
+ghost use Rattle.tau_book.specs.Books.{AreOfDifferentTurns};
+ghost use Rattle.tau_book.specs.Offers.{open_jobs, stored};
+ghost use Rattle.tau_book.specs.Returns.{AreOfTurns};
+ghost use Rattle.tau_book.specs.Nexts.{begun_with};
 
+use crate::jobs::{count_open, keep_open, place_of_number};
+use crate::returns::give_all;
 use rand_core::SeedableRng;
+use rand_core::utils::NextWord;
 use rand_pcg::Pcg32;
 use std::alloc::{AllocError, Global};
 use std::marker::Model;
 use tau_eval::Job;
+use tau_rules::Delivered;
 
 /// The hand of a worker: the generator by whose words it chooses, and the jobs that it holds (docs/rules.md, "Choice of a worker").
 /// Contracts see the generator, for how many jobs there is room, and the jobs in the order in which they came.
@@ -71,5 +80,76 @@ impl<'p> Hand<'p> {
         ensures { self.new ≡ joined self.old job.entry }
     {
         self.jobs.push_reserved(job);
+    }
+
+    /// Gives up the jobs whose turn isn't one of these.
+    pub(crate) fn keep_open(&mut self, turns: &[u32])
+        ensures { self.new ≡ record self.old { jobs = open_jobs turns.now self.old.jobs } }
+    {
+        keep_open(turns, &mut self.jobs);
+    }
+
+    /// How many of its jobs are of one of these turns.
+    pub(crate) fn count_open(&self, turns: &[u32]) -> usize
+        ensures count { result ≡ length (open_jobs turns.now self.now.jobs) }
+        ensures within { result ≤ self.now.size }
+        ensures few { self.now.size ≤ 16 }
+    {
+        count_open(turns, &self.jobs)
+    }
+
+    /// For how many jobs there is room.
+    pub(crate) fn size(&self) -> usize
+        ensures size { result ≡ self.now.size }
+        ensures some { 1 ≤ result }
+    {
+        self.size
+    }
+
+    /// Hands out the job that has a number by ascending turn, and has another generator then.
+    pub(crate) fn hand_out(&mut self, number: usize, generator: Pcg32) -> Job<'p>
+        requires { number < length self.old.jobs }
+        ensures job { IsNumbered self.old.jobs number result self.new.jobs }
+        ensures generator { self.new.generator ≡ generator }
+        ensures size { self.new.size ≡ self.old.size }
+    {
+        self.generator = generator;
+        let place = place_of_number(&self.jobs, number);
+        self.jobs.remove(place)
+    }
+
+    /// Has another generator, and a job more where one began.
+    pub(crate) fn take_in(&mut self, generator: Pcg32, delivered: Delivered<'p>)
+        requires { length self.old.jobs < self.old.size }
+        ensures { self.new ≡ record { generator = generator; size = self.old.size; jobs = begun_with self.old.jobs delivered.entry } }
+    {
+        self.generator = generator;
+        match delivered {
+            Delivered::Began(job) => self.jobs.push_reserved(job),
+            Delivered::Dropped | Delivered::Fell | Delivered::Voided => {}
+        }
+    }
+
+    /// Gives its jobs of these turns, which are the open ones, to the returned jobs, and is empty then.
+    pub(crate) fn give_to(&mut self, turns: &[u32], store: &mut Vec<Job<'p>>)
+        requires room { length turns.now ≤ vec_capacity store.old }
+        requires differ { AreOfDifferentTurns store.old.items }
+        requires open { AreOfTurns turns.now store.old.items }
+        ensures hand { self.new ≡ record self.old { jobs = [] } }
+        ensures store { store.new.items ≡ fold stored store.old.items (open_jobs turns.now self.old.jobs) }
+        ensures differ { AreOfDifferentTurns store.new.items }
+        ensures capacity { vec_capacity store.new ≡ vec_capacity store.old }
+    {
+        keep_open(turns, &mut self.jobs);
+        give_all(turns, &mut self.jobs, store);
+    }
+
+    /// The next word of its generator, and the generator after it.
+    pub(crate) fn next_word(&self) -> Result<(u32, Pcg32), AllocError>
+        ensures { IfOk result (λ w. w ≡ pcg32 self.now.generator) }
+    {
+        let mut generator = self.generator.clone()?;
+        let word = generator.next_word();
+        Ok((word, generator))
     }
 }

@@ -3,11 +3,14 @@
 
 mod answers;
 mod book;
+mod choosing;
 mod hand;
+mod jobs;
 mod place;
+mod returns;
+mod tidying;
 
 pub use answers::{Next, Told};
 pub use book::Book;
 pub use hand::Hand;
 pub use place::StepPlace;
-

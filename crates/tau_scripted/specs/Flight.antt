@@ -1,5 +1,5 @@
 -- The messages in flight, and those of them that can be delivered (docs/rules.md, "Messages in flight", "Choice of a worker").
-use Rattle.std.specs.Prelude.{◌≡◌, ◌<◌, ◌↔◌, ℕ, List, None}
+use Rattle.std.specs.Prelude.{◌<◌, ◌↔◌, ℕ, List, None}
 use Rattle.std.specs.List.{AllPairs, Contains}
 use Rattle.tau_waiting.specs.declared.letter.Letter.{Letter}
 use Rattle.tau_waiting.specs.Letters.{IsAscending}

@@ -1,5 +1,5 @@
 -- The open turns of a run (docs/rules.md, "Steps").
-use Rattle.std.specs.Prelude.{◌≡◌, ◌<◌, ◌↔◌, ℕ, List}
+use Rattle.std.specs.Prelude.{◌<◌, ◌↔◌, ℕ, List}
 use Rattle.std.specs.List.{AllPairs, Contains}
 use Rattle.tau_trace.specs.Run.{Run, len}
 use Rattle.tau_trace.specs.Turns.{Turn}

@@ -1,5 +1,5 @@
 -- The messages in flight and the receivers that are in a turn.
-use Rattle.std.specs.Prelude.{◌≢◌, ◌≤◌, ◌+◌, ◌==◌, ◌&&◌, nat_le, ℕ, Bool, not, List, filter, slice_index}
+use Rattle.std.specs.Prelude.{◌≢◌, ◌≤◌, ◌+◌, ◌==◌, ℕ, Bool, not, List, filter, slice_index}
 use Rattle.std.specs.List.{AllPairs, list_any}
 use Rattle.tau_waiting.specs.declared.letter.Letter.{Letter}
 
@@ -23,6 +23,10 @@ is_not q b = not (b == q)
 abbrev pub AllDiffer : List ℕ → Type 0
 AllDiffer busy = AllPairs (λ a b. a ≢ b) busy
 
+-- a letter whose receiver is in a turn
+abbrev pub is_blocked : List ℕ → Letter → Bool
+is_blocked busy l = is_busy busy l.who
+
 -- a letter whose receiver is in no turn
 abbrev pub is_deliverable : List ℕ → Letter → Bool
 is_deliverable busy l = not (is_busy busy l.who)
@@ -42,7 +46,3 @@ KeepsRoom old new = (q : ℕ) → room old q ≤ room new q
 -- each receiver has at most one place less than before
 abbrev pub TakesPlace : List ℕ → List ℕ → Type 0
 TakesPlace old new = (q : ℕ) → room old q ≤ room new q + 1
-
--- a letter for one of the receivers in a turn whose message is at most m
-abbrev pub is_blocked_to : List ℕ → ℕ → Letter → Bool
-is_blocked_to busy m l = is_busy busy l.who && nat_le l.message m

@@ -1,6 +1,9 @@
-ghost use Rattle.std.specs.Prelude.{◌≡◌, ◌<◌, ◌≤◌, ◌+◌, ◌↔◌, [], ◌∷◌, ◌++◌, false, length, slice_get, find, filter, take, count_by, IsTrue, OnOk, OnErr};
+ghost use Rattle.std.specs.Prelude.{◌≡◌, ◌<◌, ◌≤◌, ◌+◌, ◌↔◌, [], ◌∷◌, ◌++◌, false, length, slice_get, find, filter, take, IsTrue, OnOk, OnErr};
+ghost use Rattle.tau_waiting.specs.MailState.{is_blocked, AllDiffer};
+ghost use Rattle.tau_waiting.specs.Letters.{is_to};
 
 use crate::letter::Letter;
+use crate::mail::Mail;
 use std::alloc::{AllocError, Global};
 use std::marker::Model;
 
@@ -12,16 +15,20 @@ use std::marker::Model;
 /// number is found by a binary search, each step of which asks how many letters of each receiver in a turn stand before.
 #[derive(Drop)]
 pub struct Waiting {
-    none: u8,
+    mail: Mail,
+    busy: Vec<u32>,
 }
 
 impl Model for Waiting {
-    ghost use Rattle.std.specs.Prelude.{[]};
-    ghost use Rattle.tau_waiting.specs.MailState.{MailState};
+    ghost use Rattle.std.specs.Prelude.{◌-◌, vec_len};
+    ghost use Rattle.std.specs.Vec.{vec_capacity};
+    ghost use Rattle.tau_waiting.specs.MailState.{MailState, AllDiffer};
 
     ghost Value = { MailState };
 
-    ghost view = { λ w. record { letters = []; busy = []; rooms = []; turn_room = 0 } };
+    ghost view = { λ w. record { letters = w.mail.letters; busy = w.busy.items; rooms = w.mail.rooms; turn_room = vec_capacity w.busy - vec_len w.busy } };
+
+    ghost invariant = { λ w. AllDiffer w.busy.items };
 }
 
 impl Waiting {
@@ -33,8 +40,10 @@ impl Waiting {
         ensures letters { result.letters ≡ [] }
         ensures busy { result.busy ≡ [] }
     {
-        let _alloc = alloc;
-        Waiting { none: 0 }
+        Waiting {
+            mail: Mail::new(alloc),
+            busy: Vec::new(alloc),
+        }
     }
 
     /// How many letters there are. Each has a message above all earlier ones.
@@ -42,16 +51,14 @@ impl Waiting {
         ensures len { result ≡ length self.now.letters }
         ensures ascending { IsAscending self.now.letters }
     {
-        let _none = self.none;
-        self.none as usize * 0
+        self.mail.len()
     }
 
     /// Whether there is no letter.
     pub fn is_empty(&self) -> bool
         ensures { IsTrue result ↔ (self.now.letters ≡ []) }
     {
-        let _none = self.none;
-        true
+        self.mail.len() == 0
     }
 
     /// How many receivers are in a turn. None stands twice.
@@ -59,17 +66,14 @@ impl Waiting {
         ensures len { result ≡ length self.now.busy }
         ensures differ { AllDiffer self.now.busy }
     {
-        let _none = self.none;
-        0
+        self.busy.len()
     }
 
     /// Whether a receiver is in a turn.
     pub fn is_busy(&self, who: u32) -> bool
         ensures { result ≡ is_busy self.now.busy who }
     {
-        let _none = self.none;
-        let _who = who;
-        false
+        self.busy.contains(&who)
     }
 
     /// Makes room for one more letter of a receiver. It fails only for want of memory.
@@ -80,9 +84,7 @@ impl Waiting {
         ensures room { KeepsRoom self.old.rooms self.new.rooms }
         ensures turn_room { self.new.turn_room ≡ self.old.turn_room }
     {
-        let _none = self.none;
-        let _who = who;
-        Err(AllocError)
+        self.mail.reserve(who)
     }
 
     /// Puts a letter in. Its message is above all that are there. It fails only for want of memory, and the letters
@@ -96,9 +98,9 @@ impl Waiting {
         ensures room_on_err { OnErr result (KeepsRoom self.old.rooms self.new.rooms) }
         ensures turn_room { self.new.turn_room ≡ self.old.turn_room }
     {
-        let _none = self.none;
-        let _letter = letter;
-        Err(AllocError)
+        self.reserve(letter.who)?;
+        self.arrive_spare(letter);
+        Ok(())
     }
 
     /// Puts a letter in, in the room that was reserved for its receiver. Its message is above all that are there.
@@ -110,9 +112,7 @@ impl Waiting {
         ensures room { TakesPlace self.old.rooms self.new.rooms }
         ensures turn_room { self.new.turn_room ≡ self.old.turn_room }
     {
-        let _none = self.none;
-        let _letter = letter;
-        unreachable!()
+        self.mail.push_spare(letter);
     }
 
     /// Takes the letter of a message out and gives it, or `None` where the message isn't there.
@@ -123,9 +123,7 @@ impl Waiting {
         ensures room { KeepsRoom self.old.rooms self.new.rooms }
         ensures turn_room { self.new.turn_room ≡ self.old.turn_room }
     {
-        let _none = self.none;
-        let _message = message;
-        None
+        self.mail.take_out(message)
     }
 
     /// Makes room for one more receiver in a turn. It fails only for want of memory.
@@ -136,8 +134,7 @@ impl Waiting {
         ensures ok { OnOk result (1 ≤ self.new.turn_room) }
         ensures turn_room { self.old.turn_room ≤ self.new.turn_room }
     {
-        let _none = self.none;
-        Err(AllocError)
+        self.busy.reserve(1)
     }
 
     /// Opens a turn of a receiver that is in none, in the room that was reserved.
@@ -149,9 +146,7 @@ impl Waiting {
         ensures room { self.new.rooms ≡ self.old.rooms }
         ensures turn_room { self.new.turn_room + 1 ≡ self.old.turn_room }
     {
-        let _none = self.none;
-        let _who = who;
-        unreachable!()
+        self.busy.push_reserved(who);
     }
 
     /// Closes the turn of a receiver; nothing changes where it is in none.
@@ -161,16 +156,17 @@ impl Waiting {
         ensures room { self.new.rooms ≡ self.old.rooms }
         ensures turn_room { self.old.turn_room ≤ self.new.turn_room }
     {
-        let _none = self.none;
-        let _who = who;
+        self.busy.retain(|b| *b != who);
     }
 
     /// How many letters are deliverable: their receivers are in no turn.
     pub fn deliverable_len(&self) -> usize
         ensures { result ≡ length (deliverable self.now) }
     {
-        let _none = self.none;
-        0
+        match self.mail.len().checked_sub(1) {
+            Some(last) => self.passed(last),
+            None => 0,
+        }
     }
 
     /// The deliverable letter at place `k` by ascending message, counted from 0, or `None` where there are no more
@@ -178,8 +174,49 @@ impl Waiting {
     pub fn deliverable(&self, k: usize) -> Option<Letter>
         ensures { result ≡ slice_get (deliverable self.now) k }
     {
-        let _none = self.none;
-        let _k = k;
-        None
+        let count = self.deliverable_len();
+        if count <= k {
+            return None;
+        }
+        // The place is as far from the middle, at least, as the number of letters passed there is from the one wanted.
+        let mut low = k;
+        let mut high = k + (self.mail.len() - count);
+        while low < high {
+            let middle = low + (high - low) / 2;
+            let passed = self.passed(middle);
+            if passed <= k {
+                low = middle + 1 + (k - passed);
+            } else {
+                high = middle - (passed - k - 1);
+            }
+        }
+        self.mail.at(low)
     }
+
+    /// How many letters up to a place, with the one there, are deliverable.
+    fn passed(&self, place: usize) -> usize
+        requires { place < length self.now.letters }
+        ensures { result ≡ length (filter (is_deliverable self.now.busy) (take (place + 1) self.now.letters)) }
+    {
+        // The place is below a length, so the one after it fits.
+        let _most = self.mail.len();
+        let Some(letter) = self.mail.at(place) else {
+            unreachable!()
+        };
+        place + 1 - blocked_to(&self.mail, &self.busy, letter.message)
+    }
+}
+
+/// How many letters with at most the given message are for the receivers in a turn.
+fn blocked_to(mail: &Mail, busy: &[u32], message: u32) -> usize
+    requires { AllDiffer busy.now }
+    ensures { result ≡ length (filter (is_to message) (filter (is_blocked busy.now) mail.now.letters)) }
+{
+    // The receivers differ, so there are no more letters for them than there are letters.
+    let _most = mail.len();
+    let mut blocked = 0;
+    for who in busy {
+        blocked += mail.count_for(*who, message);
+    }
+    blocked
 }
