@@ -88,6 +88,7 @@ impl<'p, V: View + Drop> Book<'p, V> {
         ensures book_on_err { OnErr result (self.new ≡ self.old) }
         ensures hand_on_err { OnErr result (hand.new ≡ hand.old) }
     {
+        // What holds of the book before and after.
         let _before = self.system();
         let answer = self.answer(hand)?;
         let _after = self.system();
@@ -148,6 +149,7 @@ impl<'p, V: View + Drop> Book<'p, V> {
         ensures book_on_err { OnErr result (self.new ≡ self.old) }
         ensures hand_on_err { OnErr result (hand.new ≡ hand.old) }
     {
+        // That its messages are the deliverable ones.
         let _system = self.scripted.system();
         choose(&mut self.scripted, &mut self.store, hand)
     }
@@ -170,6 +172,7 @@ impl<'p, V: View + Drop> Book<'p, V> {
         ensures book_on_err { OnErr result (self.new ≡ self.old) }
         ensures hand_on_err { OnErr result (hand.new ≡ hand.old) }
     {
+        // What holds of the book before and after.
         let _before = self.system();
         let told = self.tell(hand, pending)?;
         let _after = self.system();

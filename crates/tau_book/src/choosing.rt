@@ -160,6 +160,7 @@ fn receive<'p, V: View + Drop>(
     ensures hand_on_err { OnErr result (hand.new ≡ hand.old) }
 {
     let turns = scripted.open_turns() as usize;
+    // A place for a job of the turn that begins, before the first change.
     store.reserve(turns + 1)?;
     let delivered = scripted.deliver(number)?;
     tidy(&scripted.turns()[..turns], hand, store);
