@@ -1,7 +1,7 @@
 -- What one hand over a book keeps, answer by answer.
-use Rattle.std.proofs.Common.{◌≡◌, ◌≢◌, ◌⊎◌, inl, inr, ⊎_elim, ℕ, suc, ◌+◌, ◌%◌, ◌<◌, ◌≤◌, IsTrue, Option, Some, None, List, [], ◌∷◌, ◌++◌, length, refl, sym, ap, ◌∙◌, subst, arith}
+use Rattle.std.proofs.Common.{◌≡◌, ◌≢◌, ◌⊎◌, inl, inr, ⊎_elim, ℕ, suc, ◌+◌, ◌%◌, ◌<◌, ◌≤◌, Bool, true, false, IsTrue, Option, Some, None, List, [], ◌∷◌, ◌++◌, length, refl, sym, ap, ◌∙◌, subst, arith}
 use Rattle.std.specs.List.{Contains}
-use Rattle.std.specs.Prelude.{slice_get}
+use Rattle.std.specs.Prelude.{slice_get, unwrap_or}
 use Rattle.rand_core.specs.Pcg32Seed.{pcg32_seed}
 use Rattle.rand_pcg.specs.Pcg.{pcg32, pcg32_of_seed}
 use Rattle.std.proofs.lemmas.List.Elements.{Contains-append_left, Contains-append_right, Contains-append_cases}
@@ -21,7 +21,7 @@ use Rattle.tau_script.specs.Scripts.{DueStep, NoneDue, HasObject, fails, loses}
 use Rattle.tau_script.proofs.Determined.{one_step}
 use Rattle.tau_script.proofs.Passing.{object}
 use Rattle.tau_legal.specs.Fits.{Fits}
-use Rattle.tau_legal.specs.Traces.{Legal, Fitting}
+use Rattle.tau_legal.specs.Traces.{Legal, Fitting, Complete}
 use Rattle.tau_eval.specs.Turn as jobs
 use Rattle.tau_choice.specs.Choices.{IsStepOfTurn}
 use Rattle.tau_rules.specs.System.{Core, with_step}
@@ -36,11 +36,11 @@ use Rattle.tau_check.proofs.TurnSteps.{not_redone, not_stale}
 use Rattle.tau_scripted.specs.OpenTurns.{IsOpenFrom, AreOpenTurns}
 use Rattle.tau_scripted.proofs.Members.{contains_nothing, contains_here, contains_cases}
 use Rattle.tau_book.specs.Hands.{Held, IsNumbered}
-use Rattle.tau_book.specs.Books.{Booked, IsBook, IsAppended, GoesOn, IsAtLimit}
+use Rattle.tau_book.specs.Books.{Booked, IsBook, IsAppended, GoesOn, IsAtLimit, IsComplete}
 use Rattle.tau_book.specs.Offers.{Offer, open_jobs, jobs_with, store_without, options, number_drawn, generator_after}
 use Rattle.tau_book.specs.Nexts.{IsDueMade, IsIdle, IsHandedOut, IsReceived, begun_with}
-use Rattle.tau_book.specs.Tolds.{IsTurnStep as IsTurnMade, goes_on, is_over, IsStale, IsRedoneWith}
-use Rattle.tau_serial.specs.SerialRun.{ComesAbout, begins, due, chooses, turn, message, AreOptions, IsReceipt, take, drop, fall, void, of_turn, of_message}
+use Rattle.tau_book.specs.Tolds.{IsTurnStep as IsTurnMade, goes_on, is_over, IsStale, IsRedoneWith, IsFinished}
+use Rattle.tau_serial.specs.SerialRun.{IsSerialRun, ComesAbout, begins, due, chooses, turn, message, AreOptions, IsReceipt, take, drop, fall, void, of_turn, of_message}
 use Rattle.tau_serial.specs.Working.{HasJobFrom, AreJobs, AreOtherJobs, IsAtWork, HasChosen, IsSameWork}
 use Rattle.tau_serial.proofs.Chosen.{AreApart, apart_front, apart_back, apart_others, others_in, with_none, store_none, open_apart, are_open, job_from, lengths, numbered, taken, options_of, turn_chosen, message_chosen}
 use Rattle.tau_serial.proofs.Kept.{jobs_stay, jobs_begun, jobs_ended, jobs_going}
@@ -308,3 +308,23 @@ begins_work P seed b h program run none generator some no_jobs = record {
 } where
   from : b.system.run ≡ record { opening = program_opening b.system.program; steps = [] }
   from = run ∙ ap (λ p. record { opening = program_opening p; steps = [] }) (sym program)
+
+-- how a run has ended, by what the book says
+pub finished_complete : (b : Booked) (o : Option Bool) → IsFinished b o → unwrap_or o false ≡ true → IsComplete b
+finished_complete b (Some true) f e = f
+finished_complete b (Some false) f e = absurd (cc)
+finished_complete b None f e = absurd (cc)
+
+pub finished_stopped : (b : Booked) (o : Option Bool) → IsFinished b o → IsComplete b ⊎ IsAtLimit b → unwrap_or o false ≡ false → (¬ IsComplete b) × IsAtLimit b
+finished_stopped b (Some true) f over e = absurd (cc)
+finished_stopped b (Some false) f over e = f
+finished_stopped b None f over e = (f.0, ⊎_elim (λ x. absurd (f.0 x)) (λ x. x) over)
+
+-- the run that was made is the serial one
+pub is_serial : (P : Program) (size seed limit : ℕ) (b : Booked) (h : Held) → b.system.program ≡ P → b.limit ≡ limit → h.size ≡ size → IsAtWork seed b h → len b.system.run ≤ b.limit → IsComplete b ⊎ IsAtLimit b → IsSerialRun P size seed limit b.system.run
+is_serial P size seed limit b h program limit_is size_is w within over = record {
+  generator = h.generator;
+  comes_about = subst (λ n. ComesAbout P n seed b.system.run h.generator) size_is (subst (λ p. ComesAbout p h.size seed b.system.run h.generator) program w.comes_about);
+  within = omega (arith, within, limit_is);
+  ends = ⊎_elim (λ c. inl (subst (λ p. Complete p b.system.run) program c)) (λ (e : len b.system.run ≡ b.limit). inr (e ∙ limit_is)) over;
+}

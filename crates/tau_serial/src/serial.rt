@@ -48,7 +48,7 @@ pub fn run(
     let mut book: Book<'_, PrunedView> = Book::open(alloc, program, limit)?;
     let mut hand = Hand::new(alloc, seed, jobs)?;
     work(&mut book, &mut hand, limit)?;
-    let is_complete = matches!(book.finished(), Some(true));
+    let is_complete = book.finished().unwrap_or(false);
     Ok(Serial {
         trace: book.into_trace(),
         is_complete,
