@@ -1,2 +1,2 @@
-pub mod Flight
-pub mod Workers
+pub mod SerialRun
+pub mod Working

@@ -1,11 +1,9 @@
 //! The run that one worker makes of a program, on the caller's thread.
 #![tactic(auto)]
 
-mod flight;
-mod stepping;
-mod worker;
+mod serial;
 
-pub use worker::{Serial, run};
+pub use serial::{Serial, run};
 
 #[cfg(test)]
 mod tests;

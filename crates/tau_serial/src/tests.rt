@@ -49,7 +49,7 @@ fn made(alloc: Global, limit: u32) -> Option<Serial> {
     if limit > 1_000_000 || !program.sound(alloc).ok()? {
         return None;
     }
-    run(alloc, &program, limit).ok()
+    run(alloc, &program, 1, 0, limit).ok()
 }
 
 /// Whether the steps are a Take, a Get and a Done of the start.

@@ -1,0 +1,3 @@
+pub mod JobLists
+pub mod StoreLemmas
+pub mod Choices

@@ -1,0 +1,8 @@
+pub mod Hands
+pub mod Books
+pub mod Offers
+pub mod Nexts
+pub mod Tolds
+pub mod Places
+pub mod Jobs
+pub mod Returns

@@ -1,0 +1,169 @@
+//! The choice of a worker, where the run goes on and no step of the script is due.
+ghost use Rattle.std.specs.Prelude.{◌≡◌, ◌<◌, ◌≤◌, ◌+◌, ◌%◌, ℕ, suc, [], nat_lt, if◌then◌else◌, IfOk, OnOk, OnErr, length};
+ghost use Rattle.std.specs.Vec.{vec_capacity};
+ghost use Rattle.tau_trace.specs.Run.{len};
+ghost use Rattle.tau_script.specs.Scripts.{NoneDue};
+ghost use Rattle.tau_legal.specs.Traces.{Complete};
+ghost use Rattle.tau_scripted.specs.OpenTurns.{AreOpenTurns};
+ghost use Rattle.tau_scripted.specs.Flight.{AreDeliverable};
+ghost use Rattle.tau_book.specs.Books.{AreOfDifferentTurns, booked};
+ghost use Rattle.tau_book.specs.Offers.{jobs_with, options, number_drawn, generator_after};
+ghost use Rattle.tau_book.specs.Nexts.{IsNext, IsIdle, IsHandedOut, IsReceived};
+ghost use Rattle.tau_book.specs.Places.{LeavesRoom};
+
+use crate::tidying::{count_jobs, tidy};
+use crate::{Hand, Next};
+use rand_pcg::Pcg32;
+use std::alloc::AllocError;
+use tau_eval::Job;
+use tau_scripted::Scripted;
+use tau_view::View;
+
+/// Chooses what the hand does next (docs/rules.md, "Choice of a worker"). The error is want of memory, and nothing is different then.
+pub(crate) fn choose<'p, V: View + Drop>(
+    scripted: &mut Scripted<'p, V>,
+    store: &mut Vec<Job<'p>>,
+    hand: &mut Hand<'p>,
+) -> Result<Next<'p>, AllocError>
+    requires few { len scripted.old.system.run < 1000000 }
+    requires messages { AreDeliverable scripted.old.system.run scripted.old.messages }
+    requires none_due { NoneDue scripted.old.system.program.script scripted.old.system.run (len scripted.old.system.run) }
+    requires incomplete { ¬ Complete scripted.old.system.program scripted.old.system.run }
+    requires differ { AreOfDifferentTurns store.old.items }
+    requires places { length scripted.old.turns ≤ vec_capacity store.old }
+    ensures ok { (limit : ℕ) → len scripted.old.system.run < limit
+        → IfOk result (IsNext (booked scripted.old limit store.old.items) (booked scripted.new limit store.new.items) hand.old hand.new) }
+    ensures room { IfOk result (LeavesRoom hand.new) }
+    ensures size { hand.new.size ≡ hand.old.size }
+    ensures one { len scripted.new.system.run ≤ suc (len scripted.old.system.run) }
+    ensures differ { AreOfDifferentTurns store.new.items }
+    ensures places { length scripted.new.turns ≤ vec_capacity store.new }
+    ensures scripted_on_err { OnErr result (scripted.new ≡ scripted.old) }
+    ensures store_on_err { OnErr result (store.new.items ≡ store.old.items) }
+    ensures hand_on_err { OnErr result (hand.new ≡ hand.old) }
+{
+    let jobs = count_jobs(scripted.turns(), hand, store);
+    let messages = count_messages(scripted, hand, jobs);
+    if jobs == 0 && messages == 0 {
+        let out = idle(scripted, store, hand);
+        return Ok(Next::Idle { out });
+    }
+    let (word, generator) = hand.next_word()?;
+    let number = number_of(word, jobs, messages);
+    if number < jobs {
+        let job = hand_out(scripted, store, hand, number, generator);
+        Ok(Next::Work(job))
+    } else {
+        receive(scripted, store, hand, number - jobs, generator)?;
+        Ok(Next::Stepped)
+    }
+}
+
+// How many messages a hand with so many jobs can choose.
+fn count_messages<'p, V: View + Drop>(
+    scripted: &Scripted<'p, V>,
+    hand: &Hand<'p>,
+    jobs: usize,
+) -> usize
+    ensures count { result ≡ (if nat_lt jobs hand.now.size then length scripted.now.messages else 0) }
+    ensures none { jobs ≡ 0 → result ≡ 0 → scripted.now.messages ≡ [] }
+{
+    if jobs < hand.size() {
+        scripted.deliverable()
+    } else {
+        0
+    }
+}
+
+// The number that a word chooses of so many jobs and messages.
+fn number_of(word: u32, jobs: usize, messages: usize) -> usize
+    requires { 1 ≤ jobs + messages }
+    ensures number { result ≡ word % (jobs + messages) }
+    ensures below { result < jobs + messages }
+{
+    word as usize % jobs.saturating_add(messages)
+}
+
+// There is nothing to choose from. Gives up the jobs of turns that aren't open, and tells how many are.
+fn idle<'p, V: View + Drop>(
+    scripted: &Scripted<'p, V>,
+    store: &mut Vec<Job<'p>>,
+    hand: &mut Hand<'p>,
+) -> u32
+    requires messages { AreDeliverable scripted.now.system.run scripted.now.messages }
+    requires none_due { NoneDue scripted.now.system.program.script scripted.now.system.run (len scripted.now.system.run) }
+    requires incomplete { ¬ Complete scripted.now.system.program scripted.now.system.run }
+    requires differ { AreOfDifferentTurns store.old.items }
+    requires no_job { jobs_with scripted.now.turns hand.old store.old.items ≡ [] }
+    requires no_message { scripted.now.messages ≡ [] }
+    ensures idle { (limit : ℕ) → len scripted.now.system.run < limit
+        → IsIdle (booked scripted.now limit store.old.items) (booked scripted.now limit store.new.items) hand.old hand.new result }
+    ensures differ { AreOfDifferentTurns store.new.items }
+    ensures places { vec_capacity store.new ≡ vec_capacity store.old }
+{
+    tidy(scripted.turns(), hand, store);
+    scripted.open_turns()
+}
+
+// Hands out the job with a number that a word chose, and has the generator after the word.
+fn hand_out<'p, V: View + Drop>(
+    scripted: &Scripted<'p, V>,
+    store: &mut Vec<Job<'p>>,
+    hand: &mut Hand<'p>,
+    number: usize,
+    generator: Pcg32,
+) -> Job<'p>
+    requires messages { AreDeliverable scripted.now.system.run scripted.now.messages }
+    requires none_due { NoneDue scripted.now.system.program.script scripted.now.system.run (len scripted.now.system.run) }
+    requires differ { AreOfDifferentTurns store.old.items }
+    requires number { number < length (jobs_with scripted.now.turns hand.old store.old.items) }
+    requires within { length (jobs_with scripted.now.turns hand.old store.old.items) ≤ hand.old.size }
+    requires drawn { number ≡ number_drawn hand.old.generator (options hand.old.size (jobs_with scripted.now.turns hand.old store.old.items) scripted.now.messages) }
+    requires generator { generator ≡ generator_after hand.old.generator }
+    ensures job { (limit : ℕ) → len scripted.now.system.run < limit
+        → IsHandedOut (booked scripted.now limit store.old.items) (booked scripted.now limit store.new.items) hand.old hand.new result }
+    ensures room { length hand.new.jobs < hand.new.size }
+    ensures size { hand.new.size ≡ hand.old.size }
+    ensures differ { AreOfDifferentTurns store.new.items }
+    ensures places { vec_capacity store.new ≡ vec_capacity store.old }
+{
+    tidy(scripted.turns(), hand, store);
+    hand.hand_out(number, generator)
+}
+
+// Delivers the message with a number, where a word chose it, and has the generator after the word.
+fn receive<'p, V: View + Drop>(
+    scripted: &mut Scripted<'p, V>,
+    store: &mut Vec<Job<'p>>,
+    hand: &mut Hand<'p>,
+    number: usize,
+    generator: Pcg32,
+) -> Result<(), AllocError>
+    requires few { len scripted.old.system.run < 1000000 }
+    requires turns { AreOpenTurns scripted.old.system.run scripted.old.turns }
+    requires messages { AreDeliverable scripted.old.system.run scripted.old.messages }
+    requires none_due { NoneDue scripted.old.system.program.script scripted.old.system.run (len scripted.old.system.run) }
+    requires differ { AreOfDifferentTurns store.old.items }
+    requires places { length scripted.old.turns ≤ vec_capacity store.old }
+    requires number { number < length scripted.old.messages }
+    requires room { length (jobs_with scripted.old.turns hand.old store.old.items) < hand.old.size }
+    requires drawn { number_drawn hand.old.generator (options hand.old.size (jobs_with scripted.old.turns hand.old store.old.items) scripted.old.messages) ≡ length (jobs_with scripted.old.turns hand.old store.old.items) + number }
+    requires generator { generator ≡ generator_after hand.old.generator }
+    ensures ok { (limit : ℕ) → len scripted.old.system.run < limit
+        → OnOk result (IsReceived (booked scripted.old limit store.old.items) (booked scripted.new limit store.new.items) hand.old hand.new) }
+    ensures size { hand.new.size ≡ hand.old.size }
+    ensures one { len scripted.new.system.run ≤ suc (len scripted.old.system.run) }
+    ensures differ { AreOfDifferentTurns store.new.items }
+    ensures places { length scripted.new.turns ≤ vec_capacity store.new }
+    ensures scripted_on_err { OnErr result (scripted.new ≡ scripted.old) }
+    ensures store_on_err { OnErr result (store.new.items ≡ store.old.items) }
+    ensures hand_on_err { OnErr result (hand.new ≡ hand.old) }
+{
+    let turns = scripted.open_turns() as usize;
+    // A place for a job of the turn that begins, before the first change.
+    store.reserve(turns + 1)?;
+    let delivered = scripted.deliver(number)?;
+    tidy(&scripted.turns()[..turns], hand, store);
+    hand.take_in(generator, delivered);
+    Ok(())
+}

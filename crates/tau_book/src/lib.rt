@@ -1,0 +1,16 @@
+//! The step book: a legal run to which workers append steps, and what each of them does next.
+#![tactic(auto)]
+
+mod answers;
+mod book;
+mod choosing;
+mod hand;
+mod jobs;
+mod place;
+mod returns;
+mod tidying;
+
+pub use answers::{Next, Told};
+pub use book::Book;
+pub use hand::Hand;
+pub use place::StepPlace;

@@ -1,0 +1,51 @@
+//! Places on a book.
+ghost use Rattle.std.specs.Prelude.{◌≡◌, ◌<◌, ◌≤◌, [], Bool, Option, IsSome, IsTrue, IfOk, IfErr, OnErr, length};
+ghost use Rattle.tau_book.specs.Places.{End, EndsBy, IsNotIdle, LeavesRoom, ComesBack};
+
+use crate::{Hand, Next, Told};
+use std::alloc::AllocError;
+use std::sync::Wait;
+use tau_eval::Pending;
+
+/// A place from which a worker makes the calls of a book that others may call too (docs/rules.md, "Choice of a worker"). It has a
+/// key, which stays, and where its type tells ends, the end that `next` told, if it told one.
+pub trait StepPlace<'p> {
+    ghost Key: { Type 0 };
+
+    ghost key: { Self → Key };
+
+    ghost tells_end: { Bool };
+
+    ghost end: { Self → Option End };
+
+    /// `next` of the book. Where the book is `Idle`, it waits and asks again.
+    fn next<R: Wait>(&mut self, rt: &R, hand: &mut Hand<'p>) -> Result<Next<'p>, AllocError>
+        ensures key { key self.new ≡ key self.old }
+        ensures end { IsTrue tells_end → IfOk result (EndsBy (end self.new)) }
+        ensures stays { IsSome (end self.old) → end self.new ≡ end self.old }
+        ensures never_idle { IfOk result IsNotIdle }
+        ensures room { IfOk result (LeavesRoom hand.new) }
+        ensures size { hand.new.size ≡ hand.old.size };
+
+    /// `act` of the book.
+    fn act<R: Wait>(
+        &mut self,
+        rt: &R,
+        hand: &mut Hand<'p>,
+        pending: Pending<'p>,
+    ) -> Result<Told<'p>, (Pending<'p>, AllocError)>
+        requires room { length hand.old.jobs < hand.old.size }
+        ensures key { key self.new ≡ key self.old }
+        ensures stays { IsSome (end self.old) → end self.new ≡ end self.old }
+        ensures later { IfOk result (ComesBack hand.old hand.new pending.entry) }
+        ensures pending_on_err { IfErr result (λ e. e.0 ≡ pending.entry) }
+        ensures hand_on_err { OnErr result (hand.new ≡ hand.old) }
+        ensures size { hand.new.size ≡ hand.old.size };
+
+    /// `give_back` of the book.
+    fn give_back<R: Wait>(&mut self, rt: &R, hand: &mut Hand<'p>)
+        ensures key { key self.new ≡ key self.old }
+        ensures stays { IsSome (end self.old) → end self.new ≡ end self.old }
+        ensures empty { hand.new.jobs ≡ [] }
+        ensures size { hand.new.size ≡ hand.old.size };
+}

@@ -1,0 +1,124 @@
+-- The letters of the messages in flight, after one more step.
+use Rattle.std.proofs.Common.{◌≡◌, ◌≢◌, ◌⊎◌, ⊎_elim, ℕ, suc, ◌+◌, ◌<◌, Bool, true, false, not, eqb, eqb-true, eq-eqb, Some, None, List, [], ◌∷◌, ◌++◌, get_or, filter, refl, sym, ap, ◌∙◌, subst, arith}
+use Rattle.std.specs.List.{Contains}
+use Rattle.std.proofs.lemmas.List.Kept.{AllPairs-filter}
+use Rattle.std.proofs.lemmas.List.Quantifiers.{all_pairs_push}
+use Rattle.std.proofs.lemmas.List.Elements.{Contains-append_left, Contains-push, Contains-push_cases, Contains-get_or}
+use Rattle.tau_value.specs.declared.shared.Value.{Value}
+use Rattle.tau_waiting.specs.declared.letter.Letter.{Letter}
+use Rattle.tau_waiting.specs.Letters.{is_other, AllBelow}
+use Rattle.tau_trace.specs.declared.step.Step.{Step}
+use Rattle.tau_trace.specs.declared.step.Step.TheVariants.{Send}
+use Rattle.tau_trace.specs.Steps.{removed_by, is_send}
+use Rattle.tau_trace.specs.Run.{Run, len, appended}
+use Rattle.tau_trace.specs.Numbering.{sent, Receives, message, InFlight}
+use Rattle.tau_trace.specs.Known.{MayFollow, WellFormed}
+use Rattle.tau_trace.proofs.Lists.{same_some}
+use Rattle.tau_trace.proofs.Agreement.{agree_appended, step_at-appended, same_at}
+use Rattle.tau_trace.proofs.Indexing.{len-appended}
+use Rattle.tau_trace.proofs.Once.{receives_once}
+use Rattle.tau_views.proofs.Appended.{one_if, sent_here, sent_then, flew, flies_on, not_removed, new_flies}
+use Rattle.tau_scripted.specs.Flight.{IsWaiting, AreInFlight}
+use Rattle.tau_scripted.proofs.Members.{contains_filter, filter_contains}
+
+-- a letter of another message
+pub is_other-true : (m : ℕ) (l : Letter) → l.message ≢ m → is_other m l ≡ true
+is_other-true m l ne = by (eqb l.message m) refl where
+  by : (b : Bool) → eqb l.message m ≡ b → not b ≡ true
+  by true e = absurd (ne (eqb-true l.message m e))
+  by false e = refl
+
+pub other_message : (m : ℕ) (l : Letter) → is_other m l ≡ true → l.message ≢ m
+other_message m l says same =
+    let is : eqb l.message m ≡ true = eq-eqb l.message m same in
+    let both : false ≡ true = sym (ap not is) ∙ says in
+    cc
+
+module _ (T : Run) (s : Step) where
+  -- the letters that wait at the end of the longer run, by its length
+  waits_at : (l : Letter) → InFlight (appended T s) l.message (suc (len T)) → Receives (appended T s) l.message l.who → IsWaiting (appended T s) l
+  waits_at l f r = record { in_flight = subst (InFlight (appended T s) l.message) (sym (len-appended T s)) f; receiver = r }
+
+  -- a letter that the step leaves waits on
+  pub waits_on : (l : Letter) → ¬ (removed_by s ≡ Some l.message) → IsWaiting T l → IsWaiting (appended T s) l
+  waits_on l stays h = waits_at l (flies_on T s l.message stays h.in_flight) (((same_at T (appended T s) (len T) (agree_appended T s)).receives l.message l.who h.in_flight.exists).0 h.receiver)
+
+  -- a letter of an earlier message waited before, and the step leaves it
+  pub waited : (l : Letter) → l.message < sent T (len T) → IsWaiting (appended T s) l → IsWaiting T l × (¬ (removed_by s ≡ Some l.message))
+  waited l lt h =
+      let f : InFlight (appended T s) l.message (suc (len T)) = subst (InFlight (appended T s) l.message) (len-appended T s) h.in_flight in (
+        record { in_flight = flew T s l.message lt f; receiver = ((same_at T (appended T s) (len T) (agree_appended T s)).receives l.message l.who lt).1 h.receiver },
+        not_removed T s l.message f,
+      )
+
+  -- a letter that waits is of a message that exists
+  pub waits_below : (l : Letter) → is_send s ≡ false → IsWaiting (appended T s) l → l.message < sent T (len T)
+  waits_below l no_send h =
+      let f : InFlight (appended T s) l.message (suc (len T)) = subst (InFlight (appended T s) l.message) (len-appended T s) h.in_flight in
+      let none : sent (appended T s) (suc (len T)) ≡ sent T (len T) + 0 = subst (λ (b : Bool). sent (appended T s) (suc (len T)) ≡ sent T (len T) + one_if b) no_send (sent_then T s) in
+      omega (arith, f.exists, none)
+
+  -- after a step that takes no message out of flight and sends none
+  pub letters_stay : (ls : List Letter) → removed_by s ≡ None → is_send s ≡ false → AreInFlight T ls → AreInFlight (appended T s) ls
+  letters_stay ls none no_send h = record {
+    ascending = h.ascending;
+    each = λ l. (
+      λ c. waits_on l (λ e. nothing (sym none ∙ e)) ((h.each l).0 c),
+      λ w. (h.each l).1 (waited l (waits_below l no_send w) w).0,
+    );
+  } where
+    nothing : {m : ℕ} → ¬ (None ≡ Some m)
+    nothing e = cc
+
+  -- after a step that takes one out
+  pub letters_without : (m : ℕ) (ls : List Letter) → removed_by s ≡ Some m → is_send s ≡ false → AreInFlight T ls → AreInFlight (appended T s) (filter (is_other m) ls)
+  letters_without m ls takes no_send h = record {
+    ascending = AllPairs-filter (λ a b. a.message < b.message) (is_other m) ls h.ascending;
+    each = λ l. (
+      λ c. let r = filter_contains (is_other m) ls l c in waits_on l (λ e. other_message m l r.1 (same_some (sym e ∙ takes))) ((h.each l).0 r.0),
+      λ w. let r = waited l (waits_below l no_send w) w in contains_filter (is_other m) ls l ((h.each l).1 r.0) (is_other-true m l (λ e. r.1 (takes ∙ ap Some (sym e)))),
+    );
+  }
+
+-- the messages of the letters exist
+pub letters_below : (T : Run) (ls : List Letter) → AreInFlight T ls → AllBelow (sent T (len T)) ls
+letters_below T ls h k d lt = ((h.each (get_or ls k d)).0 (Contains-get_or ls k d lt)).in_flight.exists
+
+-- the letter of the message that a Send makes
+abbrev pub letter_to : Run → ℕ → Letter
+letter_to T u = record { message = sent T (len T); who = u }
+
+last_or_below : (j k : ℕ) → j < k + 1 → (j < k) ⊎ (j ≡ k)
+last_or_below j k l = grind arith
+
+module _ (T : Run) (t u : ℕ) (v : Value) (w : WellFormed T) (may : MayFollow T (Send t u v)) where
+  receiver_is : Receives (appended T (Send t u v)) (sent T (len T)) u
+  receiver_is = message (record { to = u; value = v; stands = step_at-appended T (Send t u v); made = sym (sent_here T (Send t u v)) }) refl
+
+  new_waits : IsWaiting (appended T (Send t u v)) (letter_to T u)
+  new_waits = waits_at T (Send t u v) (letter_to T u) (new_flies T (Send t u v) w may (sent T (len T)) (omega arith) (omega (arith, sent_then T (Send t u v)))) receiver_is
+
+  -- after a Send
+  pub letters_with : (ls : List Letter) → AreInFlight T ls → AreInFlight (appended T (Send t u v)) (ls ++ letter_to T u ∷ [])
+  letters_with ls h = record {
+    ascending = all_pairs_push (λ a b. a.message < b.message) ls (letter_to T u) h.ascending (letters_below T ls h);
+    each = λ l. (there l, back l);
+  } where
+    there : (l : Letter) → Contains (ls ++ letter_to T u ∷ []) l → IsWaiting (appended T (Send t u v)) l
+    there l c = ⊎_elim
+        (λ d. waits_on T (Send t u v) l (λ e. cc) ((h.each l).0 d))
+        (λ (e : letter_to T u ≡ l). subst (IsWaiting (appended T (Send t u v))) e new_waits)
+        (Contains-push_cases ls (letter_to T u) l c)
+
+    same : (l : Letter) → l.message ≡ sent T (len T) → IsWaiting (appended T (Send t u v)) l → letter_to T u ≡ l
+    same l e wait =
+        let who : u ≡ l.who = receives_once (appended T (Send t u v)) (sent T (len T)) u l.who receiver_is (subst (λ m. Receives (appended T (Send t u v)) m l.who) e wait.receiver) in
+        λ i. record { message = sym e i; who = who i }
+
+    back : (l : Letter) → IsWaiting (appended T (Send t u v)) l → Contains (ls ++ letter_to T u ∷ []) l
+    back l wait =
+        let f : InFlight (appended T (Send t u v)) l.message (suc (len T)) = subst (InFlight (appended T (Send t u v)) l.message) (len-appended T (Send t u v)) wait.in_flight in
+        ⊎_elim
+        (λ lt. Contains-append_left ls (letter_to T u ∷ []) l ((h.each l).1 (waited T (Send t u v) l lt wait).0))
+        (λ (e : l.message ≡ sent T (len T)). subst (λ (x : Letter). Contains (ls ++ letter_to T u ∷ []) x) (same l e wait) (Contains-push ls (letter_to T u)))
+        (last_or_below l.message (sent T (len T)) (omega (arith, f.exists, sent_then T (Send t u v))))

@@ -1,0 +1,77 @@
+use Rattle.std.proofs.Common.{◌≡◌, ◌∙◌, ◌+◌, ◌≤◌, ℕ, Some, List, length, take, sym, ap, subst}
+use Rattle.std.specs.Prelude.{slice_get}
+use Rattle.tau_waiting.specs.declared.letter.Letter.{Letter}
+use Rattle.tau_waiting.specs.MailState.{is_busy}
+use Rattle.tau_trace.specs.Run.{len}
+use Rattle.tau_script.specs.Scripts.{NoneDue}
+use Rattle.tau_rules.specs.System.{Core}
+use Rattle.tau_rules.specs.Answers.{IsDelivered}
+use Rattle.tau_scripted.specs.ScriptedRun.{ScriptedRun}
+use Rattle.tau_scripted.specs.Index.{letters_received, busy_received, turns_received}
+use Rattle.tau_scripted.proofs.DeliverableLemmas.{letter_waits, receiver_free, receiver_idle, message_is, not_busy}
+use Rattle.tau_scripted.proofs.Steps.{after_receipt, of_lists}
+use Rattle.tau_scripted.proofs.TurnCounts.{front_received, one_received}
+use Rattle.tau_scripted.proofs.scripted.Scripted.deliver.Goals as goal
+
+pub make_receipt-requires-clause-waits : goal.make_receipt-requires-clause-waits
+make_receipt-requires-clause-waits g c =
+    let s = c.self.inside in
+    letter_waits s.system.run s.index.waiting.letters s.index.waiting.busy c.self.invariant.letters_are c.self.invariant.busy_are c.args.number c.in-Some.letter (sym c.deliverable.ensures ∙ c.in-Some.is)
+
+pub make_receipt-requires-clause-idle : goal.make_receipt-requires-clause-idle
+make_receipt-requires-clause-idle g c =
+    let s = c.self.inside in
+    receiver_idle s.system.run s.index.waiting.letters s.index.waiting.busy c.self.invariant.letters_are c.self.invariant.busy_are c.args.number c.in-Some.letter (sym c.deliverable.ensures ∙ c.in-Some.is)
+
+pub receive-requires-clause-idle : goal.receive-requires-clause-idle
+receive-requires-clause-idle g c =
+    let s = c.self.inside in
+    ap (λ (busy : List ℕ). is_busy busy c.in-Some.letter.who) c.in_ok-reserve_turn.ensures.same.busy
+    ∙ not_busy s.index.waiting.busy c.in-Some.letter.who
+    (receiver_free s.system.run s.index.waiting.letters s.index.waiting.busy c.self.invariant.letters_are c.self.invariant.busy_are c.args.number c.in-Some.letter (sym c.deliverable.ensures ∙ c.in-Some.is))
+
+pub invariant_of-self-2 : goal.invariant_of-self-2
+invariant_of-self-2 g c =
+    let s = c.self.inside in
+    let old : Core = s.system in
+    let new : Core = c.make_receipt.new.system in
+    let l : Letter = c.in-Some.letter in
+    let at = sym c.deliverable.ensures ∙ c.in-Some.is in
+    let none : NoneDue old.program.script old.run (len old.run) = subst (λ (r : ScriptedRun). NoneDue r.system.program.script r.system.run (len r.system.run)) (sym c.self.view_is) c.requires.none_due in
+    let place : c.len-place.result ≡ len old.run = c.len-place.ensures.len ∙ ap len c.trace.ensures.run in
+    let delivered = c.in_ok-delivered.delivered in
+    of_lists new.program new.run c.due_by-due.new.cursor (letters_received l.message s.index.waiting.letters delivered) c.receive.new.self.waiting.letters (busy_received l.who s.index.waiting.busy delivered) c.receive.new.self.waiting.busy
+    (turns_received (len old.run) s.index.turns.items delivered) c.receive.new.self.turns.items
+    (c.receive.ensures.letters ∙ ap (λ (ls : List Letter). letters_received l.message ls delivered) c.in_ok-reserve_turn.ensures.same.letters)
+    (c.receive.ensures.busy ∙ ap (λ (bs : List ℕ). busy_received l.who bs delivered) c.in_ok-reserve_turn.ensures.same.busy)
+    (c.receive.ensures.turns ∙ (λ i. turns_received (place i) (c.in_ok-reserve_turn.ensures.same.turns i) delivered))
+    (after_receipt old new s.cursor c.due_by-due.new.cursor s.index.waiting.letters s.index.waiting.busy s.index.turns.items c.self.invariant c.due_by-due.ensures.well_formed c.due_by-due.ensures.fitting
+    l (letter_waits s.system.run s.index.waiting.letters s.index.waiting.busy c.self.invariant.letters_are c.self.invariant.busy_are c.args.number l at)
+    (receiver_idle s.system.run s.index.waiting.letters s.index.waiting.busy c.self.invariant.letters_are c.self.invariant.busy_are c.args.number l at)
+    none c.due_by-due.ensures.current delivered c.in_ok-delivered.ensures.ok)
+
+pub returns-clause-ok : goal.returns-clause-ok
+returns-clause-ok g c m e =
+    let s = c.self.inside in
+    let l : Letter = c.in-Some.letter in
+    let at = sym c.deliverable.ensures ∙ c.in-Some.is in
+    let here = subst (λ (r : ScriptedRun). slice_get r.messages c.args.number ≡ Some m) (sym c.self.view_is) e in
+    let same : l.message ≡ m = message_is s.system.run s.index.waiting.letters s.index.waiting.busy c.self.invariant.letters_are c.self.invariant.busy_are c.args.number l at m here in
+    subst (λ (r : ScriptedRun). IsDelivered r.system c.make_receipt.new.system m c.in_ok-delivered.delivered) c.self.view_is
+    (subst (λ (n : ℕ). IsDelivered s.system c.make_receipt.new.system n c.in_ok-delivered.delivered) same c.in_ok-delivered.ensures.ok)
+
+pub returns-clause-turns : goal.returns-clause-turns
+returns-clause-turns g c =
+    let s = c.self.inside in
+    let delivered = c.in_ok-delivered.delivered in
+    let is = c.receive.ensures.turns ∙ ap (λ (ts : List ℕ). turns_received c.len-place.result ts delivered) c.in_ok-reserve_turn.ensures.same.turns in
+    subst (λ (r : ScriptedRun). take (length r.turns) c.receive.new.self.turns.items ≡ r.turns) c.self.view_is
+    (ap (take (length s.index.turns.items)) is ∙ front_received c.len-place.result s.index.turns.items delivered)
+
+pub returns-clause-one : goal.returns-clause-one
+returns-clause-one g c =
+    let s = c.self.inside in
+    let delivered = c.in_ok-delivered.delivered in
+    let is = c.receive.ensures.turns ∙ ap (λ (ts : List ℕ). turns_received c.len-place.result ts delivered) c.in_ok-reserve_turn.ensures.same.turns in
+    let one : length c.receive.new.self.turns.items ≤ length s.index.turns.items + 1 = subst (λ (ts : List ℕ). length ts ≤ length s.index.turns.items + 1) (sym is) (one_received c.len-place.result s.index.turns.items delivered) in
+    subst (λ (r : ScriptedRun). length c.receive.new.self.turns.items ≤ length r.turns + 1) c.self.view_is one

@@ -1,0 +1,29 @@
+use Rattle.std.proofs.Common.{◌≡◌, ◌≤◌, ℕ, Option, Some, List, length, sym, ap, subst}
+use Rattle.tau_trace.specs.declared.step.Step.TheVariants.{Fail}
+use Rattle.tau_trace.specs.Run.{Run, len}
+use Rattle.tau_trace.specs.Turns.{IsOpenTurn}
+use Rattle.tau_rules.specs.System.{Core}
+use Rattle.tau_check.specs.Checkers.{HasAsked}
+use Rattle.tau_scripted.specs.ScriptedRun.{ScriptedRun}
+use Rattle.tau_scripted.specs.Index.{busy_ended, turns_ended}
+use Rattle.tau_scripted.proofs.Steps.{after_fail, of_lists}
+use Rattle.tau_scripted.proofs.TurnCounts.{fewer_ended}
+use Rattle.tau_scripted.proofs.scripted.Scripted.fail.Goals as goal
+
+pub invariant_of-self-2 : goal.invariant_of-self-2
+invariant_of-self-2 g c =
+    let s = c.self.inside in
+    let old : Core = s.system in
+    let new : Core = c.make_fail.new.system in
+    let asked : HasAsked old.program old.run s.cursor (Some (Fail c.args.who)) = subst (λ (r : ScriptedRun). HasAsked r.system.program r.system.run r.cursor (Some (Fail c.args.who))) (sym c.self.view_is) c.requires.asked in
+    let turn : IsOpenTurn old.run c.args.who (len old.run) c.open_turn-turn.result = subst (λ (T : Run). IsOpenTurn T c.args.who (len T) c.open_turn-turn.result) c.trace.ensures.run c.open_turn-turn.ensures in
+    of_lists new.program new.run c.move_past.new.cursor s.index.waiting.letters c.end.new.self.waiting.letters (busy_ended c.args.who s.index.waiting.busy c.open_turn-turn.result) c.end.new.self.waiting.busy
+    (turns_ended s.index.turns.items c.open_turn-turn.result) c.end.new.self.turns.items c.end.ensures.letters c.end.ensures.busy c.end.ensures.turns
+    (after_fail old new s.cursor c.move_past.new.cursor s.index.waiting.letters s.index.waiting.busy s.index.turns.items c.self.invariant c.move_past.ensures.well_formed c.move_past.ensures.fitting
+    c.args.who c.open_turn-turn.result asked c.in_ok-make_fail.ensures.ok c.move_past.ensures.current turn)
+
+pub returns-clause-turns : goal.returns-clause-turns
+returns-clause-turns g c =
+    let s = c.self.inside in
+    let fewer : length c.end.new.self.turns.items ≤ length s.index.turns.items = subst (λ (ts : List ℕ). length ts ≤ length s.index.turns.items) (sym c.end.ensures.turns) (fewer_ended s.index.turns.items c.open_turn-turn.result) in
+    subst (λ (r : ScriptedRun). length c.end.new.self.turns.items ≤ length r.turns) c.self.view_is fewer

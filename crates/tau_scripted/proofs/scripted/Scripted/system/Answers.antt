@@ -1,0 +1,11 @@
+use Rattle.std.proofs.Common.{subst}
+use Rattle.tau_scripted.specs.Flight.{AreDeliverable}
+use Rattle.tau_scripted.specs.ScriptedRun.{ScriptedRun}
+use Rattle.tau_scripted.proofs.DeliverableLemmas.{are_deliverable}
+use Rattle.tau_scripted.proofs.scripted.Scripted.system.Goals as goal
+
+pub returns-clause-messages : goal.returns-clause-messages
+returns-clause-messages g c =
+    let s = c.self.inside in
+    subst (λ (r : ScriptedRun). AreDeliverable r.system.run r.messages) c.self.view_is
+    (are_deliverable s.system.run s.index.waiting.letters s.index.waiting.busy c.self.invariant.letters_are c.self.invariant.busy_are)

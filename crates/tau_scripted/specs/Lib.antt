@@ -1,0 +1,5 @@
+pub mod OpenTurns
+pub mod Flight
+pub mod ScriptedRun
+pub mod Index
+pub mod Posted

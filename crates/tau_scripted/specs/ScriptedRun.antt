@@ -1,0 +1,59 @@
+-- What contracts see of a system that follows its program's script, and what it keeps.
+use Rattle.std.specs.Prelude.{◌≡◌, ◌↔◌, ℕ, Bool, true, false, List, map, filter}
+use Rattle.std.specs.List.{Contains}
+use Rattle.tau_waiting.specs.declared.letter.Letter.{Letter}
+use Rattle.tau_waiting.specs.MailState.{is_deliverable}
+use Rattle.tau_tree.specs.declared.programs.Program.{Program}
+use Rattle.tau_trace.specs.declared.step.Step.{Step}
+use Rattle.tau_trace.specs.Run.{Run, len}
+use Rattle.tau_trace.specs.Known.{WellFormed}
+use Rattle.tau_trace.specs.Turns.{Turn}
+use Rattle.tau_script.specs.declared.cursor.Cursor.{Cursor}
+use Rattle.tau_script.specs.Cursors.{CursorAt}
+use Rattle.tau_script.specs.Scripts.{DueStep, NoneDue}
+use Rattle.tau_legal.specs.Traces.{Legal}
+use Rattle.tau_rules.specs.System.{Core, with_step}
+use Rattle.tau_rules.specs.declared.answers.Acted.{Acted}
+use Rattle.tau_rules.specs.declared.answers.Acted.TheVariants.{Reply, TurnOver, Redo}
+use Rattle.tau_scripted.specs.OpenTurns.{AreOpenTurns}
+use Rattle.tau_scripted.specs.Flight.{AreInFlight}
+
+-- the program and the run so far, the cursor of the script, the letters of the messages in flight, the numbers of those that can
+-- be delivered, and the places of the open turns
+pub record ScriptedRun : Type 0 where
+  pub system : Core
+  pub cursor : Cursor
+  pub letters : List Letter
+  pub messages : List ℕ
+  pub turns : List ℕ
+
+-- transactor t is in a turn
+pub record IsInTurn (T : Run) (t : ℕ) : Type 0 where
+  pub place : ℕ
+  pub message : ℕ
+  pub turn : Turn T t (len T) place message
+
+-- the run is legal, the cursor is the script's, and these are the letters of the messages in flight, the transactors in a turn and the
+-- open turns
+pub record IsScripted (P : Program) (T : Run) (cursor : Cursor) (letters : List Letter) (busy turns : List ℕ) : Type 0 where
+  pub well_formed : WellFormed T
+  pub legal : Legal P T
+  pub cursor_is : CursorAt P.script T (len T) cursor
+  pub letters_are : AreInFlight T letters
+  pub busy_are : (t : ℕ) → Contains busy t ↔ IsInTurn T t
+  pub turns_are : AreOpenTurns T turns
+
+-- the numbers of the deliverable letters
+abbrev pub messages_of : List ℕ → List Letter → List ℕ
+messages_of busy letters = map (λ l. l.message) (filter (is_deliverable busy) letters)
+
+-- the step that was due was appended; or none was due, and nothing is different
+abbrev pub IsDueMade : ScriptedRun → ScriptedRun → Bool → Type 0
+IsDueMade old new true = (s : Step) × DueStep old.system.program.script old.system.run (len old.system.run) s × (new.system ≡ with_step old.system s)
+IsDueMade old new false = NoneDue old.system.program.script old.system.run (len old.system.run) × (new ≡ old)
+
+-- where another job is the record of a turn, nothing is different
+abbrev pub IsUnchangedAtRedo : ScriptedRun → ScriptedRun → Acted → Type 0
+IsUnchangedAtRedo old new (Reply r) = Unit {0}
+IsUnchangedAtRedo old new TurnOver = Unit {0}
+IsUnchangedAtRedo old new (Redo job) = new ≡ old

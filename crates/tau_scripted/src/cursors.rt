@@ -1,0 +1,45 @@
+//! The cursor of the script after a step.
+ghost use Rattle.std.specs.Prelude.{◌≡◌, ◌<◌, ◌≤◌, ℕ, length, IfSome};
+ghost use Rattle.tau_trace.specs.declared.step.Step.TheVariants as steps;
+ghost use Rattle.tau_trace.specs.Run.{len};
+ghost use Rattle.tau_trace.specs.Known.{WellFormed};
+ghost use Rattle.tau_script.specs.Cursors.{CursorAt, IsCurrent, IsDueAt, PassesTo, moved_past};
+ghost use Rattle.tau_legal.specs.Traces.{Fitting};
+
+use tau_rules::System;
+use tau_script::{Cursor, passed};
+use tau_trace::Step;
+use tau_view::View;
+
+/// The due step of the script, by a cursor that passes over entries first.
+pub(crate) fn due_by<'p, V: View + Drop>(
+    system: &System<'p, V>,
+    cursor: &mut Cursor,
+) -> Option<Step>
+    ensures passes { PassesTo system.now.program.script system.now.run (len system.now.run) cursor.old cursor.new }
+    ensures current { IsCurrent system.now.program.script system.now.run (len system.now.run) cursor.old → CursorAt system.now.program.script system.now.run (len system.now.run) cursor.new }
+    ensures due { IsDueAt system.now.program.script system.now.run (len system.now.run) cursor.new result }
+    ensures entries { length system.now.program.script ≤ 4096 }
+    ensures who { IfSome result (λ s. (t : ℕ) → s ≡ steps.Fail t → t < u32.MAX) }
+    ensures well_formed { WellFormed system.now.run }
+    ensures fitting { Fitting system.now.program system.now.run }
+{
+    tau_script::due(&system.program().script, cursor, system.trace())
+}
+
+/// Moves the cursor past a due step that was appended, and then over entries.
+pub(crate) fn move_past<'p, V: View + Drop>(
+    system: &System<'p, V>,
+    cursor: &mut Cursor,
+    step: &Step,
+)
+    requires few { length system.now.program.script ≤ 4096 }
+    requires entry { cursor.old.entry < length system.now.program.script }
+    requires who { (t : ℕ) → step.now ≡ steps.Fail t → t < u32.MAX }
+    ensures current { IsCurrent system.now.program.script system.now.run (len system.now.run) (moved_past step.now cursor.old) → CursorAt system.now.program.script system.now.run (len system.now.run) cursor.new }
+    ensures well_formed { WellFormed system.now.run }
+    ensures fitting { Fitting system.now.program system.now.run }
+{
+    passed(&system.program().script, cursor, step);
+    let _due = due_by(system, cursor);
+}

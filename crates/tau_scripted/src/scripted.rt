@@ -1,0 +1,152 @@
+//! The system with its script.
+ghost use Rattle.std.specs.Prelude.{◌≡◌, ◌≤◌, ◌↔◌, [], IfOk, IfSome, ℕ, ◌<◌, IsTrue, length};
+ghost use Rattle.tau_tree.specs.Sound.{Sound};
+ghost use Rattle.tau_trace.specs.declared.step.Step.TheVariants as steps;
+ghost use Rattle.tau_trace.specs.Run.{len};
+ghost use Rattle.tau_trace.specs.Known.{WellFormed};
+ghost use Rattle.tau_script.specs.Cursors.{CursorAt};
+ghost use Rattle.tau_script.specs.Openings.{program_opening};
+ghost use Rattle.tau_legal.specs.Traces.{Legal, Complete};
+ghost use Rattle.tau_check.specs.Checkers.{HasAsked, NothingLeft};
+ghost use Rattle.tau_scripted.specs.OpenTurns.{AreOpenTurns};
+ghost use Rattle.tau_scripted.specs.Flight.{AreInFlight, AreDeliverable};
+
+use crate::cursors::due_by;
+use crate::index::Index;
+use crate::posts::post_all;
+use std::alloc::{AllocError, Global};
+use std::marker::Model;
+use tau_rules::System;
+use tau_script::Cursor;
+use tau_trace::{Step, Trace};
+use tau_tree::Program;
+use tau_view::View;
+
+/// A system whose run is legal (docs/definitions.md, "Fitting and legal steps"), with the cursor of the script, the messages in
+/// flight, and the open turns. Contracts see its program and run, the cursor, the letters, the numbers of the deliverable
+/// messages, and the places of the open turns.
+#[derive(Drop)]
+pub struct Scripted<'p, V: View + Drop> {
+    pub(crate) system: System<'p, V>,
+    pub(crate) cursor: Cursor,
+    pub(crate) index: Index,
+}
+
+impl<'p, V: View + Drop> Model for Scripted<'p, V> {
+    ghost use Rattle.std.specs.Coded.{codes};
+    ghost use Rattle.tau_value.specs.Val.{val_code};
+    ghost use Rattle.tau_tree.specs.Code.{code_code};
+    ghost use Rattle.tau_scripted.specs.ScriptedRun.{ScriptedRun, IsScripted, messages_of};
+
+    ghost Value = { ScriptedRun };
+
+    ghost coded = { Prim.hlevel (codes, val_code, code_code) };
+
+    ghost view = { λ s. record { system = s.system; cursor = s.cursor; letters = s.index.waiting.letters; messages = messages_of s.index.waiting.busy s.index.waiting.letters; turns = s.index.turns.items } };
+
+    ghost invariant = { λ s. IsScripted s.system.program s.system.run s.cursor s.index.waiting.letters s.index.waiting.busy s.index.turns.items };
+}
+
+impl<'p, V: View + Drop> Scripted<'p, V> {
+    /// The system of a program before its first step. The error is want of memory.
+    pub fn open(alloc: Global, program: &'p Program) -> Result<Scripted<'p, V>, AllocError>
+        requires { Sound program.now }
+        ensures program { IfOk result (λ s. s.system.program ≡ program.entry.now) }
+        ensures run { IfOk result (λ s. s.system.run ≡ record { opening = program_opening program.entry.now; steps = [] }) }
+        ensures turns { IfOk result (λ s. s.turns ≡ []) }
+    {
+        let system = System::open(alloc, program)?;
+        let mut index = Index::new(alloc);
+        post_all(&mut index.waiting, system.trace())?;
+        let mut cursor = Cursor::first();
+        let _due = due_by(&system, &mut cursor);
+        Ok(Scripted {
+            system,
+            cursor,
+            index,
+        })
+    }
+
+    /// The system.
+    pub fn system(&self) -> &System<'p, V>
+        ensures system { result.now ≡ self.now.system }
+        ensures well_formed { WellFormed self.now.system.run }
+        ensures legal { Legal self.now.system.program self.now.system.run }
+        ensures cursor { CursorAt self.now.system.program.script self.now.system.run (len self.now.system.run) self.now.cursor }
+        ensures letters { AreInFlight self.now.system.run self.now.letters }
+        ensures turns { AreOpenTurns self.now.system.run self.now.turns }
+        ensures messages { AreDeliverable self.now.system.run self.now.messages }
+    {
+        &self.system
+    }
+
+    /// How many steps the run has.
+    pub fn len(&self) -> u32
+        ensures length { result ≡ len self.now.system.run }
+        ensures few { len self.now.system.run ≤ 1000000 }
+    {
+        self.system.trace().len()
+    }
+
+    /// The places of the Takes of the open turns, in ascending order.
+    pub fn turns(&self) -> &[u32]
+        ensures value { result.now ≡ self.now.turns }
+        ensures turns { AreOpenTurns self.now.system.run result.now }
+    {
+        &self.index.turns
+    }
+
+    /// How many turns are open.
+    pub fn open_turns(&self) -> u32
+        ensures { result ≡ length self.now.turns }
+    {
+        self.index.turns.len() as u32
+    }
+
+    /// How many messages can be delivered.
+    pub fn deliverable(&self) -> usize
+        ensures { result ≡ length self.now.messages }
+    {
+        self.index.waiting.deliverable_len()
+    }
+
+    /// Whether the run is complete (docs/definitions.md, "Complete").
+    pub fn is_complete(&self) -> bool
+        ensures { IsTrue result ↔ Complete self.now.system.program self.now.system.run }
+    {
+        if self.due().is_some() {
+            return false;
+        }
+        self.has_nothing_left()
+    }
+
+    // Whether no turn is open and no message is in flight.
+    fn has_nothing_left(&self) -> bool
+        ensures { IsTrue result ↔ NothingLeft self.now.system.run }
+    {
+        if !self.index.has_no_turn() {
+            return false;
+        }
+        self.index.waiting.is_empty()
+    }
+
+    // The due step of the script.
+    pub(crate) fn due(&self) -> Option<Step>
+        ensures asked { HasAsked self.now.system.program self.now.system.run self.now.cursor result }
+        ensures entries { length self.now.system.program.script ≤ 4096 }
+        ensures entry { IfSome result (λ s. self.now.cursor.entry < length self.now.system.program.script) }
+        ensures who { IfSome result (λ s. (t : ℕ) → s ≡ steps.Fail t → t < u32.MAX) }
+    {
+        let mut cursor = self.cursor;
+        due_by(&self.system, &mut cursor)
+    }
+
+    /// The trace of the run.
+    pub fn into_trace(self) -> Trace
+        ensures run { result.run ≡ self.entry.system.run }
+        ensures well_formed { WellFormed result.run }
+        ensures legal { Legal self.entry.system.program result.run }
+    {
+        self.system.into_trace()
+    }
+}
