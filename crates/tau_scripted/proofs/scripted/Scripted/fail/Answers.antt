@@ -1,4 +1,4 @@
-use Rattle.std.proofs.Common.{◌≡◌, ◌≤◌, ℕ, Option, Some, List, length, sym, ap, subst}
+use Rattle.std.proofs.Common.{◌≤◌, ℕ, Some, List, length, sym, subst}
 use Rattle.tau_trace.specs.declared.step.Step.TheVariants.{Fail}
 use Rattle.tau_trace.specs.Run.{Run, len}
 use Rattle.tau_trace.specs.Turns.{IsOpenTurn}
