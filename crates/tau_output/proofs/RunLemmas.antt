@@ -12,12 +12,12 @@ use Rattle.tau_report.specs.Report.{SavedForms, none, without, with_one, counts_
 use Rattle.tau_text.specs.RunText.{IsRunText, IsReadBack}
 use Rattle.tau_text.specs.Laws.{Tells}
 use Rattle.tau_text.proofs.Telling.{texts_tell}
-use Rattle.tau_cli.specs.declared.statuses.Status.{Status}
-use Rattle.tau_cli.specs.declared.statuses.Status.TheVariants.{Done, Stopped}
-use Rattle.tau_cli.specs.Input.{IsProgram}
-use Rattle.tau_cli.specs.Status.{end_of}
-use Rattle.tau_cli.specs.Runs.{step_limit, EndsAs, IsDecided, IsReportLine, RunsAs}
-use Rattle.tau_cli.specs.Laws.{TextsTellRuns}
+use Rattle.tau_input.specs.Meaning.{IsProgram}
+use Rattle.tau_output.specs.declared.outputs.End.{End}
+use Rattle.tau_output.specs.declared.outputs.End.TheVariants.{Done, Stopped}
+use Rattle.tau_output.specs.Ends.{end_of_run}
+use Rattle.tau_output.specs.Runs.{EndsAs, IsDecided, IsReportLine, RunsAs}
+use Rattle.tau_output.specs.Laws.{TextsTellRuns}
 
 -- each step of a legal run is decided by what was heard
 decided : (P : Program) (T : Run) → Legal P T → IsDecided T
@@ -42,31 +42,31 @@ report_lines P T forms r =
     subst (All L) (sym r.is) (All-append L r.saved (counts_form T ∷ []) (saved_lines P T _ r.saved r.saved_are) (All-cons L (counts_form T) [] (inl refl) (All-nil L)))
 
 -- how the run ends
-ends : (P : Program) (T : Run) (is_complete : Bool) → (IsTrue is_complete → Complete P T × (len T ≤ step_limit)) → (IsFalse is_complete → (¬ Complete P T) × (len T ≡ step_limit)) → EndsAs P T (end_of is_complete)
-ends P T true complete stopped = complete refl
-ends P T false complete stopped = stopped refl
+ends : (limit : ℕ) (P : Program) (T : Run) (is_complete : Bool) → (IsTrue is_complete → Complete P T × (len T ≤ limit)) → (IsFalse is_complete → (¬ Complete P T) × (len T ≡ limit)) → EndsAs limit P T (end_of_run is_complete)
+ends limit P T true complete stopped = complete refl
+ends limit P T false complete stopped = stopped refl
 
 -- what is written for a program is the text of a legal run
-pub runs_as : (P : Program) (T : Run) (is_complete : Bool) (bytes text : List ℕ) → IsProgram bytes P → WellFormed T → Legal P T → (IsTrue is_complete → Complete P T × (len T ≤ step_limit))
-    → (IsFalse is_complete → (¬ Complete P T) × (len T ≡ step_limit)) → IsRunText P T text → IsReadBack P T text → RunsAs bytes (end_of is_complete) text
-runs_as P T is_complete bytes text spelled well legal complete stopped is_text read_back =
-    record { program = P; spelled = spelled; run = T; well_formed = well; is_text = is_text; read_back = read_back; legal = legal; ends = ends P T is_complete complete stopped; safe = legal_safe P T well legal; decided = decided P T legal; saved = report_lines P T is_text.are.report is_text.are.report_is }
+pub runs_as : (limit : ℕ) (P : Program) (T : Run) (is_complete : Bool) (bytes text : List ℕ) → IsProgram bytes P → WellFormed T → Legal P T → (IsTrue is_complete → Complete P T × (len T ≤ limit))
+    → (IsFalse is_complete → (¬ Complete P T) × (len T ≡ limit)) → IsRunText P T text → IsReadBack P T text → RunsAs limit bytes (end_of_run is_complete) text
+runs_as limit P T is_complete bytes text spelled well legal complete stopped is_text read_back =
+    record { program = P; spelled = spelled; run = T; well_formed = well; is_text = is_text; read_back = read_back; legal = legal; ends = ends limit P T is_complete complete stopped; safe = legal_safe P T well legal; decided = decided P T legal; saved = report_lines P T is_text.are.report is_text.are.report_is }
 
 -- a run ends in one way
-ends_once : (P : Program) (T : Run) (status another : Status) → EndsAs P T status → EndsAs P T another → status ≡ another
-ends_once P T Done Done a b = refl
-ends_once P T Done Stopped a b = absurd (b.0 a.0)
-ends_once P T Stopped Done a b = absurd (a.0 b.0)
-ends_once P T Stopped Stopped a b = refl
-ends_once P T Done s a b = absurd b
-ends_once P T Stopped s a b = absurd b
-ends_once P T s another a b = absurd a
+ends_once : (limit other : ℕ) (P : Program) (T : Run) (end another : End) → EndsAs limit P T end → EndsAs other P T another → end ≡ another
+ends_once limit other P T Done Done a b = refl
+ends_once limit other P T Done Stopped a b = absurd (b.0 a.0)
+ends_once limit other P T Stopped Done a b = absurd (a.0 b.0)
+ends_once limit other P T Stopped Stopped a b = refl
+ends_once limit other P T Done s a b = absurd b
+ends_once limit other P T Stopped s a b = absurd b
+ends_once limit other P T s another a b = absurd a
 
--- the text determines the program, the run and the status
+-- the text determines the program, the run and the end
 pub texts_tell_runs : TextsTellRuns
-texts_tell_runs bytes others status another text one two =
+texts_tell_runs limit other bytes others end another text one two =
     let a : Tells one.program one.run text = record { well_formed = one.well_formed; opening = one.legal.opening; read_back = one.read_back } in
     let b : Tells two.program two.run text = record { well_formed = two.well_formed; opening = two.legal.opening; read_back = two.read_back } in
     let same = texts_tell one.program two.program one.run two.run text a b in
-    let there : EndsAs one.program one.run another = subst (λ P. EndsAs P one.run another) (sym same.0) (subst (λ T. EndsAs two.program T another) (sym same.1) two.ends) in
-    record { program = same.0; run = same.1; end = ends_once one.program one.run status another one.ends there }
+    let there : EndsAs other one.program one.run another = subst (λ P. EndsAs other P one.run another) (sym same.0) (subst (λ T. EndsAs other two.program T another) (sym same.1) two.ends) in
+    record { program = same.0; run = same.1; ends = ends_once limit other one.program one.run end another one.ends there }

@@ -10,20 +10,16 @@ use Rattle.tau_past.specs.Safety.{Safe}
 use Rattle.tau_legal.specs.Traces.{Legal, Complete}
 use Rattle.tau_report.specs.Report.{IsSavedForm, counts_form}
 use Rattle.tau_text.specs.RunText.{IsRunText, IsReadBack}
-use Rattle.tau_cli.specs.declared.statuses.Status.{Status}
-use Rattle.tau_cli.specs.declared.statuses.Status.TheVariants.{Done, Stopped}
-use Rattle.tau_cli.specs.Input.{IsProgram}
-
--- the most steps of a run
-abbrev pub step_limit : ℕ
-step_limit = 1000
+use Rattle.tau_input.specs.Meaning.{IsProgram}
+use Rattle.tau_output.specs.declared.outputs.End.{End}
+use Rattle.tau_output.specs.declared.outputs.End.TheVariants.{Done, Stopped}
 
 -- a run ends as Done where it is complete, with at most as many steps as the limit says, and as Stopped where it has exactly as
 -- many and is not complete
-abbrev pub EndsAs : Program → Run → Status → Type 0
-EndsAs P T Done = Complete P T × (len T ≤ step_limit)
-EndsAs P T Stopped = (¬ Complete P T) × (len T ≡ step_limit)
-EndsAs P T status = ⊥
+abbrev pub EndsAs : ℕ → Program → Run → End → Type 0
+EndsAs limit P T Done = Complete P T × (len T ≤ limit)
+EndsAs limit P T Stopped = (¬ Complete P T) × (len T ≡ limit)
+EndsAs limit P T end = ⊥
 
 -- what its transactor had heard, and for a receipt also what the message had heard, decides each of these steps exactly
 pub record IsDecided (T : Run) : Type 0 where
@@ -40,8 +36,8 @@ pub record IsDecided (T : Run) : Type 0 where
 abbrev pub IsReportLine : Program → Run → Tree → Type 0
 IsReportLine P T form = (form ≡ counts_form T) ⊎ ((t : ℕ) × IsSavedForm P T t form)
 
--- for an input of these bytes `run` writes this text and ends with this status
-pub record RunsAs (bytes : List ℕ) (status : Status) (text : List ℕ) : Type 0 where
+-- for an input of these bytes `run`, with so many steps at most, writes this text and ends so
+pub record RunsAs (steps : ℕ) (bytes : List ℕ) (end : End) (text : List ℕ) : Type 0 where
   -- there is a program, which is the one that the bytes spell
   pub program : Program
   pub spelled : IsProgram bytes program
@@ -54,8 +50,8 @@ pub record RunsAs (bytes : List ℕ) (status : Status) (text : List ℕ) : Type 
   pub read_back : IsReadBack program run text
   -- each step of the run is legal after the steps before it
   pub legal : Legal program run
-  -- with Done the run is complete and has at most 1,000 steps; with Stopped it has exactly 1,000 and is not complete
-  pub ends : EndsAs program run status
+  -- with Done the run is complete and has at most so many steps; with Stopped it has exactly so many and is not complete
+  pub ends : EndsAs steps program run end
   -- no checkpoint's causal past, found from the whole list of steps, holds a point that is rolled back anywhere in it
   pub safe : Safe run
   -- each Checkpoint, Hold, Take, Drop and Fall is decided exactly by what was heard
