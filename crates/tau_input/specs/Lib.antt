@@ -1,0 +1,5 @@
+pub mod Errors
+pub mod Parts
+pub mod Meaning
+pub mod Faults
+pub mod Laws

@@ -1,0 +1,86 @@
+//! The faults of inputs.
+use std::alloc::AllocError;
+use tau_forms::ProgramError;
+use tau_sexpr::FormError;
+use tau_steps::StepError;
+use thiserror::Error;
+
+/// Why an input has no meaning.
+#[derive(Clone, Copy, Debug, PartialEq, Eq, Error)]
+pub enum InputError {
+    /// The fault with this number, at this place (docs/formats.md, "Input faults").
+    #[error("input fault {fault} at {at}")]
+    Fault { fault: u8, at: u64 },
+    #[error("out of memory")]
+    NoMemory,
+}
+
+impl From<AllocError> for InputError {
+    ghost use Rattle.std.specs.Prelude.{◌≡◌};
+    ghost use Rattle.tau_input.specs.declared.errors.InputError.TheVariants.{NoMemory};
+
+    ghost from_gives = { λ _ e. e ≡ NoMemory };
+
+    fn from(_error: AllocError) -> InputError {
+        InputError::NoMemory
+    }
+}
+
+impl From<FormError> for InputError {
+    ghost use Rattle.std.specs.Prelude.{◌≡◌};
+    ghost use Rattle.tau_input.specs.Errors.{of_form_error};
+
+    ghost from_gives = { λ error e. e ≡ of_form_error error };
+
+    fn from(error: FormError) -> InputError {
+        match error {
+            FormError::BadByte { at } => InputError::Fault { fault: 1, at },
+            FormError::Unopened { at } => InputError::Fault { fault: 2, at },
+            FormError::Unclosed { at } => InputError::Fault { fault: 3, at },
+            FormError::BadText { at } => InputError::Fault { fault: 4, at },
+            FormError::TooDeep { at } => InputError::Fault { fault: 5, at },
+            FormError::NoMemory => InputError::NoMemory,
+        }
+    }
+}
+
+impl From<ProgramError> for InputError {
+    ghost use Rattle.std.specs.Prelude.{◌≡◌};
+    ghost use Rattle.tau_input.specs.Errors.{of_program_error};
+
+    ghost from_gives = { λ error e. e ≡ of_program_error error };
+
+    fn from(error: ProgramError) -> InputError {
+        match error {
+            ProgramError::Shape { node } => InputError::Fault { fault: 6, at: node },
+            ProgramError::Unknown { node } => InputError::Fault { fault: 7, at: node },
+            ProgramError::Twice { node } => InputError::Fault { fault: 8, at: node },
+            ProgramError::Limit { which } => InputError::Fault {
+                fault: 9,
+                at: u64::from(which),
+            },
+            ProgramError::NoMemory => InputError::NoMemory,
+        }
+    }
+}
+
+impl From<StepError> for InputError {
+    ghost use Rattle.std.specs.Prelude.{◌≡◌};
+    ghost use Rattle.tau_input.specs.Errors.{of_step_error};
+
+    ghost from_gives = { λ error e. e ≡ of_step_error error };
+
+    fn from(error: StepError) -> InputError {
+        match error {
+            StepError::Shape { step } => InputError::Fault {
+                fault: 12,
+                at: step,
+            },
+            StepError::Unknown { step } => InputError::Fault {
+                fault: 13,
+                at: step,
+            },
+            StepError::NoMemory => InputError::NoMemory,
+        }
+    }
+}
