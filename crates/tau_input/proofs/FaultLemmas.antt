@@ -174,9 +174,9 @@ program_unique bytes = record {
 
 pub run_unique : (bytes : List ℕ) → IsUnique (IsRunInputOf bytes) (IsRunFault bytes)
 run_unique bytes = record {
-  one_meaning = λ x y m n. (let e = one_pair m.forms n.forms x.0 y.0 x.1 y.1 (once bytes m.forms n.forms m.spelled n.spelled) m.means n.means in λ i. (e.0 i, e.1 i));
+  one_meaning = λ x y m n. (let e = one_pair m.forms n.forms x.0 y.0 x.1 y.1 (once bytes m.forms n.forms m.spelled n.spelled) m.means.1 n.means.1 in λ i. (e.0 i, e.1 i));
   one_fault = bytes_once MarkedFault bytes marked_once;
-  not_both = λ x a b m. bytes_clean MarkedFault bytes m.forms m.spelled (λ c d. marked_clean m.forms x.0 x.1 c d m.marked m.means) a b;
+  not_both = λ x a b m. bytes_clean MarkedFault bytes m.forms m.spelled (λ c d. marked_clean m.forms x.0 x.1 c d m.means.0 m.means.1) a b;
 }
 
 pub print_unique : (bytes : List ℕ) → IsUnique (IsPrintInput bytes) (IsPrintFault bytes)

@@ -1,0 +1,5 @@
+pub mod PartLemmas
+pub mod FaultLemmas
+pub mod AnswerLemmas
+pub mod MarkLemmas
+pub mod ReadBack

@@ -20,12 +20,15 @@ pub record MeansRun (forms : List Tree) (p : Program) (T : Run) : Type 0 where
   pub program : Means (program_forms forms) p
   pub steps : MeansSteps (program_opening p) (step_forms forms) T
 
+-- the same, and `(trace)` stands there
+abbrev pub MeansMarkedRun : List Tree → Program → Run → Type 0
+MeansMarkedRun forms p T = (has_trace forms ≡ true) × MeansRun forms p T
+
 -- bytes as `check`, `audit` and `report` take them: the program and the run, with `(trace)` between them
 pub record IsRunInput (bytes : List ℕ) (p : Program) (T : Run) : Type 0 where
   pub forms : List Tree
   pub spelled : IsSpelling bytes forms
-  pub marked : has_trace forms ≡ true
-  pub means : MeansRun forms p T
+  pub means : MeansMarkedRun forms p T
 
 -- bytes as `print` takes them: the program, and some run where `(trace)` stands there; else all forms are the program's
 pub record IsPrintInput (bytes : List ℕ) (p : Program) : Type 0 where

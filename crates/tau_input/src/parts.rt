@@ -1,4 +1,24 @@
-//! The program and the trace of a run text.
+//! The program and the trace that the forms of an input mean.
+ghost use Rattle.std.specs.Prelude.{◌≡◌, ◌+◌, ◌<◌, ◌≤◌, IfOk, IfErr, OnOk, [], ◌∷◌, ◌++◌, length, map, take};
+ghost use Rattle.tau_sexpr.specs.Form.{tree_of};
+ghost use Rattle.tau_sexpr.specs.Tree.{depths};
+ghost use Rattle.tau_tree.specs.Sound.{Sound};
+ghost use Rattle.tau_forms.specs.Meaning.{Means};
+ghost use Rattle.tau_trace.specs.Run.{Run};
+ghost use Rattle.tau_script.specs.Openings.{program_opening};
+ghost use Rattle.tau_steps.specs.Meaning.{MeansSteps};
+ghost use Rattle.tau_input.specs.Errors.{Tells};
+ghost use Rattle.tau_input.specs.Faults.{ProgramFault, StepsFault, PartsFault, MarkedFault};
+ghost use Rattle.tau_input.specs.Meaning.{MeansRun, MeansMarkedRun};
+ghost use Rattle.tau_input.specs.Parts.{program_forms, step_forms};
+
+use crate::InputError;
+use crate::marks::place_of_mark;
+use std::alloc::{AllocError, Global};
+use tau_forms::program_of;
+use tau_script::opening_of;
+use tau_sexpr::{Form, Forms};
+use tau_steps::steps_of;
 use tau_trace::Trace;
 use tau_tree::Program;
 
@@ -7,4 +27,112 @@ use tau_tree::Program;
 pub struct RunText {
     pub program: Program,
     pub trace: Trace,
+}
+
+/// The program that all forms mean.
+pub(crate) fn whole_program(alloc: Global, forms: &Forms) -> Result<Program, InputError>
+    requires { depths forms.now ≤ 200 }
+    ensures program { IfOk result (Means forms.now) }
+    ensures sound { IfOk result Sound }
+    ensures fault { IfErr result (Tells (ProgramFault forms.now)) }
+{
+    Ok(program_of(alloc, forms)?)
+}
+
+/// The program and the trace of forms with `(trace)` between them.
+pub(crate) fn marked_text(alloc: Global, forms: &Forms) -> Result<RunText, InputError>
+    requires { depths forms.now ≤ 200 }
+    ensures means { IfOk result (λ r. MeansMarkedRun forms.now r.program r.trace.run) }
+    ensures sound { IfOk result (λ r. Sound r.program) }
+    ensures fault { IfErr result (Tells (MarkedFault forms.now)) }
+{
+    let mark = place_of_mark(forms.items(), b"trace");
+    if mark == forms.len() {
+        return Err(InputError::Fault {
+            fault: 11,
+            at: mark as u64,
+        });
+    }
+    read_parts(alloc, forms, mark)
+}
+
+/// The program of forms with or without `(trace)`.
+pub(crate) fn printed_program(alloc: Global, forms: &Forms) -> Result<Program, InputError>
+    requires { depths forms.now ≤ 200 }
+    ensures means { IfOk result (λ p. (T : Run) × MeansRun forms.now p T) }
+    ensures sound { IfOk result Sound }
+    ensures fault { IfErr result (Tells (PartsFault forms.now)) }
+{
+    let mark = place_of_mark(forms.items(), b"trace");
+    if mark == forms.len() {
+        return whole_program(alloc, forms);
+    }
+    let text = read_parts(alloc, forms, mark)?;
+    Ok(text.program)
+}
+
+/// The program and the trace of forms, of which so many stand before `(trace)`.
+fn read_parts(alloc: Global, forms: &Forms, mark: usize) -> Result<RunText, InputError>
+    requires depth { depths forms.now ≤ 200 }
+    requires mark { mark ≡ length (program_forms forms.now) }
+    requires marked { mark < length forms.now }
+    ensures means { IfOk result (λ r. MeansRun forms.now r.program r.trace.run) }
+    ensures sound { IfOk result (λ r. Sound r.program) }
+    ensures fault { IfErr result (Tells (PartsFault forms.now)) }
+{
+    let program = program_before(alloc, forms, mark)?;
+    let trace = trace_behind(alloc, forms, mark + 1, &program)?;
+    Ok(RunText { program, trace })
+}
+
+/// The program that the forms before a mark mean. They are copied.
+fn program_before(alloc: Global, forms: &Forms, mark: usize) -> Result<Program, InputError>
+    requires depth { depths forms.now ≤ 200 }
+    requires mark { mark ≡ length (program_forms forms.now) }
+    ensures program { IfOk result (Means (program_forms forms.now)) }
+    ensures sound { IfOk result Sound }
+    ensures fault { IfErr result (Tells (ProgramFault (program_forms forms.now))) }
+{
+    let front = copies_before(alloc, forms, mark)?;
+    whole_program(alloc, &front)
+}
+
+/// The trace that the forms from `from` on mean, up to `(report)` or the end.
+fn trace_behind(
+    alloc: Global,
+    forms: &Forms,
+    from: usize,
+    program: &Program,
+) -> Result<Trace, InputError>
+    requires from { from ≡ length (program_forms forms.now) + 1 }
+    requires within { from ≤ length forms.now }
+    requires sound { Sound program.now }
+    ensures trace { IfOk result (λ t. MeansSteps (program_opening program.now) (step_forms forms.now) t.run) }
+    ensures fault { IfErr result (Tells (StepsFault (program_opening program.now) (step_forms forms.now))) }
+{
+    let to = from + place_of_mark(&forms.items()[from..], b"report");
+    let opening = opening_of(alloc, program)?;
+    Ok(steps_of(alloc, forms, from, to, opening)?)
+}
+
+/// Copies of the first so many forms.
+fn copies_before(alloc: Global, forms: &Forms, end: usize) -> Result<Forms, AllocError>
+    requires { end ≤ length forms.now }
+    ensures { IfOk result (λ f. f ≡ take end forms.now) }
+{
+    let mut front = Forms::new(alloc);
+    for form in &forms.items()[..end] {
+        add(&mut front, form.copy()?)?;
+    }
+    Ok(front)
+}
+
+/// Adds a form at the end.
+fn add(forms: &mut Forms, form: Form) -> Result<(), AllocError>
+    ensures { OnOk result (forms.new ≡ forms.old ++ tree_of form ∷ []) }
+{
+    match forms.push(form) {
+        Ok(()) => Ok(()),
+        Err((_form, failed)) => Err(failed),
+    }
 }

@@ -8,23 +8,26 @@ ghost use Rattle.tau_input.specs.Errors.{Tells};
 ghost use Rattle.tau_input.specs.Faults.{IsProgramFault, IsRunFault, IsPrintFault};
 ghost use Rattle.tau_input.specs.Meaning.{IsProgram, IsRunInput, IsPrintInput};
 
+use crate::parts::{marked_text, printed_program, whole_program};
 use crate::{InputError, RunText};
 use std::alloc::Global;
+use tau_sexpr::read_forms;
 use tau_tree::Program;
 
 /// The program that all the forms of an input mean (docs/formats.md, "Programs"), as `run` takes it. It is sound.
 /// `Fault` comes exactly where they mean none, with the first of the faults 1 to 9 in the order of docs/formats.md,
 /// "Input faults".
-pub fn read_program(_alloc: Global, _bytes: &[u8]) -> Result<Program, InputError>
-    ensures program { IfOk result (IsProgram _bytes.now) }
+pub fn read_program(alloc: Global, bytes: &[u8]) -> Result<Program, InputError>
+    ensures program { IfOk result (IsProgram bytes.now) }
     ensures sound { IfOk result Sound }
-    ensures read { (p : Program) → IsProgram _bytes.now p → IfErr result (λ e. e ≡ InputError.NoMemory) }
+    ensures read { (p : Program) → IsProgram bytes.now p → IfErr result (λ e. e ≡ InputError.NoMemory) }
 
-    ensures fault { IfErr result (Tells (IsProgramFault _bytes.now)) }
-    ensures faulty { (fault at : ℕ) → IsProgramFault _bytes.now fault at
+    ensures fault { IfErr result (Tells (IsProgramFault bytes.now)) }
+    ensures faulty { (fault at : ℕ) → IsProgramFault bytes.now fault at
         → (result ≡ Err (InputError.Fault fault at)) ⊎ (result ≡ Err InputError.NoMemory) }
 {
-    Err(InputError::NoMemory)
+    let forms = read_forms(alloc, bytes)?;
+    whole_program(alloc, &forms)
 }
 
 /// The program and the trace that the forms of an input mean (docs/formats.md, "Run text"), as `check`, `audit` and `report`
@@ -32,31 +35,33 @@ pub fn read_program(_alloc: Global, _bytes: &[u8]) -> Result<Program, InputError
 /// is sound, and the trace begins as it says.
 /// `Fault` comes exactly where they mean none, with the first of the faults 1 to 9 and 11 to 13 in the order of
 /// docs/formats.md, "Input faults".
-pub fn read_run_text(_alloc: Global, _bytes: &[u8]) -> Result<RunText, InputError>
-    ensures text { IfOk result (λ r. IsRunInput _bytes.now r.program r.trace.run) }
+pub fn read_run_text(alloc: Global, bytes: &[u8]) -> Result<RunText, InputError>
+    ensures text { IfOk result (λ r. IsRunInput bytes.now r.program r.trace.run) }
     ensures sound { IfOk result (λ r. Sound r.program) }
     ensures opening { IfOk result (λ r. r.trace.run.opening ≡ program_opening r.program) }
-    ensures read { (p : Program) (T : Run) → IsRunInput _bytes.now p T → IfErr result (λ e. e ≡ InputError.NoMemory) }
+    ensures read { (p : Program) (T : Run) → IsRunInput bytes.now p T → IfErr result (λ e. e ≡ InputError.NoMemory) }
 
-    ensures fault { IfErr result (Tells (IsRunFault _bytes.now)) }
-    ensures faulty { (fault at : ℕ) → IsRunFault _bytes.now fault at
+    ensures fault { IfErr result (Tells (IsRunFault bytes.now)) }
+    ensures faulty { (fault at : ℕ) → IsRunFault bytes.now fault at
         → (result ≡ Err (InputError.Fault fault at)) ⊎ (result ≡ Err InputError.NoMemory) }
 {
-    Err(InputError::NoMemory)
+    let forms = read_forms(alloc, bytes)?;
+    marked_text(alloc, &forms)
 }
 
 /// The program of an input, as `print` takes it: that of all forms where there is no `(trace)`, and otherwise that of a run
 /// text, whose steps are read too (docs/formats.md, "Run text"). It is sound.
 /// `Fault` comes exactly where they mean none, with the first of the faults 1 to 9, 12 and 13 in the order of
 /// docs/formats.md, "Input faults".
-pub fn read_printed(_alloc: Global, _bytes: &[u8]) -> Result<Program, InputError>
-    ensures program { IfOk result (IsPrintInput _bytes.now) }
+pub fn read_printed(alloc: Global, bytes: &[u8]) -> Result<Program, InputError>
+    ensures program { IfOk result (IsPrintInput bytes.now) }
     ensures sound { IfOk result Sound }
-    ensures read { (p : Program) → IsPrintInput _bytes.now p → IfErr result (λ e. e ≡ InputError.NoMemory) }
+    ensures read { (p : Program) → IsPrintInput bytes.now p → IfErr result (λ e. e ≡ InputError.NoMemory) }
 
-    ensures fault { IfErr result (Tells (IsPrintFault _bytes.now)) }
-    ensures faulty { (fault at : ℕ) → IsPrintFault _bytes.now fault at
+    ensures fault { IfErr result (Tells (IsPrintFault bytes.now)) }
+    ensures faulty { (fault at : ℕ) → IsPrintFault bytes.now fault at
         → (result ≡ Err (InputError.Fault fault at)) ⊎ (result ≡ Err InputError.NoMemory) }
 {
-    Err(InputError::NoMemory)
+    let forms = read_forms(alloc, bytes)?;
+    printed_program(alloc, &forms)
 }
