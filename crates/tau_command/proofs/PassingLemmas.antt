@@ -1,12 +1,10 @@
 -- What `clap` finds for an argument has passed the argument's parser, where the words have no fault.
 use Rattle.std.proofs.Common.{◌≡◌, ◌⊎◌, inl, inr, ◌∙◌, ◌||◌, ◌&&◌, ap, refl, sym, subst, ℕ, zero, suc, Bool, true, false, cond, List, [], ◌∷◌, ◌++◌, length, is_some, Option, Some, None, arith}
-use Rattle.std.specs.Prelude.{find, fold, slice_get, option_map, option_and_then}
-use Rattle.std.specs.List.{list_any}
+use Rattle.std.specs.Prelude.{drop, encode_utf8, find, fold, slice_get, option_map, option_and_then}
 use Rattle.std.specs.Option.{option_map_or}
 use Rattle.std.specs.Str.{bytes_eq, chars}
 use Rattle.std.proofs.lemmas.Bool.{ne_eqb}
 use Rattle.std.proofs.lemmas.Slice.Eq.{bytes_eq-Decides}
-use Rattle.clap.specs.declared.builder.action.ArgAction.{ArgAction}
 use Rattle.clap.specs.declared.builder.action.ArgAction.TheVariants.{Set, Help}
 use Rattle.clap.specs.declared.builder.value_parser.Reading.{Reading}
 use Rattle.clap.specs.declared.builder.value_parser.ValueParser.{ValueParser}
@@ -16,9 +14,9 @@ use Rattle.clap.specs.Facts.{parser_of_value}
 use Rattle.clap.specs.Faults.{bundle_fault, bundle_step_fault, default_fault, defaults_fault, fault_of, flag_word_fault, flags_fault, level_fault, long_fault, option_fault, other_fault, positional_fault, react_fault, set_fault, settle_fault, short_fault, step_fault, stray_fault, turn_fault, use_fault, values_fault, walk_fault, word_fault, action_fault}
 use Rattle.clap.specs.Kinds.{Kinds, or_else, request_kinds, value_kinds, values_kinds}
 use Rattle.clap.specs.Lexer.{long_of, short_of}
-use Rattle.clap.specs.Simple.{App, Shape, argument_words, built, entered, matches_of, names_of}
+use Rattle.clap.specs.Simple.{App, Shape, argument_words, built, matches_of, names_of}
 use Rattle.clap.specs.Values.{read_as}
-use Rattle.clap.specs.Walk.{Held, Names, Outcome, Row, Rule, Step, Text, Waiting, Walk, action_of, after_flag, after_step, arg_by_id, arg_by_index, arg_by_long, arg_by_short, at_row, attached_value, bundle, bundle_met, bundle_step, default_rows, done, finished, flag_met, has_row, idle, is_empty, is_pending, long_met, long_or_other, long_word, more_values, next, nothing_held, one_of, option, option_met, option_word, plain, plain_word, positional, positional_held, reacted, reading_by, refused, row_text, settled, settled_rows, short_met, short_or_plain, short_word, subcommand, subcommand_met, subcommand_or_other, takes_several, takes_values, to_positional, trailing, used, used_as, used_by_id, value, values_or_missing, waits, walk, walk_from, walked, walked_from, with_default, with_values, without, word_met}
+use Rattle.clap.specs.Walk.{Held, Names, Outcome, Row, Rule, Step, Text, Waiting, Walk, action_of, after_flag, after_step, arg_by_id, arg_by_index, arg_by_long, arg_by_short, at_row, attached_value, bundle, bundle_met, bundle_step, default_rows, done, finished, flag_met, has_row, idle, is_empty, is_pending, long_met, long_or_other, more_values, next, nothing_held, one_of, option, option_met, option_word, plain, plain_word, positional, reacted, reading_by, refused, row_text, settled, settled_rows, short_met, short_or_plain, subcommand, subcommand_met, subcommand_or_other, takes_several, takes_values, to_positional, trailing, used, used_as, used_by_id, value, values_or_missing, waits, walk, walk_from, walked, walked_from, with_default, with_values, without, word_met}
 
 -- the values of an argument pass its parser, and are read as it says
 abbrev Passes : Rule → List Text → Reading → Type 0
@@ -38,21 +36,19 @@ IsOwn c a = (arg_by_id c a.id ≡ Some a) × ((action_of a ≡ Set) ⊎ (action_
 
 abbrev pub AllOwn : List Rule → List Rule → Type 0
 AllOwn c [] = Unit {0}
-AllOwn c (a ∷ as) = IsOwn c a × AllOwn c as
+AllOwn c (a ∷ more) = IsOwn c a × AllOwn c more
 
 -- each argument that is found is such a one
 abbrev Owns : List Rule → Type 0
 Owns c = (test : Rule → Bool) (a : Rule) → find test c ≡ Some a → IsOwn c a
 
+own_if : (c : List Rule) (b : Bool) (r a : Rule) (o : Option Rule) → IsOwn c r → (o ≡ Some a → IsOwn c a) → cond b (Some r) o ≡ Some a → IsOwn c a
+own_if c true r a o own rest e = let same : r ≡ a = cc in subst (IsOwn c) same own
+own_if c false r a o own rest e = rest e
+
 found_own : (c rules : List Rule) → AllOwn c rules → (test : Rule → Bool) (a : Rule) → find test rules ≡ Some a → IsOwn c a
 found_own c [] all test a e = absurd (cc)
-found_own c (r ∷ rs) all test a e = go (test r) e
-  where
-    rest = found_own c rs all.1 test a
-
-    go : (b : Bool) → cond b (Some r) (find test rs) ≡ Some a → IsOwn c a
-    go true h = let same : r ≡ a = cc in subst (IsOwn c) same all.0
-    go false h = rest h
+found_own c (r ∷ rs) all test a e = own_if c (test r) r a (find test rs) all.0 (found_own c rs all.1 test a) e
 
 -- ---- no fault in two steps, and in each
 
@@ -108,13 +104,13 @@ passes_own c a values own p b found =
 
 rows_used : (c : List Rule) (again : Bool) (a : Rule) (values : List Text) (rows : List Row) → IsOwn c a → use_fault again a values rows ≡ [] → RowsPass c rows → RowsPass c (used a values rows)
 rows_used c again a values rows own e h = elim own.1 [
-    | inl set ↦
-        let fault : set_fault again a (values_or_missing a values) rows ≡ [] = subst (λ x. action_fault x again a (values_or_missing a values) rows ≡ []) set (both_none _ _ e).1 in
-        subst (λ x. RowsPass c (used_as x a.id (reading_by a) (values_or_missing a values) rows)) (sym set)
-        (rows_with c a.id (reading_by a) CommandLine (values_or_missing a values) (without a.id rows)
-        (passes_own c a (values_or_missing a values) own.0 (both_none _ _ fault).1) (rows_without c a.id rows h))
-    | inr help ↦ subst (λ x. RowsPass c (used_as x a.id (reading_by a) (values_or_missing a values) rows)) (sym help) h
-  ]
+  | inl set ↦
+      let fault : set_fault again a (values_or_missing a values) rows ≡ [] = subst (λ x. action_fault x again a (values_or_missing a values) rows ≡ []) set (both_none _ _ e).1 in
+      subst (λ x. RowsPass c (used_as x a.id (reading_by a) (values_or_missing a values) rows)) (sym set)
+      (rows_with c a.id (reading_by a) CommandLine (values_or_missing a values) (without a.id rows)
+      (passes_own c a (values_or_missing a values) own.0 (both_none _ _ fault).1) (rows_without c a.id rows h))
+  | inr help ↦ subst (λ x. RowsPass c (used_as x a.id (reading_by a) (values_or_missing a values) rows)) (sym help) h
+]
 
 rows_by_id : (c : List Rule) (again : Bool) (o : Option Rule) (values : List Text) (rows : List Row) → ((a : Rule) → o ≡ Some a → IsOwn c a) → option_map_or (λ a. use_fault again a values rows) o [] ≡ []
     → RowsPass c rows → RowsPass c (used_by_id o values rows)
@@ -171,19 +167,21 @@ rows_short : (c : List Rule) (again : Bool) (o : Option Rule) (rest : Text) (h :
 rows_short c again None rest h fault met owns own f e k = k
 rows_short c again (Some a) rest h fault met owns own f e k = rows_short_at c again (takes_values a) a (attached_value rest) h fault met owns (own a refl) f e k
 
+rows_bundle_step : (c : List Rule) (again : Bool) (o : Option ℕ) (flags : Text) (skip : ℕ) (so_far : Outcome) (h : Held) (fault : Text → ℕ → Held → Kinds)
+    (met : Text → ℕ → Outcome → Held → Held × Outcome) → Owns c → ((fs : Text) (k : ℕ) (s : Outcome) (g : Held) → fault fs k g ≡ [] → RowsPass c g.rows → RowsPass c (met fs k s g).0.rows)
+    → bundle_step_fault c again o flags skip h fault ≡ [] → RowsPass c h.rows → RowsPass c (bundle_step c o flags skip so_far h met).0.rows
+rows_bundle_step c again None flags skip so_far h fault met owns f e k = k
+rows_bundle_step c again (Some x) flags zero so_far h fault met owns f e k =
+    let rest = drop (length (encode_utf8 x)) flags in
+    rows_short c again (arg_by_short c x) rest h (fault rest 0) (met rest 0 done) owns (owns _) (λ g. f rest 0 done g) e k
+rows_bundle_step c again (Some x) flags (suc skip) so_far h fault met owns f e k = f (drop (length (encode_utf8 x)) flags) skip so_far h e k
+
 rows_flags : (c : List Rule) (again : Bool) (n : ℕ) (flags : Text) (skip : ℕ) (so_far : Outcome) (h : Held) → Owns c → flags_fault c again n flags skip h ≡ [] → RowsPass c h.rows
     → RowsPass c (bundle_met c n flags skip so_far h).0.rows
 unfolding flags_fault bundle_met
 rows_flags c again zero flags skip so_far h owns e k = k
-rows_flags c again (suc n) flags skip so_far h owns e k = go (slice_get (chars flags) 0) skip e
-  where
-    rest = rows_flags c again n
-
-    go : (o : Option ℕ) (skip : ℕ) → bundle_step_fault c again o flags skip h (flags_fault c again n) ≡ [] → RowsPass c (bundle_step c o flags skip so_far h (bundle_met c n)).0.rows
-    go None skip e = k
-    go (Some x) zero e =
-        rows_short c again (arg_by_short c x) _ h _ _ owns (owns _) (λ g. rest _ 0 done g owns) e k
-    go (Some x) (suc skip) e = rest _ skip so_far h owns e k
+rows_flags c again (suc n) flags skip so_far h owns e k =
+    rows_bundle_step c again (slice_get (chars flags) 0) flags skip so_far h (flags_fault c again n) (bundle_met c n) owns (λ fs j s g. rows_flags c again n fs j s g owns) e k
 
 rows_bundle : (c : List Rule) (again : Bool) (flags : Text) (h : Held) → Owns c → bundle_fault c again flags h ≡ [] → RowsPass c h.rows → RowsPass c (bundle c flags h).0.rows
 rows_bundle c again flags h owns e k = rows_flags c again (length flags) flags h.skip plain (record h { skip = 0 }) owns e k
@@ -252,7 +250,7 @@ rows_step s word w h value owns e k = rows_positional s.rules s.args_override_se
 
 rows_turn : (s : Shape) (names : Names) (w : Walk) (word : Text) (stopped : Option (Text × List Text)) → Owns s.rules
     → (let met = word_met s.rules names w.is_trailing w.waiting w.position word w.held in
-      cond (is_some stopped) [] (or_else (word_fault s names w.is_trailing w.waiting word w.held) (step_fault s w.position met.0 met.1))) ≡ []
+    cond (is_some stopped) [] (or_else (word_fault s names w.is_trailing w.waiting word w.held) (step_fault s w.position met.0 met.1))) ≡ []
     → RowsPass s.rules w.held.rows → RowsPass s.rules (walked_from s.rules names stopped w word).held.rows
 rows_turn s names w word (Some p) owns e k = k
 rows_turn s names w word None owns e k =
@@ -290,9 +288,9 @@ rows_default_at c rows a false (v ∷ vs) own e k =
 rows_defaults : (c rules : List Rule) (rows : List Row) → AllOwn c rules → defaults_fault rows rules ≡ [] → RowsPass c rows → RowsPass c (fold with_default rows rules)
 unfolding defaults_fault
 rows_defaults c [] rows own e k = k
-rows_defaults c (a ∷ as) rows own e k =
-    let parts = both_none (default_fault rows a) (defaults_fault (with_default rows a) as) e in
-    rows_defaults c as (with_default rows a) own.1 parts.1 (rows_default_at c rows a (has_row a.id rows) a.defaults own.0 parts.0 k)
+rows_defaults c (a ∷ more) rows own e k =
+    let parts = both_none (default_fault rows a) (defaults_fault (with_default rows a) more) e in
+    rows_defaults c more (with_default rows a) own.1 parts.1 (rows_default_at c rows a (has_row a.id rows) a.defaults own.0 parts.0 k)
 
 -- ---- the matches
 
@@ -313,17 +311,16 @@ matches_pass a words own e = rows_level (built a).top (names_of (built a)) (argu
 
 -- ---- one text of the matches
 
+row_if : (c : List Rule) (id : Text) (b : Bool) (x r : Row) (o : Option Row) → bytes_eq x.id id ≡ b → RowPasses c x → (o ≡ Some r → (r.id ≡ id) × RowPasses c r) → cond b (Some x) o ≡ Some r
+    → (r.id ≡ id) × RowPasses c r
+row_if c id true x r o is h rest e =
+    let same : x ≡ r = cc in
+    subst (λ y. (y.id ≡ id) × RowPasses c y) same ((bytes_eq-Decides x.id id).0 is, h)
+row_if c id false x r o is h rest e = rest e
+
 found_row : (c : List Rule) (id : Text) (rows : List Row) (r : Row) → RowsPass c rows → find (λ x. bytes_eq x.id id) rows ≡ Some r → (r.id ≡ id) × RowPasses c r
 found_row c id [] r h e = absurd (cc)
-found_row c id (x ∷ xs) r h e = go (bytes_eq x.id id) refl e
-  where
-    rest = found_row c id xs r h.1
-
-    go : (b : Bool) → bytes_eq x.id id ≡ b → cond b (Some x) (find (λ y. bytes_eq y.id id) xs) ≡ Some r → (r.id ≡ id) × RowPasses c r
-    go true is found =
-        let same : x ≡ r = cc in
-        subst (λ y. (y.id ≡ id) × RowPasses c y) same ((bytes_eq-Decides x.id id).0 is, h.0)
-    go false is found = rest found
+found_row c id (x ∷ xs) r h e = row_if c id (bytes_eq x.id id) x r (find (λ y. bytes_eq y.id id) xs) refl h.0 (found_row c id xs r h.1) e
 
 -- a text that passed the parser of an argument, and how it is read
 pub record IsRead (a : Rule) (text : Text) : Type 0 where

@@ -1,3 +1,4 @@
 pub mod RunLemmas
 pub mod CheckLemmas
 pub mod AuditLemmas
+pub mod LawLemmas

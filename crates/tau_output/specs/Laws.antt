@@ -1,16 +1,21 @@
--- What holds of all inputs: `print` writes one text, no command writes one for an input with a fault, an input has one fault, and
--- what `run` writes determines its program and its run.
+-- What holds of all inputs: a command writes one text, none for an input with a fault, an input has one fault, and what `run` writes
+-- determines its program and its run.
 use Rattle.std.specs.Prelude.{◌≡◌, ℕ, List}
 use Rattle.tau_command.specs.declared.commands.Command.{Command}
-use Rattle.tau_command.specs.declared.commands.Command.TheVariants.{Print}
+use Rattle.tau_command.specs.declared.commands.Command.TheVariants.{Run}
 use Rattle.tau_output.specs.declared.outputs.End.{End}
 use Rattle.tau_output.specs.Faults.{IsInputFault}
 use Rattle.tau_output.specs.Runs.{RunsAs}
 use Rattle.tau_output.specs.Writing.{Writes}
 
--- `print` writes no other text for the same bytes
-abbrev pub PrintsOnce : List ℕ → Type 0
-PrintsOnce bytes = (text other : List ℕ) (end another : End) → Writes Print bytes end text → Writes Print bytes another other → text ≡ other
+-- a command that runs nothing
+abbrev pub RunsNothing : Command → Type 0
+RunsNothing (Run workers jobs seed steps) = ⊥
+RunsNothing command = Unit {0}
+
+-- a command that runs nothing writes no other text for the same bytes, and ends in no other way
+abbrev pub WritesOnce : List ℕ → Type 0
+WritesOnce bytes = (command : Command) (end another : End) (text other : List ℕ) → RunsNothing command → Writes command bytes end text → Writes command bytes another other → (end ≡ another) × (text ≡ other)
 
 -- a command writes nothing for bytes with a fault
 abbrev pub WritesWithoutFault : List ℕ → Type 0
