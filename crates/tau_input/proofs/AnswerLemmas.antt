@@ -24,14 +24,12 @@ pub tells_more : (F G : ℕ → ℕ → Type 0) (e : InputError) → ((a b : ℕ
 tells_more F G (Fault a b) f t = f a b t
 tells_more F G NoMemory f t = tt
 
-pub answer_more : {A B : Type 0} (F G : ℕ → ℕ → Type 0) (r : Result A InputError) (s : Result B InputError) (e : InputError) → IsErrAnd s (λ x. x ≡ e) → r ≡ Err e → ((a b : ℕ) → F a b → G a b) → IfErr r (Tells F) → IfErr s (Tells G)
-answer_more F G r (Ok y) e h is f t = tt
-answer_more F G (Ok x) (Err y) e h is f t = absurd (cc)
-answer_more F G (Err x) (Err y) e h is f t =
-    let same : x ≡ e = cc in
-    subst (Tells G) (sym h) (tells_more F G e f (subst (Tells F) same t))
+-- an error that is handed on
+pub kept_error : {A : Type 0} (F G : ℕ → ℕ → Type 0) (r : Result A InputError) (e : InputError) → IsErrAnd r (λ x. x ≡ e) → ((a b : ℕ) → F a b → G a b) → Tells F e → IfErr r (Tells G)
+kept_error F G (Ok x) e h f t = tt
+kept_error F G (Err x) e h f t = subst (Tells G) (sym h) (tells_more F G e f t)
 
-pub same_more : {A B : Type 0} (F G : ℕ → ℕ → Type 0) (r : Result A InputError) → ((a b : ℕ) → F a b → G a b) → IfErr r (Tells F) → IfErr r (Tells G)
+pub same_more : {A : Type 0} (F G : ℕ → ℕ → Type 0) (r : Result A InputError) → ((a b : ℕ) → F a b → G a b) → IfErr r (Tells F) → IfErr r (Tells G)
 same_more F G (Ok x) f t = tt
 same_more F G (Err e) f t = tells_more F G e f t
 
@@ -94,6 +92,6 @@ fault_answered M F view (Err (Fault c d)) u m t a b f = let e = u.one_fault c d 
 fault_answered M F view (Err NoMemory) u m t a b f = inr refl
 
 -- an error is no answer
-pub no_answer : {A : Type 0} (P : A → Type 0) (r : Result A InputError) → IsErr r → IfOk r P
-no_answer P (Ok x) h = absurd h
-no_answer P (Err e) h = tt
+pub no_answer : {A B : Type 0} (P : A → Type 0) (e : B) (r : Result A B) → IsErrAnd r (λ x. x ≡ e) → IfOk r P
+no_answer P e (Ok x) h = absurd h
+no_answer P e (Err y) h = tt

@@ -3,11 +3,11 @@ use Rattle.std.proofs.Common.{◌≡◌, ◌⊎◌, ⊎_elim, ℕ, zero, suc, �
 use Rattle.std.specs.Prelude.{slice_get, slice_range, All}
 use Rattle.std.specs.List.{list_any}
 use Rattle.std.proofs.lemmas.Bool.{cases_Bool}
-use Rattle.std.proofs.lemmas.List.{take-map, drop-map}
+use Rattle.std.proofs.lemmas.List.{take_all}
 use Rattle.std.proofs.lemmas.List.Elements.{All-head, All-tail}
-use Rattle.tau_sexpr.specs.Form.{tree_of}
-use Rattle.tau_sexpr.specs.Tree.{Tree}
-use Rattle.tau_sexpr.specs.declared.trees.Form.{Form}
+use Rattle.tau_trace.proofs.Lists.{same_some}
+use Rattle.tau_trace.proofs.Sequences.{cases_last}
+use Rattle.tau_sexpr.specs.Tree.{Tree, depths}
 use Rattle.tau_input.specs.Parts.{is_mark, is_marked, before, behind, has_trace, program_forms, step_forms}
 
 before_mark : (w : List ℕ) (t : Tree) (ts : List Tree) → is_mark w t ≡ true → before w (t ∷ ts) ≡ []
@@ -45,6 +45,14 @@ no_mark w [] none = refl
 no_mark w (x ∷ xs) none =
     let rest = no_mark w xs (λ k u l e. none (suc k) u (omega arith) e) in
     ap length (before_other w x xs (none 0 x (omega arith) refl)) ∙ ap suc rest
+
+-- one more form that is no mark
+pub one_more : (w : List ℕ) (ts : List Tree) (i : ℕ) (f : Tree) → ((k : ℕ) (u : Tree) → k < i → slice_get ts k ≡ Some u → is_mark w u ≡ false) → slice_get ts i ≡ Some f → is_mark w f ≡ false
+    → (k : ℕ) (u : Tree) → k < i + 1 → slice_get ts k ≡ Some u → is_mark w u ≡ false
+one_more w ts i f none at is k u l stands = ⊎_elim
+    (λ (e : k ≡ i). ap (is_mark w) (same_some (sym stands ∙ ap (slice_get ts) e ∙ at)) ∙ is)
+    (λ (b : k < i). none k u b stands)
+    (cases_last k i (omega arith))
 
 -- no more forms stand before a mark than there are
 pub before_le : (w : List ℕ) (ts : List Tree) → length (before w ts) ≤ length ts
@@ -121,14 +129,36 @@ cut_marked w m (t ∷ ts) us is = ⊎_elim
     (λ e. any_other w t (ts ++ m ∷ us) e ∙ cut_marked w m ts us is)
     (cases_Bool (is_mark w t))
 
--- the forms of the steps, as a range
-pub steps_range : (ts : List Tree) (from to : ℕ) → from ≡ length (program_forms ts) + 1 → to ≡ from + length (before (codes "report") (drop from ts)) → slice_range ts from to ≡ step_forms ts
-steps_range ts from to f t =
-    let rest = drop from ts in
-    let count : to - from ≡ length (before (codes "report") rest) = omega (arith, t) in
-    let dropped : rest ≡ behind (codes "trace") ts = ap (λ n. drop n ts) (omega (arith, f)) ∙ behind_dropped (codes "trace") ts in
-    ap (λ n. take n rest) count ∙ before_taken (codes "report") rest ∙ ap (before (codes "report")) dropped
+-- a form that is no deeper than the deepest of others
+pub before_depth : (w : List ℕ) (ts : List Tree) → depths (before w ts) ≤ depths ts
+before_depth w [] = omega arith
+before_depth w (t ∷ ts) = ⊎_elim
+    (λ e. omega (arith, ap depths (before_mark w t ts e)))
+    (λ e. omega (arith, ap depths (before_other w t ts e), before_depth w ts))
+    (cases_Bool (is_mark w t))
 
--- of the forms behind the mark no more are steps than there are
-pub range_within : (ts : List Tree) (from n : ℕ) → from ≤ length ts → n ≤ length (drop from ts) → from + n ≤ length ts
-range_within ts from n f l = omega (arith, length-drop from ts)
+-- the forms of the steps, as a range: so many of those from the mark on to the end
+module _ (ts : List Tree) (mark end count : ℕ) (m : mark ≡ length (program_forms ts)) (e : end ≡ length ts) (c : count ≡ length (before (codes "report") (slice_range ts (mark + 1) end))) where
+  rest : List Tree
+  rest = drop (mark + 1) ts
+
+  whole : slice_range ts (mark + 1) end ≡ rest
+  unfolding rest
+  whole = take_all (end - (mark + 1)) (drop (mark + 1) ts) (omega (arith, length-drop (mark + 1) ts))
+
+  counted : count ≡ length (before (codes "report") rest)
+  counted = c ∙ ap (λ us. length (before (codes "report") us)) whole
+
+  -- the range is within the forms
+  pub steps_within : mark < end → mark + 1 + count ≤ end
+  unfolding rest
+  steps_within l = omega (arith, counted, before_le (codes "report") rest, length-drop (mark + 1) ts)
+
+  -- and holds the forms of the steps
+  pub steps_range : slice_range ts (mark + 1) (mark + 1 + count) ≡ step_forms ts
+  unfolding rest
+  steps_range =
+      let next : mark + 1 ≡ suc (length (program_forms ts)) = omega (arith, m) in
+      let dropped : rest ≡ behind (codes "trace") ts = ap (λ n. drop n ts) next ∙ behind_dropped (codes "trace") ts in
+      let taken : mark + 1 + count - (mark + 1) ≡ length (before (codes "report") rest) = omega (arith, counted) in
+      ap (λ n. take n rest) taken ∙ before_taken (codes "report") rest ∙ ap (before (codes "report")) dropped

@@ -81,7 +81,7 @@ fn read_parts(alloc: Global, forms: &Forms, mark: usize) -> Result<RunText, Inpu
     ensures fault { IfErr result (Tells (PartsFault forms.now)) }
 {
     let program = program_before(alloc, forms, mark)?;
-    let trace = trace_behind(alloc, forms, mark + 1, &program)?;
+    let trace = trace_behind(alloc, forms, mark, &program)?;
     Ok(RunText { program, trace })
 }
 
@@ -97,20 +97,22 @@ fn program_before(alloc: Global, forms: &Forms, mark: usize) -> Result<Program, 
     whole_program(alloc, &front)
 }
 
-/// The trace that the forms from `from` on mean, up to `(report)` or the end.
+/// The trace that the forms behind a mark mean, up to `(report)` or the end.
 fn trace_behind(
     alloc: Global,
     forms: &Forms,
-    from: usize,
+    mark: usize,
     program: &Program,
 ) -> Result<Trace, InputError>
-    requires from { from ≡ length (program_forms forms.now) + 1 }
-    requires within { from ≤ length forms.now }
+    requires mark { mark ≡ length (program_forms forms.now) }
+    requires marked { mark < length forms.now }
     requires sound { Sound program.now }
     ensures trace { IfOk result (λ t. MeansSteps (program_opening program.now) (step_forms forms.now) t.run) }
     ensures fault { IfErr result (Tells (StepsFault (program_opening program.now) (step_forms forms.now))) }
 {
-    let to = from + place_of_mark(&forms.items()[from..], b"report");
+    let end = forms.len();
+    let from = mark + 1;
+    let to = from + place_of_mark(&forms.items()[from..end], b"report");
     let opening = opening_of(alloc, program)?;
     Ok(steps_of(alloc, forms, from, to, opening)?)
 }

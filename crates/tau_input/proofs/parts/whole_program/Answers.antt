@@ -1,0 +1,6 @@
+use Rattle.tau_input.proofs.AnswerLemmas.{from_program}
+use Rattle.tau_input.proofs.parts.whole_program.Goals as goal
+
+pub returns-in_err-program_of-clause-fault : goal.returns-in_err-program_of-clause-fault
+returns-in_err-program_of-clause-fault c =
+    from_program c.from_residual.result c.args.forms.now c.in_err-program_of.field-0.0 c.from_residual.ensures.1 c.in_err-program_of.ensures.fault
