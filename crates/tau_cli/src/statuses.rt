@@ -20,9 +20,14 @@ pub enum Status {
     /// The words of the command line name no command.
     Words,
     /// The input has a fault, with this number and at this place (docs/formats.md, "Input faults").
-    Input { fault: u8, at: u64 },
+    Input {
+        fault: u8,
+        at: u64,
+    },
     /// The whole text was written, of a check: the step at this place is the first that isn't legal.
-    Bad { place: u32 },
+    Bad {
+        place: u32,
+    },
     /// A read failed.
     ReadFault,
     /// A write failed.

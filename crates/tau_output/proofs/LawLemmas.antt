@@ -1,5 +1,5 @@
 -- What is written for an input is determined, and comes only where the input has no fault.
-use Rattle.std.proofs.Common.{◌≡◌, inl, inr, ℕ, ◌<◌, ◌≤◌, List, length, Some, refl, sym, ap, subst, ◌∙◌, arith}
+use Rattle.std.proofs.Common.{◌≡◌, ◌⊎◌, inl, inr, ℕ, ◌<◌, ◌≤◌, List, length, Some, Result, Ok, Err, IfOk, IfErr, refl, sym, ap, subst, ◌∙◌, arith}
 use Rattle.std.proofs.lemmas.Bool.{cases_lt}
 use Rattle.tau_sexpr.specs.Printing.{printed}
 use Rattle.tau_points.specs.declared.point.Point.{Point}
@@ -16,8 +16,12 @@ use Rattle.tau_report.specs.Report.{IsReportText}
 use Rattle.tau_report.proofs.Uniqueness.{report_once}
 use Rattle.tau_command.specs.declared.commands.Command.{Command}
 use Rattle.tau_command.specs.declared.commands.Command.TheVariants.{Run as RunCommand, Check, Audit, Report, Print, Gen}
+use Rattle.tau_input.specs.declared.errors.InputError.{InputError}
+use Rattle.tau_input.specs.declared.errors.InputError.TheVariants.{Fault, NoMemory}
+use Rattle.tau_input.specs.Errors.{Tells}
 use Rattle.tau_input.proofs.FaultLemmas.{program_unique, run_unique, print_unique}
 use Rattle.tau_output.specs.declared.outputs.End.{End}
+use Rattle.tau_output.specs.declared.outputs.Output.{Output}
 use Rattle.tau_output.specs.declared.outputs.End.TheVariants.{Done, Stopped, Bad, Broken}
 use Rattle.tau_output.specs.Faults.{input_limit, reads_input, IsFaultOf, IsInputFault, too_long, within}
 use Rattle.tau_output.specs.Checks.{IsChecked, bad_line, ChecksAs}
@@ -55,6 +59,35 @@ pub writes_without_fault : (bytes : List ℕ) → WritesWithoutFault bytes
 writes_without_fault bytes command end text a b w (too_long r l p q) = let few : length bytes ≤ input_limit = w.few r in omega arith
 writes_without_fault bytes command end text a b w (within l f) = clean command bytes end text a b w.answers f
 
+-- an answer for an input with a fault tells the fault, or want of memory
+told_once : (command : Command) (bytes : List ℕ) (e : InputError) (a b : ℕ) → Tells (IsInputFault command bytes) e → IsInputFault command bytes a b → (e ≡ Fault a b) ⊎ (e ≡ NoMemory)
+told_once command bytes (Fault c d) a b t f = let same = fails_once bytes command c d a b t f in inl (ap (λ x. Fault x d) same.0 ∙ ap (λ x. Fault a x) same.1)
+told_once command bytes NoMemory a b t f = inr refl
+
+fault_told : (command : Command) (bytes : List ℕ) (r : Result Output InputError) → IfOk r (λ o. Writes command bytes o.end o.text.items) → IfErr r (Tells (IsInputFault command bytes))
+    → (a b : ℕ) → IsInputFault command bytes a b → (r ≡ Err (Fault a b)) ⊎ (r ≡ Err NoMemory)
+fault_told command bytes (Ok o) w t a b f = absurd (writes_without_fault bytes command o.end o.text.items a b w f)
+fault_told command bytes (Err e) w t a b f = elim (told_once command bytes e a b t f) [ inl same ↦ inl (ap Err same) | inr same ↦ inr (ap Err same) ]
+
+-- the fault of bytes that aren't too many is that of the input
+tells_within : (command : Command) (bytes : List ℕ) (e : InputError) → length bytes ≤ input_limit → Tells (IsFaultOf command bytes) e → Tells (IsInputFault command bytes) e
+tells_within command bytes (Fault a b) l t = within l t
+tells_within command bytes NoMemory l t = tt
+
+fault_within : (command : Command) (bytes : List ℕ) (r : Result Output InputError) → length bytes ≤ input_limit → IfErr r (Tells (IsFaultOf command bytes)) → IfErr r (Tells (IsInputFault command bytes))
+fault_within command bytes (Ok o) l t = tt
+fault_within command bytes (Err e) l t = tells_within command bytes e l t
+
+answered : (kind : Command) (bytes : List ℕ) (r : Result Output InputError) → length bytes ≤ input_limit → IfOk r (λ o. Answers kind bytes o.end o.text.items) → IfOk r (λ o. Writes kind bytes o.end o.text.items)
+answered kind bytes (Ok o) l w = record { few = λ reads. l; answers = w }
+answered kind bytes (Err e) l w = tt
+
+-- and so of what a command answers for bytes that aren't too many
+pub answer_told : (command kind : Command) (bytes : List ℕ) (r : Result Output InputError) → command ≡ kind → length bytes ≤ input_limit → IfOk r (λ o. Answers kind bytes o.end o.text.items)
+    → IfErr r (Tells (IsFaultOf kind bytes)) → (a b : ℕ) → IsInputFault command bytes a b → (r ≡ Err (Fault a b)) ⊎ (r ≡ Err NoMemory)
+answer_told command kind bytes r same l w t a b f =
+    fault_told kind bytes r (answered kind bytes r l w) (fault_within kind bytes r l t) a b (subst (λ x. IsInputFault x bytes a b) same f)
+
 -- ---- checks
 
 -- of two first illegal steps neither stands before the other
@@ -66,9 +99,9 @@ first_illegal_once P T j k one two = omega (arith, not_before P T j k one two, n
 
 checked_once : (P : Program) (T : Run) (end another : End) (text other : List ℕ) → IsChecked P T end text → IsChecked P T another other → (end ≡ another) × (text ≡ other)
 checked_once P T Done Done text other h k = elim h.2 [
-    | inl a ↦ elim k.2 [ inl b ↦ (refl, a.1 ∙ sym b.1) | inr b ↦ absurd (b.0 a.0) ]
-    | inr a ↦ elim k.2 [ inl b ↦ absurd (a.0 b.0) | inr b ↦ (refl, a.1 ∙ sym b.1) ]
-  ]
+  | inl a ↦ elim k.2 [ inl b ↦ (refl, a.1 ∙ sym b.1) | inr b ↦ absurd (b.0 a.0) ]
+  | inr a ↦ elim k.2 [ inl b ↦ absurd (a.0 b.0) | inr b ↦ (refl, a.1 ∙ sym b.1) ]
+]
 checked_once P T Done (Bad k) text other h i = absurd (i.0.illegal (h.0.steps k i.0.step i.0.stands))
 checked_once P T (Bad j) Done text other h i = absurd (h.0.illegal (i.0.steps j h.0.step h.0.stands))
 checked_once P T (Bad j) (Bad k) text other h i =
@@ -88,9 +121,9 @@ first_once Q n j k one two = omega (arith, (λ (l : j < k). two.2 j l one.1), (�
 
 least_once : (T : Run) (c : ℕ) (p q : Point) → IsLeastBreak T c p → IsLeastBreak T c q → p ≡ q
 least_once T c p q one two = elim (one.least q two.breaks) [
-    | inl same ↦ same
-    | inr before ↦ elim (two.least p one.breaks) [ inl same ↦ sym same | inr after ↦ (let reversed = point_cmp-total.antisymm p q in absurd (cc)) ]
-  ]
+  | inl same ↦ same
+  | inr before ↦ elim (two.least p one.breaks) [ inl same ↦ sym same | inr after ↦ (let reversed = point_cmp-total.antisymm p q in absurd (cc)) ]
+]
 
 broken_once : (T : Run) (c d : ℕ) (p q : Point) (f g : ℕ) → IsBroken T c p f → IsBroken T d q g → (c ≡ d) × (p ≡ q) × (f ≡ g)
 broken_once T c d p q f g one two =
@@ -105,7 +138,10 @@ audited_once T (Broken c p f) Done text other h k = absurd (h.0 k.0)
 audited_once T (Broken c p f) (Broken d q g) text other h k =
     let same = broken_once T c d p q f g h.1 k.1 in
     let e = same.0 in let i = same.1 in let j = same.2 in
-    (cc, h.2 ∙ cc ∙ sym k.2)
+    let names = T.opening.names in (
+      ap (λ x. Broken x p f) e ∙ ap (λ x. Broken d x f) i ∙ ap (λ x. Broken d q x) j,
+      h.2 ∙ ap (λ x. broken_line names x p f) e ∙ ap (λ x. broken_line names d x f) i ∙ ap (λ x. broken_line names d q x) j ∙ sym k.2,
+    )
 audited_once T Done Stopped text other h k = absurd k
 audited_once T Done (Bad j) text other h k = absurd k
 audited_once T (Broken c p f) Stopped text other h k = absurd k

@@ -14,7 +14,8 @@ use Rattle.tau_output.specs.declared.outputs.End.TheVariants.{Done, Broken}
 -- the line for a checkpoint that isn't safe: its place, the point with its transactor by name or number, and where that fell
 abbrev pub broken_line : List (List ℕ) → ℕ → Point → ℕ → List ℕ
 broken_line names checkpoint point fall =
-    codes "broken " ++ decimal checkpoint ++ codes " " ++ name_written names point.who ++ codes " " ++ decimal point.interval ++ codes " " ++ decimal point.incarnation ++ codes " " ++ decimal fall ++ codes "\n"
+    codes "broken " ++ decimal checkpoint ++ codes " " ++ name_written names point.who
+    ++ (codes " " ++ decimal point.interval ++ codes " " ++ decimal point.incarnation ++ codes " " ++ decimal fall ++ codes "\n")
 
 -- with Done the run is safe; with Broken it isn't, and these are the first checkpoint whose causal past holds a rolled-back point,
 -- the least such point, and the first place at which that was rolled back

@@ -1,5 +1,5 @@
 //! The command `audit`.
-ghost use Rattle.std.specs.Prelude.{◌≡◌, ◌⊎◌, ℕ, ◌++◌, IfOk, IfErr, OnOk, Err};
+ghost use Rattle.std.specs.Prelude.{◌≡◌, ◌++◌, IfOk, IfErr, OnOk};
 ghost use Rattle.tau_input.specs.Errors.{Tells};
 ghost use Rattle.tau_input.specs.Faults.{IsRunFault};
 ghost use Rattle.tau_value.specs.Written.{name_written};
@@ -17,10 +17,7 @@ use tau_value::Names;
 /// isn't (docs/formats.md, "Command line").
 pub(crate) fn audit_run(alloc: Global, bytes: &[u8]) -> Result<Output, InputError>
     ensures output { IfOk result (λ o. AuditsAs bytes.now o.end o.text.items) }
-
     ensures fault { IfErr result (Tells (IsRunFault bytes.now)) }
-    ensures faulty { (fault at : ℕ) → IsRunFault bytes.now fault at
-        → (result ≡ Err (InputError.Fault fault at)) ⊎ (result ≡ Err InputError.NoMemory) }
 {
     let input = read_run_text(alloc, bytes)?;
     let found = audit(alloc, &input.trace)?;

@@ -9,8 +9,7 @@ use tau_input::program_text;
 
 /// The forms of the generated program of a number, printed (docs/formats.md, "Generated programs").
 pub(crate) fn generate_program(alloc: Global, number: u64) -> Result<Output, AllocError>
-    ensures output { IfOk result (λ o. GeneratesAs number o.text.items) }
-    ensures done { IfOk result (λ o. o.end ≡ End.Done) }
+    ensures { IfOk result (λ o. GeneratesAs number o.text.items × (o.end ≡ End.Done)) }
 {
     let program = generate(alloc, number)?;
     Ok(Output {

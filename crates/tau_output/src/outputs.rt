@@ -26,7 +26,9 @@ pub enum End {
     /// The run has as many steps as its limit and isn't complete.
     Stopped,
     /// The step at this place is the first that isn't legal.
-    Bad { place: u32 },
+    Bad {
+        place: u32,
+    },
     /// The trace isn't safe: the place of the first Checkpoint whose causal past holds a rolled-back point, the least such
     /// point, and the first place at which it was rolled back.
     Broken {
@@ -71,7 +73,10 @@ pub fn output_of(alloc: Global, command: Command, bytes: &[u8]) -> Result<Output
 {
     match command {
         Command::Run {
-            jobs, seed, steps, ..
+            jobs,
+            seed,
+            steps,
+            ..
         } => run_program(alloc, bytes, jobs, seed, steps),
         Command::Check => check_run(alloc, bytes),
         Command::Audit => audit_run(alloc, bytes),

@@ -1,5 +1,5 @@
 //! The command `report`.
-ghost use Rattle.std.specs.Prelude.{◌≡◌, ◌⊎◌, ℕ, IfOk, IfErr, Err};
+ghost use Rattle.std.specs.Prelude.{◌≡◌, IfOk, IfErr};
 ghost use Rattle.tau_input.specs.Errors.{Tells};
 ghost use Rattle.tau_input.specs.Faults.{IsRunFault};
 ghost use Rattle.tau_output.specs.Reports.{ReportsAs};
@@ -11,12 +11,8 @@ use tau_report::report;
 
 /// The report of the program and the run of a run text (docs/formats.md, "Report").
 pub(crate) fn report_run(alloc: Global, bytes: &[u8]) -> Result<Output, InputError>
-    ensures output { IfOk result (λ o. ReportsAs bytes.now o.text.items) }
-    ensures done { IfOk result (λ o. o.end ≡ End.Done) }
-
+    ensures output { IfOk result (λ o. ReportsAs bytes.now o.text.items × (o.end ≡ End.Done)) }
     ensures fault { IfErr result (Tells (IsRunFault bytes.now)) }
-    ensures faulty { (fault at : ℕ) → IsRunFault bytes.now fault at
-        → (result ≡ Err (InputError.Fault fault at)) ⊎ (result ≡ Err InputError.NoMemory) }
 {
     let input = read_run_text(alloc, bytes)?;
     Ok(Output {

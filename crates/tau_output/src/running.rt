@@ -1,5 +1,5 @@
 //! The command `run`.
-ghost use Rattle.std.specs.Prelude.{◌≡◌, ◌⊎◌, ℕ, ◌≤◌, IfOk, IfErr, Err};
+ghost use Rattle.std.specs.Prelude.{◌≡◌, ◌≤◌, IfOk, IfErr};
 ghost use Rattle.tau_input.specs.Errors.{Tells};
 ghost use Rattle.tau_input.specs.Faults.{IsProgramFault};
 ghost use Rattle.tau_output.specs.Runs.{RunsAs};
@@ -21,10 +21,7 @@ pub(crate) fn run_program(
 ) -> Result<Output, InputError>
     requires { steps ≤ 1000000 }
     ensures output { IfOk result (λ o. RunsAs steps bytes.now o.end o.text.items) }
-
     ensures fault { IfErr result (Tells (IsProgramFault bytes.now)) }
-    ensures faulty { (fault at : ℕ) → IsProgramFault bytes.now fault at
-        → (result ≡ Err (InputError.Fault fault at)) ⊎ (result ≡ Err InputError.NoMemory) }
 {
     let program = read_program(alloc, bytes)?;
     let made = tau_serial::run(alloc, &program, steps)?;

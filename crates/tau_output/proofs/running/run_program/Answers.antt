@@ -1,5 +1,9 @@
+use Rattle.tau_input.proofs.AnswerLemmas.{from_no_memory}
 use Rattle.tau_output.proofs.RunLemmas.{runs_as}
 use Rattle.tau_output.proofs.running.run_program.Goals as goal
+
+pub returns-in_err-run_text-clause-fault : goal.returns-in_err-run_text-clause-fault
+returns-in_err-run_text-clause-fault c = from_no_memory _ _ c.from_residual-in_err-run_text.ensures.1
 
 pub returns-clause-output : goal.returns-clause-output
 returns-clause-output c =
