@@ -8,7 +8,7 @@ use Rattle.tau_output.specs.declared.outputs.End.{End}
 use Rattle.tau_output.specs.Faults.{input_limit, reads_input, IsInputFault}
 use Rattle.tau_output.specs.Writing.{Writes}
 use Rattle.tau_cli.specs.declared.statuses.Status.{Status}
-use Rattle.tau_cli.specs.declared.statuses.Status.TheVariants.{Done, Stopped, Words, Input, Bad, ReadFault, WriteFault, NoMemory, Broken}
+use Rattle.tau_cli.specs.declared.statuses.Status.TheVariants.{Done, Stopped, Words, Input, Bad, ReadFault, NoMemory, Broken}
 use Rattle.tau_cli.specs.Status.{of_end}
 
 -- how a command ends where its input has no fault and nothing fails

@@ -12,3 +12,6 @@ mod running;
 
 pub use laws::{output_is_unique, run_texts_tell};
 pub use outputs::{End, INPUT_LIMIT, Output, output_of, reads_input};
+
+#[cfg(test)]
+mod tests;
