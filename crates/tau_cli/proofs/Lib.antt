@@ -1,4 +1,1 @@
-pub mod InputLemmas
 pub mod OutputLemmas
-pub mod RunLemmas
-pub mod TextLemmas

@@ -1,98 +1,49 @@
--- A command writes nothing for an input with a fault, and an input has one fault.
-use Rattle.std.proofs.Common.{◌≡◌, ◌⊎◌, inl, inr, ℕ, ◌≤◌, List, length, Option, Some, None, Result, Ok, Err, IfErr, refl, sym, ◌∙◌, subst, arith}
-use Rattle.std.specs.Result.{IsErrAnd}
-use Rattle.tau_io.specs.Got.{TakesAll}
-use Rattle.tau_cli.specs.declared.commands.Command.{Command}
-use Rattle.tau_cli.specs.declared.commands.Command.TheVariants.{Run, Print}
-use Rattle.tau_cli.specs.declared.inputs.InputError.{InputError}
-use Rattle.tau_cli.specs.declared.inputs.InputError.TheVariants as inputs
+-- What the words of a command line come to.
+use Rattle.std.proofs.Common.{◌≡◌, ◌⊎◌, inr, ℕ, Bool, true, false, List, [], Option, Some, None, IsTrue, refl, sym, ◌∙◌, subst}
+use Rattle.tau_command.specs.declared.commands.Command.{Command}
+use Rattle.tau_command.specs.declared.commands.Command.TheVariants.{Run, Check, Audit, Report, Print, Gen}
+use Rattle.tau_command.specs.Commands.{command_of}
+use Rattle.tau_output.specs.declared.outputs.End.{End}
+use Rattle.tau_output.specs.Faults.{reads_input, IsInputFault}
+use Rattle.tau_output.specs.Writing.{Writes}
 use Rattle.tau_cli.specs.declared.statuses.Status.{Status}
-use Rattle.tau_cli.specs.declared.statuses.Status.TheVariants.{Done, Stopped, Words, Input, ReadFault, WriteFault, NoMemory}
-use Rattle.tau_cli.specs.Commands.{command_of}
-use Rattle.tau_cli.specs.Input.{input_limit, IsInputFault, too_long, no_program, Tells}
-use Rattle.tau_cli.specs.Status.{of_input_error}
-use Rattle.tau_cli.specs.Output.{Writes, IsEndOf, AreLeft, IsOutput, IsFaulty, Stops, IsUnlessUnread}
-use Rattle.tau_cli.proofs.InputLemmas.{one_fault, fault_or_program}
-
--- what an error of bytes within the limit tells is the fault of the input
-pub told_input : {A : Type 0} (r : Result A InputError) (command : Command) (bytes : List ℕ) → length bytes ≤ input_limit → IfErr r (λ e. Tells e bytes)
-    → (a b : ℕ) → r ≡ Err (inputs.Fault a b) → IsInputFault command bytes a b
-told_input (Ok x) command bytes l t a b e = absurd (cc)
-told_input (Err x) command bytes l t a b e =
-    let same : x ≡ inputs.Fault a b = cc in
-    no_program l (subst (λ y. Tells y bytes) same t)
-
--- all that was taken is what was left
-pub taken_are_left : (left after : Option (List ℕ)) (bytes : List ℕ) → TakesAll left after bytes → AreLeft left bytes
-taken_are_left None after bytes h = tt
-taken_are_left (Some all) None bytes h = absurd h
-taken_are_left (Some all) (Some rest) bytes h = h.0
-
--- why a command with a faulty input ends
-stops_at_error : (words : List (List ℕ)) (left : Option (List ℕ)) (U R : Type 0) (command : Command) (bytes : List ℕ) (e : InputError) → command_of words ≡ Some command → AreLeft left bytes
-    → ((a b : ℕ) → e ≡ inputs.Fault a b → IsInputFault command bytes a b) → Stops words left U R (of_input_error e)
-stops_at_error words left U R command bytes (inputs.Fault a b) c l f = record { command = command; is_command = c; bytes = bytes; are_left = l; has_fault = f a b refl }
-stops_at_error words left U R command bytes inputs.NoMemory c l f = tt
-
-pub stops_at_input : {A : Type 0} (r : Result A Status) (words : List (List ℕ)) (left : Option (List ℕ)) (U R : Type 0) (command : Command) (bytes : List ℕ) (e : InputError)
-    → IsErrAnd r (λ s. s ≡ of_input_error e) → command_of words ≡ Some command → AreLeft left bytes
-    → ((a b : ℕ) → e ≡ inputs.Fault a b → IsInputFault command bytes a b) → IfErr r (Stops words left U R)
-stops_at_input (Ok x) words left U R command bytes e h c l f = tt
-stops_at_input (Err s) words left U R command bytes e h c l f =
-    subst (Stops words left U R) (sym h) (stops_at_error words left U R command bytes e c l f)
-
--- an input has one fault
-pub one_input_fault : (command : Command) (bytes : List ℕ) (a b c d : ℕ) → IsInputFault command bytes a b → IsInputFault command bytes c d → (a ≡ c) × (b ≡ d)
-one_input_fault command bytes a b c d (too_long l p q) (too_long m r s) = (p ∙ sym r, q ∙ sym s)
-one_input_fault command bytes a b c d (too_long l p q) (no_program m g) = absurd (omega arith)
-one_input_fault command bytes a b c d (no_program m g) (too_long l p q) = absurd (omega arith)
-one_input_fault command bytes a b c d (no_program m g) (no_program n h) = one_fault bytes a b c d g h
+use Rattle.tau_cli.specs.declared.statuses.Status.TheVariants.{Words, Input, ReadFault, NoMemory}
+use Rattle.tau_cli.specs.Status.{of_end}
+use Rattle.tau_cli.specs.Output.{AreLeft, IsEndOf, IsOutput, Stops}
 
 -- what was left, where it is told
 left_told : (left : Option (List ℕ)) (bytes all : List ℕ) → AreLeft left bytes → left ≡ Some all → bytes ≡ all
 left_told None bytes all h e = cc
 left_told (Some xs) bytes all h e = let same : xs ≡ all = cc in h ∙ same
 
--- a command writes no text for an input with a fault
-pub unwritten : (command : Command) (bytes text : List ℕ) (status : Status) (a b : ℕ) → Writes command bytes status text → IsInputFault command bytes a b → ⊥
-unwritten Run bytes text status a b w (too_long l p q) = let m : length bytes ≤ input_limit = w.0 in omega arith
-unwritten Run bytes text status a b w (no_program l f) = fault_or_program bytes a b w.1.program f w.1.spelled
-unwritten Print bytes text status a b w (too_long l p q) = let m : length bytes ≤ input_limit = w.0 in omega arith
-unwritten Print bytes text status a b w (no_program l f) = fault_or_program bytes a b w.1.program f w.1.spelled
+-- some bytes that were left
+some_left : (left : Option (List ℕ)) → (bytes : List ℕ) × AreLeft left bytes
+some_left None = ([], tt)
+some_left (Some all) = (all, refl)
 
-pub no_output : (words : List (List ℕ)) (left : Option (List ℕ)) (status : Status) (text : List ℕ) (command : Command) (bytes : List ℕ) (a b : ℕ) → IsOutput words left status text
-    → command_of words ≡ Some command → left ≡ Some bytes → IsInputFault command bytes a b → ⊥
-no_output words left status text command bytes a b h c l f =
-    let e : Some h.command ≡ Some command = sym h.is_command ∙ c in
-    let same : h.command ≡ command = cc in
-    let read : h.bytes ≡ bytes = left_told left h.bytes bytes h.are_left l in
-    unwritten command bytes text status a b (subst (λ x. Writes x bytes status text) same (subst (λ x. Writes h.command x status text) read h.writes)) f
+-- a command that reads nothing writes the same for all bytes
+any_bytes : (command : Command) (bytes others : List ℕ) (end : End) (text : List ℕ) → reads_input command ≡ false → Writes command bytes end text → Writes command others end text
+any_bytes (Run workers jobs seed steps) bytes others end text e w = absurd (cc)
+any_bytes Check bytes others end text e w = absurd (cc)
+any_bytes Audit bytes others end text e w = absurd (cc)
+any_bytes Report bytes others end text e w = absurd (cc)
+any_bytes Print bytes others end text e w = absurd (cc)
+any_bytes (Gen number) bytes others end text e w = record { few = λ h. absurd (cc); answers = w.answers }
 
--- the status of an input with a fault
-fault_named : (words : List (List ℕ)) (left : Option (List ℕ)) (command : Command) (bytes : List ℕ) (a b c d : ℕ) → IsFaulty words left c d
-    → command_of words ≡ Some command → left ≡ Some bytes → IsInputFault command bytes a b → Input c d ≡ Input a b
-fault_named words left command bytes a b c d h e l f =
-    let g : Some h.command ≡ Some command = sym h.is_command ∙ e in
-    let same : h.command ≡ command = cc in
-    let read : h.bytes ≡ bytes = left_told left h.bytes bytes h.are_left l in
-    let one = one_input_fault command bytes c d a b (subst (λ x. IsInputFault x bytes c d) same (subst (λ x. IsInputFault h.command x c d) read h.has_fault)) f in
-    cc (one.0, one.1)
-
-pub stops_with_fault : (s : Status) (words : List (List ℕ)) (left : Option (List ℕ)) (U R : Type 0) (command : Command) (bytes : List ℕ) (a b : ℕ) → Stops words left U R s
-    → command_of words ≡ Some command → left ≡ Some bytes → IsInputFault command bytes a b → IsUnlessUnread s (Input a b)
-stops_with_fault Done words left U R command bytes a b h e l f = absurd h
-stops_with_fault Stopped words left U R command bytes a b h e l f = absurd h
-stops_with_fault Words words left U R command bytes a b h e l f = let n : None ≡ Some command = sym h.0 ∙ e in absurd (cc)
-stops_with_fault (Input c d) words left U R command bytes a b h e l f = inl (fault_named words left command bytes a b c d h e l f)
-stops_with_fault ReadFault words left U R command bytes a b h e l f = inr (inl refl)
-stops_with_fault WriteFault words left U R command bytes a b h e l f = absurd h
-stops_with_fault NoMemory words left U R command bytes a b h e l f = inr (inr refl)
+-- what is written for the bytes that were read is what is written for those that were left
+pub output_left : (words : List (List ℕ)) (left : Option (List ℕ)) (command : Command) (bytes : List ℕ) (end : End) (text : List ℕ) → command_of words ≡ Some command
+    → (IsTrue (reads_input command) → AreLeft left bytes) → Writes command bytes end text → IsOutput words left (of_end end) text
+output_left words left command bytes end text c l w = go (reads_input command) refl
+  where
+    go : (b : Bool) → reads_input command ≡ b → IsOutput words left (of_end end) text
+    go true e = record { command = command; is_command = c; bytes = bytes; are_left = l e; end = end; writes = w; is_status = refl }
+    go false e =
+        let some = some_left left in
+        record { command = command; is_command = c; bytes = some.0; are_left = some.1; end = end; writes = any_bytes command bytes some.0 end text e w; is_status = refl }
 
 -- with no fault anywhere, only want of memory is left
 pub stops_without_fault : (s : Status) (words : List (List ℕ)) (left : Option (List ℕ)) (U R : Type 0) (command : Command) (bytes : List ℕ) → Stops words left U R s
     → command_of words ≡ Some command → left ≡ Some bytes → ((a b : ℕ) → ¬ IsInputFault command bytes a b) → ¬ R → IsEndOf command s ⊎ (s ≡ NoMemory)
-stops_without_fault Done words left U R command bytes h e l f r = absurd h
-stops_without_fault Stopped words left U R command bytes h e l f r = absurd h
 stops_without_fault Words words left U R command bytes h e l f r = let n : None ≡ Some command = sym h.0 ∙ e in absurd (cc)
 stops_without_fault (Input a b) words left U R command bytes h e l f r =
     let g : Some h.command ≡ Some command = sym h.is_command ∙ e in
@@ -100,5 +51,5 @@ stops_without_fault (Input a b) words left U R command bytes h e l f r =
     let read : h.bytes ≡ bytes = left_told left h.bytes bytes h.are_left l in
     absurd (f a b (subst (λ x. IsInputFault x bytes a b) same (subst (λ x. IsInputFault h.command x a b) read h.has_fault)))
 stops_without_fault ReadFault words left U R command bytes h e l f r = absurd (r h.1)
-stops_without_fault WriteFault words left U R command bytes h e l f r = absurd h
 stops_without_fault NoMemory words left U R command bytes h e l f r = inr refl
+stops_without_fault s words left U R command bytes h e l f r = absurd h

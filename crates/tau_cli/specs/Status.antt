@@ -1,15 +1,17 @@
 -- The number of a status, and its line on standard error.
-use Rattle.std.specs.Prelude.{ℕ, Bool, true, false, List, [], ◌++◌, codes}
+use Rattle.std.specs.Prelude.{ℕ, List, [], ◌++◌, codes}
 use Rattle.std.specs.Fmt.{decimal}
 use Rattle.tau_io.specs.declared.reading.ReadError.{ReadError}
 use Rattle.tau_io.specs.declared.reading.ReadError.TheVariants as reads
-use Rattle.tau_cli.specs.declared.commands.WordsError.{WordsError}
-use Rattle.tau_cli.specs.declared.commands.WordsError.TheVariants as words
-use Rattle.tau_cli.specs.declared.inputs.InputError.{InputError}
-use Rattle.tau_cli.specs.declared.inputs.InputError.TheVariants as inputs
-use Rattle.tau_cli.specs.Input.{input_limit}
+use Rattle.tau_command.specs.declared.commands.WordsError.{WordsError}
+use Rattle.tau_command.specs.declared.commands.WordsError.TheVariants as words
+use Rattle.tau_input.specs.declared.errors.InputError.{InputError}
+use Rattle.tau_input.specs.declared.errors.InputError.TheVariants as inputs
+use Rattle.tau_output.specs.declared.outputs.End.{End}
+use Rattle.tau_output.specs.declared.outputs.End.TheVariants as ends
+use Rattle.tau_output.specs.Faults.{input_limit}
 use Rattle.tau_cli.specs.declared.statuses.Status.{Status}
-use Rattle.tau_cli.specs.declared.statuses.Status.TheVariants.{Done, Stopped, Words, Input, ReadFault, WriteFault, NoMemory}
+use Rattle.tau_cli.specs.declared.statuses.Status.TheVariants.{Done, Stopped, Words, Input, Bad, ReadFault, WriteFault, NoMemory, Broken}
 
 -- the status of the process
 abbrev pub number_of : Status → ℕ
@@ -17,40 +19,45 @@ number_of Done = 0
 number_of Stopped = 1
 number_of Words = 2
 number_of (Input fault at) = 3
+number_of (Bad place) = 4
 number_of ReadFault = 5
 number_of WriteFault = 6
 number_of NoMemory = 7
+number_of (Broken checkpoint point fall) = 8
 
 -- the line, without its line feed; where all is done there is none
 abbrev pub line_of : Status → List ℕ
 line_of Done = []
 line_of Stopped = codes "tau: stopped at the step limit"
-line_of Words = codes "tau: usage: tau run|print"
+line_of Words = codes "tau: usage: tau run|check|audit|report|print|gen N"
 line_of (Input fault at) = codes "tau: input fault " ++ decimal fault ++ codes " at " ++ decimal at
+line_of (Bad place) = codes "tau: a step is not legal"
 line_of ReadFault = codes "tau: reading failed"
 line_of WriteFault = codes "tau: writing failed"
 line_of NoMemory = codes "tau: out of memory"
+line_of (Broken checkpoint point fall) = codes "tau: a checkpoint is not safe"
 
 -- a status that comes before anything is written
 abbrev pub IsRefusal : Status → Type 0
-IsRefusal Done = ⊥
-IsRefusal Stopped = ⊥
 IsRefusal Words = Unit {0}
 IsRefusal (Input fault at) = Unit {0}
 IsRefusal ReadFault = Unit {0}
-IsRefusal WriteFault = ⊥
-IsRefusal NoMemory = ⊥
+IsRefusal status = ⊥
 
 -- a status that comes where the whole text was written
 abbrev pub IsResult : Status → Type 0
 IsResult Done = Unit {0}
 IsResult Stopped = Unit {0}
+IsResult (Bad place) = Unit {0}
+IsResult (Broken checkpoint point fall) = Unit {0}
 IsResult status = ⊥
 
--- the status where the whole text was written: whether there was nothing left to do
-abbrev pub end_of : Bool → Status
-end_of true = Done
-end_of false = Stopped
+-- the status where the whole text was written
+abbrev pub of_end : End → Status
+of_end ends.Done = Done
+of_end ends.Stopped = Stopped
+of_end (ends.Bad place) = Bad place
+of_end (ends.Broken checkpoint point fall) = Broken checkpoint point fall
 
 -- the status for an error
 abbrev pub of_words_error : WordsError → Status

@@ -1,33 +1,32 @@
 //! The commands, from the words to the status.
-ghost use Rattle.std.specs.Prelude.{◌≡◌, ◌⊎◌, ℕ, List, ◌≤◌, None, Some, Err, IsTrue, IfOk, IfErr, length};
+ghost use Rattle.std.specs.Prelude.{◌≡◌, ◌≢◌, ◌⊎◌, ℕ, ◌<◌, ◌≤◌, List, None, Some, false, IfOk, IfErr, IfSome, IsErr, IsErrOf, IsErrAnd, IsTrue, length, vec_len};
 ghost use Rattle.std.specs.Io.KnownBytes.{Appends};
 ghost use Rattle.tau_io.specs.Faults.{HasRisen};
 ghost use Rattle.tau_io.specs.Put.{AppendsFront};
-ghost use Rattle.tau_cli.specs.declared.commands.Command.{Command};
+ghost use Rattle.tau_command.specs.declared.commands.Command.{Command};
+ghost use Rattle.tau_command.specs.Commands.{command_of};
+ghost use Rattle.tau_output.specs.Faults.{input_limit, reads_input as reads, IsInputFault};
 ghost use Rattle.tau_cli.specs.declared.statuses.Status.{Status};
-ghost use Rattle.tau_cli.specs.Output.{IsPrinted, Writes, IsEndOf, IsOutput, IsFaulty, Stops, IsUnlessUnread};
-ghost use Rattle.tau_cli.specs.Commands.{command_of};
-ghost use Rattle.tau_cli.specs.Input.{input_limit, IsInputFault, Tells};
-ghost use Rattle.tau_cli.specs.Status.{IsRefusal, IsResult, end_of};
+ghost use Rattle.tau_cli.specs.Output.{AreLeft, IsEndOf, IsOutput, IsFaulty, IsTooLong, Stops, IsUnlessUnread};
+ghost use Rattle.tau_cli.specs.Status.{IsRefusal, IsResult, of_end};
 
-use crate::inputs::INPUT_LIMIT;
-use crate::runs::run_program;
-use crate::{Command, InputError, Status, Words, read_program, read_words};
+use crate::Status;
 use std::alloc::Global;
-use tau_forms::forms_of;
-use tau_io::{Sink, Source, WriteError, read_all, write_all_of};
-use tau_sexpr::print_forms;
+use tau_command::{Command, Words, read_words};
+use tau_io::{ReadError, Sink, Source, WriteError, read_all, write_all_of};
+use tau_output::{INPUT_LIMIT, Output, output_of, reads_input};
 
 /// Does what the words of a command line ask for: reads the input of their command, which is at most 16 MiB, and writes
 /// its text, in one call of `write_all_of`. It does all on the caller's thread, and starts no other.
 ///
-/// The status says how it ended (docs/formats.md, "Statuses"): `Words` exactly where the words name no built command,
-/// and then nothing is read; `ReadFault` only where the source's count of faults rose; `Input` exactly where the input
-/// has a fault, the first one (docs/formats.md, "Input faults"). After these nothing is written. `Done` and `Stopped`
+/// The status says how it ended (docs/formats.md, "Statuses"): `Words` exactly where the words name no command, and then
+/// nothing is read; `ReadFault` only where the source's count of faults rose; `Input` exactly where the input has a fault,
+/// the first one (docs/formats.md, "Input faults"). After these nothing is written. `Done`, `Stopped`, `Bad` and `Broken`
 /// where the whole text was written: with `run` the run text of the input's program and a legal run, which is complete
-/// with `Done`, and has exactly 1,000 steps and isn't complete with `Stopped`. `WriteFault` comes only where the sink's
-/// count rose; the sink then holds a front of such a text more than before. `NoMemory` may come in place of each; nothing
-/// or a front of the text is written then.
+/// with `Done`, and has exactly as many steps as its limit and isn't complete with `Stopped`; with `check` the line for the
+/// first step that isn't legal with `Bad`, and with `audit` the line for the first checkpoint that isn't safe with `Broken`.
+/// `WriteFault` comes only where the sink's count rose; the sink then holds a front of such a text more than before.
+/// `NoMemory` may come in place of each; nothing or a front of the text is written then. `gen` reads nothing.
 pub fn tau_still<I: Source, O: Sink>(
     alloc: Global,
     words: &Words,
@@ -41,6 +40,9 @@ pub fn tau_still<I: Source, O: Sink>(
 
     ensures read_fault { result ≡ Status.ReadFault
         → HasRisen (I.faults input.old) (I.faults input.new) }
+    // `gen` reads nothing.
+    ensures untouched { (number : ℕ) → command_of words.now ≡ Some (Command.Gen number)
+        → (input.new ≡ input.old) × (result ≢ Status.ReadFault) }
 
     ensures input { (fault at : ℕ) → result ≡ Status.Input fault at
         → IsFaulty words.now (I.left input.old) fault at }
@@ -75,15 +77,9 @@ pub fn tau_still<I: Source, O: Sink>(
         → ¬ HasRisen (O.faults output.old) (O.faults output.new)
         → IsEndOf command result ⊎ (result ≡ Status.NoMemory) }
 {
-    match output_of(alloc, words, input) {
+    match output_for(alloc, words, input) {
         Ok(answer) => match write_all_of(output, &answer.text) {
-            Ok(()) => {
-                if answer.is_complete {
-                    Status::Done
-                } else {
-                    Status::Stopped
-                }
-            }
+            Ok(()) => Status::from(answer.end),
             Err(WriteError::WriteFault) => Status::WriteFault,
             Err(WriteError::NoMemory) => Status::NoMemory,
         },
@@ -91,50 +87,45 @@ pub fn tau_still<I: Source, O: Sink>(
     }
 }
 
-/// What a command writes.
-#[derive(Drop)]
-pub(crate) struct Answer {
-    pub(crate) text: Vec<u8>,
-    /// Whether nothing was left to do; otherwise a run was stopped at its limit.
-    pub(crate) is_complete: bool,
-}
-
 // What the words ask for, or the status with which they end before anything is written.
-fn output_of<I: Source>(alloc: Global, words: &Words, input: &mut I) -> Result<Answer, Status>
-    ensures output { IfOk result (λ a.
-        IsOutput words.now (I.left input.old) (end_of a.is_complete) a.text.items) }
-    ensures status { IfErr result (λ status.
-        Stops words.now (I.left input.old) (input.new ≡ input.old)
-        (HasRisen (I.faults input.old) (I.faults input.new)) status) }
+fn output_for<I: Source>(alloc: Global, words: &Words, input: &mut I) -> Result<Output, Status>
+    ensures output { IfOk result (λ o.
+        IsOutput words.now (I.left input.old) (of_end o.end) o.text.items) }
+    ensures status { IfErr result (Stops words.now (I.left input.old) (input.new ≡ input.old)
+        (HasRisen (I.faults input.old) (I.faults input.new))) }
+    ensures untouched { (number : ℕ) → command_of words.now ≡ Some (Command.Gen number)
+        → input.new ≡ input.old }
+    ensures faulty { (command : Command) (bytes : List ℕ) (fault at : ℕ)
+        → command_of words.now ≡ Some command → I.left input.old ≡ Some bytes
+        → IsInputFault command bytes fault at
+        → IsErrAnd result (λ status. IsUnlessUnread status (Status.Input fault at)) }
 {
-    let command = read_words(words)?;
-    let bytes = read_all(alloc, input, INPUT_LIMIT)?;
-    Ok(text_of(alloc, command, &bytes)?)
+    let command = read_words(alloc, words)?;
+    let bytes = read_input(alloc, &command, input)?;
+    Ok(output_of(alloc, command, &bytes)?)
 }
 
-// What a command writes for the bytes of its input.
-fn text_of(alloc: Global, command: Command, bytes: &[u8]) -> Result<Answer, InputError>
-    requires { length bytes.now ≤ input_limit }
-    ensures text { IfOk result (λ a. Writes command bytes.now (end_of a.is_complete) a.text.items) }
-    ensures fault { (fault at : ℕ) → result ≡ Err (InputError.Fault fault at)
-        → IsInputFault command bytes.now fault at }
+// The bytes of a command's input, at most 16 MiB; none where the command reads none.
+fn read_input<I: Source>(
+    alloc: Global,
+    command: &Command,
+    input: &mut I,
+) -> Result<Vec<u8>, ReadError>
+    ensures within { IfOk result (λ bytes. vec_len bytes ≤ input_limit) }
+    ensures all { IfOk result (λ bytes. IsTrue (reads command.now)
+        → AreLeft (I.left input.old) bytes.items) }
+
+    ensures fault { IsErrOf result ReadError.ReadFault
+        → HasRisen (I.faults input.old) (I.faults input.new) }
+    ensures reads { IsErr result → IsTrue (reads command.now) }
+    ensures too_long { IsErrOf result ReadError.TooLong → IsTooLong (I.left input.old) }
+    ensures longer { IsErrOf result ReadError.TooLong
+        → IfSome (I.left input.old) (λ all. input_limit < length all) }
+    ensures untouched { reads command.now ≡ false → input.new ≡ input.old }
 {
-    match command {
-        Command::Run => run_program(alloc, bytes),
-        Command::Print => print_program(alloc, bytes),
+    if reads_input(command) {
+        read_all(alloc, input, INPUT_LIMIT)
+    } else {
+        Ok(Vec::new(alloc))
     }
-}
-
-// The forms of the program that the bytes spell, printed.
-fn print_program(alloc: Global, bytes: &[u8]) -> Result<Answer, InputError>
-    ensures text { IfOk result (λ a. IsPrinted bytes.now a.text.items) }
-    ensures complete { IfOk result (λ a. IsTrue a.is_complete) }
-    ensures fault { IfErr result (λ e. Tells e bytes.now) }
-{
-    let program = read_program(alloc, bytes)?;
-    let forms = forms_of(alloc, &program)?;
-    Ok(Answer {
-        text: print_forms(alloc, &forms)?,
-        is_complete: true,
-    })
 }

@@ -4,12 +4,13 @@ ghost use Rattle.std.specs.Process.{exit_status};
 ghost use Rattle.tau_cli.specs.declared.statuses.Status.{Status};
 ghost use Rattle.tau_cli.specs.Status.{number_of};
 
-use crate::{Line, Status, Words, WordsError, number, tau_still};
+use crate::{Status, number, tau_still};
 use std::alloc::Global;
 use std::env;
 use std::io::{self, ErrorKind};
 use std::process::ExitCode;
 use std::rt::Env;
+use tau_command::{Line, Words, WordsError};
 use tau_io::{StdSink, StdSource};
 
 /// Does what the command line of the process asks for, from standard input to standard output. It prints the line of
@@ -40,7 +41,7 @@ fn process_status(rt: &HostRuntime) -> Status {
 // The words of the command line, without the program's own name.
 fn collect_words<R: Env + Alloc>(rt: &R, alloc: Global) -> Result<Words, WordsError> {
     let mut words = Words::new(alloc);
-    for word in env::args(rt)?.skip(1) {
+    for word in env::args(rt).map_err(words_error)?.skip(1) {
         let line = Line::of(alloc, word.as_str())?;
         if let Err((_line, error)) = words.push(line) {
             return Err(error.into());
@@ -49,11 +50,10 @@ fn collect_words<R: Env + Alloc>(rt: &R, alloc: Global) -> Result<Words, WordsEr
     Ok(words)
 }
 
-impl From<io::Error> for WordsError {
-    fn from(error: io::Error) -> WordsError {
-        match error.kind() {
-            ErrorKind::OutOfMemory => WordsError::NoMemory,
-            _ => WordsError::Words,
-        }
+// A word that isn't UTF-8 is a faulty command line.
+fn words_error(error: io::Error) -> WordsError {
+    match error.kind() {
+        ErrorKind::OutOfMemory => WordsError::NoMemory,
+        _ => WordsError::Words,
     }
 }

@@ -2,10 +2,12 @@
 ghost use Rattle.std.specs.Prelude.{◌≡◌};
 ghost use Rattle.tau_cli.specs.Status.{number_of};
 
-use crate::inputs::INPUT_LIMIT;
-use crate::{InputError, WordsError};
 use std::fmt;
+use tau_command::WordsError;
+use tau_input::InputError;
 use tau_io::ReadError;
+use tau_output::{End, INPUT_LIMIT};
+use tau_points::Point;
 
 /// How a command ended (docs/formats.md, "Statuses"). It is displayed as its line on standard error, without the line
 /// feed; `Done` is displayed as nothing.
@@ -15,15 +17,29 @@ pub enum Status {
     Done,
     /// The whole text was written, of a run that has as many steps as its limit and isn't complete.
     Stopped,
-    /// The words of the command line name no built command.
+    /// The words of the command line name no command.
     Words,
     /// The input has a fault, with this number and at this place (docs/formats.md, "Input faults").
-    Input { fault: u8, at: u64 },
+    Input {
+        fault: u8,
+        at: u64,
+    },
+    /// The whole text was written, of a check: the step at this place is the first that isn't legal.
+    Bad {
+        place: u32,
+    },
     /// A read failed.
     ReadFault,
     /// A write failed.
     WriteFault,
     NoMemory,
+    /// The whole text was written, of an audit: the trace isn't safe. The place of the first Checkpoint whose causal past
+    /// holds a rolled-back point, the least such point, and the first place at which it was rolled back.
+    Broken {
+        checkpoint: u32,
+        point: Point,
+        fall: u32,
+    },
 }
 
 /// The number of a status, with which the process ends (docs/formats.md, "Statuses").
@@ -35,9 +51,35 @@ pub fn number(status: &Status) -> u8
         Status::Stopped => 1,
         Status::Words => 2,
         Status::Input { .. } => 3,
+        Status::Bad { .. } => 4,
         Status::ReadFault => 5,
         Status::WriteFault => 6,
         Status::NoMemory => 7,
+        Status::Broken { .. } => 8,
+    }
+}
+
+impl From<End> for Status {
+    ghost use Rattle.std.specs.Prelude.{◌≡◌};
+    ghost use Rattle.tau_cli.specs.Status.{of_end};
+
+    ghost from_gives = { λ end s. s ≡ of_end end };
+
+    fn from(end: End) -> Status {
+        match end {
+            End::Done => Status::Done,
+            End::Stopped => Status::Stopped,
+            End::Bad { place } => Status::Bad { place },
+            End::Broken {
+                checkpoint,
+                point,
+                fall,
+            } => Status::Broken {
+                checkpoint,
+                point,
+                fall,
+            },
+        }
     }
 }
 
@@ -97,11 +139,13 @@ impl fmt::Display for Status {
         match self {
             Status::Done => Ok(()),
             Status::Stopped => f.write_str("tau: stopped at the step limit"),
-            Status::Words => f.write_str("tau: usage: tau run|print"),
+            Status::Words => f.write_str("tau: usage: tau run|check|audit|report|print|gen N"),
             Status::Input { fault, at } => write!(f, "tau: input fault {fault} at {at}"),
+            Status::Bad { .. } => f.write_str("tau: a step is not legal"),
             Status::ReadFault => f.write_str("tau: reading failed"),
             Status::WriteFault => f.write_str("tau: writing failed"),
             Status::NoMemory => f.write_str("tau: out of memory"),
+            Status::Broken { .. } => f.write_str("tau: a checkpoint is not safe"),
         }
     }
 }

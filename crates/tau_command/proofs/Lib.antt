@@ -1,2 +1,4 @@
 pub mod MatchLemmas
 pub mod NumberLemmas
+pub mod PassingLemmas
+pub mod RangeLemmas

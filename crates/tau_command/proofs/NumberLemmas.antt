@@ -23,11 +23,11 @@ digits_back [] h = refl
 digits_back (d ∷ ds) h = rw (lt-ltb (digit_value d) 10 h.0) (digits_back ds h.1)
 
 -- the test of a number in so many bits, where the digits are a numeral below the limit
-passes : (most : ℕ) (ds : Text) → IsNumeral 10 ds → digits_value 10 ds < most → (is_numeral ds && nat_lt (digits_value 10 ds) most) ≡ true
+pub passes : (most : ℕ) (ds : Text) → IsNumeral 10 ds → digits_value 10 ds < most → (is_numeral ds && nat_lt (digits_value 10 ds) most) ≡ true
 passes most ds numeral fits = rw (lt-ltb _ _ numeral.0, digits_back ds numeral.1, lt-ltb _ _ fits) refl
 
 -- and what the test says
-passed : (most : ℕ) (ds : Text) → (is_numeral ds && nat_lt (digits_value 10 ds) most) ≡ true → IsNumeral 10 ds × (digits_value 10 ds < most)
+pub passed : (most : ℕ) (ds : Text) → (is_numeral ds && nat_lt (digits_value 10 ds) most) ≡ true → IsNumeral 10 ds × (digits_value 10 ds < most)
 passed most ds e =
     let parts = both _ _ e in
     let numeral = both _ _ parts.0 in

@@ -1,5 +1,5 @@
 -- The command that the words of a command line name.
-use Rattle.std.specs.Prelude.{ℕ, Bool, true, false, not, ◌&&◌, ◌||◌, ◌^◌, List, [], ◌∷◌, Option, Some, None, find, codes}
+use Rattle.std.specs.Prelude.{ℕ, ◌≤◌, Bool, true, false, not, ◌&&◌, ◌||◌, ◌^◌, List, [], ◌∷◌, Option, Some, None, find, codes}
 use Rattle.std.specs.Prelude.{if◌then◌else◌, nat_lt, option_map, option_and_then}
 use Rattle.std.specs.Str.{bytes_eq}
 use Rattle.std.specs.Str.Parse.{digits_value, without_leading_plus}
@@ -79,3 +79,8 @@ where_faultless (kind ∷ kinds) command = None
 unfoldable pub command_of : List Text → Option Command
 command_of words =
     where_faultless (fault_of tau_command words) (command_matched (matches_of tau_command words))
+
+-- the numbers of `run` lie in the ranges of its options
+abbrev pub IsInRange : Command → Type 0
+IsInRange (Run workers jobs seed steps) = (1 ≤ workers) × (workers ≤ 32) × (1 ≤ jobs) × (jobs ≤ 16) × (steps ≤ 4000)
+IsInRange command = Unit {0}

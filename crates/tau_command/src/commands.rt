@@ -2,7 +2,7 @@
 ghost use Rattle.std.specs.Prelude.{◌≡◌, ◌≢◌, None, Some, [], IfOk, IsErrOf};
 ghost use Rattle.clap.specs.Words.{fault_of, found_of, matches_of, rows_of};
 ghost use Rattle.tau_command.specs.Arguments.{tau_command};
-ghost use Rattle.tau_command.specs.Commands.{command_of};
+ghost use Rattle.tau_command.specs.Commands.{command_of, IsInRange};
 
 use crate::Words;
 use crate::arguments::tau_command;
@@ -66,6 +66,7 @@ impl From<AllocError> for WordsError {
 /// `Words` comes exactly where they name none; want of memory may come in place of each answer.
 pub fn read_words(alloc: Global, words: &Words) -> Result<Command, WordsError>
     ensures command { IfOk result (λ c. command_of words.now ≡ Some c) }
+    ensures ranges { IfOk result IsInRange }
     ensures words { IsErrOf result WordsError.Words → command_of words.now ≡ None }
 {
     let matches = match_words(alloc, words)?;

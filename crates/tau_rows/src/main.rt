@@ -1,10 +1,11 @@
-//! Programs with what `tau` writes for them. Standard input has sections: a line `# WORDS`, and then an input. For each
-//! section the line is written, then what the command of these words writes for the input, and its status on a line `; N`.
+//! Inputs with what `tau` writes for them. Standard input has sections: a line `# WORDS`, and then an input. For each
+//! section the line is written, then what the command of these words writes for the input, and on a line `; N LINE` the
+//! number of its status and the status's line on standard error.
 #![tactic(auto)]
 
 use std::alloc::{AllocError, Global};
 use std::process::ExitCode;
-use tau_cli::{Line, Words, number, tau_still};
+use tau_cli::{Line, Status, Words, number, tau_still};
 use tau_io::{ReadError, StdSink, StdSource, SteadySink, SteadySource, read_all, write_all_of};
 
 fn main(rt: HostRuntime) -> ExitCode {
@@ -70,8 +71,17 @@ fn add_section(
     text.extend_from_slice(line)?;
     text.push(b'\n')?;
     text.extend_from_slice(output.bytes())?;
+    add_status(alloc, text, status)
+}
+
+// Adds a line with the number of a status, and the line that the program prints for it.
+fn add_status(alloc: Global, text: &mut Vec<u8>, status: Status) -> Result<(), AllocError> {
     text.extend_from_slice(b"; ")?;
     text.push(b'0' + number(&status) % 10)?;
+    if status != Status::Done {
+        text.push(b' ')?;
+        text.extend_from_slice(status.to_string(alloc)?.as_bytes())?;
+    }
     text.push(b'\n')?;
     Ok(())
 }

@@ -1,0 +1,8 @@
+//! The program `tau` with a run text that has a checkpoint that isn't safe.
+#![tactic(auto)]
+
+use std::process::ExitCode;
+
+fn main(rt: HostRuntime) -> ExitCode {
+    tau_cli::run_process(&rt)
+}

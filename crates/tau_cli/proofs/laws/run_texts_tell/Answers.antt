@@ -1,5 +1,0 @@
-use Rattle.tau_cli.proofs.RunLemmas.{texts_tell_runs}
-use Rattle.tau_cli.proofs.laws.run_texts_tell.Goals as goal
-
-pub returns : goal.returns
-returns c = texts_tell_runs

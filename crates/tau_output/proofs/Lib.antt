@@ -1,0 +1,4 @@
+pub mod RunLemmas
+pub mod CheckLemmas
+pub mod AuditLemmas
+pub mod LawLemmas

@@ -1,0 +1,72 @@
+-- What `run` writes for a program that it could read, and what its text determines.
+use Rattle.std.proofs.Common.{◌≡◌, inl, inr, ℕ, ◌≤◌, Bool, true, false, List, [], ◌∷◌, IsTrue, IsFalse, All, refl, sym, subst}
+use Rattle.std.proofs.lemmas.List.Elements.{All-nil, All-cons, All-append}
+use Rattle.tau_sexpr.specs.Tree.{Tree}
+use Rattle.tau_tree.specs.declared.programs.Program.{Program}
+use Rattle.tau_trace.specs.declared.step.Step.TheVariants.{Take, Drop, Fall, Checkpoint, Hold}
+use Rattle.tau_trace.specs.Run.{Run, len}
+use Rattle.tau_trace.specs.Known.{WellFormed}
+use Rattle.tau_legal.specs.Traces.{Legal, Complete}
+use Rattle.tau_legal.proofs.TraceLemmas.{legal_safe}
+use Rattle.tau_report.specs.Report.{SavedForms, none, without, with_one, counts_form, IsReport}
+use Rattle.tau_text.specs.RunText.{IsRunText, IsReadBack}
+use Rattle.tau_text.specs.Laws.{Tells}
+use Rattle.tau_text.proofs.Telling.{texts_tell}
+use Rattle.tau_input.specs.Meaning.{IsProgram}
+use Rattle.tau_output.specs.declared.outputs.End.{End}
+use Rattle.tau_output.specs.declared.outputs.End.TheVariants.{Done, Stopped}
+use Rattle.tau_output.specs.Ends.{end_of_run}
+use Rattle.tau_output.specs.Runs.{EndsAs, IsDecided, IsReportLine, RunsAs}
+use Rattle.tau_output.specs.Laws.{TextsTellRuns}
+
+-- each step of a legal run is decided by what was heard
+decided : (P : Program) (T : Run) → Legal P T → IsDecided T
+decided P T l = record {
+  checkpoints = λ t k e. (l.steps k (Checkpoint t) e).fits.1;
+  holds = λ t k e. (l.steps k (Hold t) e).fits.1;
+  takes = λ t m k e. (l.steps k (Take t m) e).fits.1;
+  drops = λ t m k e. (l.steps k (Drop t m) e).fits.1;
+  falls = λ t m k e. (l.steps k (Fall t m) e).fits.1;
+}
+
+-- each form for a saved state is a line of the report, and so are the counts
+saved_lines : (P : Program) (T : Run) (n : ℕ) (forms : List Tree) → SavedForms P T n forms → All (IsReportLine P T) forms
+saved_lines P T n forms none = All-nil (IsReportLine P T)
+saved_lines P T n forms (without not before) = saved_lines P T _ forms before
+saved_lines P T n forms (with_one {t = t} {form = form} {forms = front} one before) =
+    All-append (IsReportLine P T) front (form ∷ []) (saved_lines P T t front before) (All-cons (IsReportLine P T) form [] (inr (t, one)) (All-nil (IsReportLine P T)))
+
+report_lines : (P : Program) (T : Run) (forms : List Tree) → IsReport P T forms → All (IsReportLine P T) forms
+report_lines P T forms r =
+    let L : Tree → Type 0 = IsReportLine P T in
+    subst (All L) (sym r.is) (All-append L r.saved (counts_form T ∷ []) (saved_lines P T _ r.saved r.saved_are) (All-cons L (counts_form T) [] (inl refl) (All-nil L)))
+
+-- how the run ends
+ends : (limit : ℕ) (P : Program) (T : Run) (is_complete : Bool) → (IsTrue is_complete → Complete P T × (len T ≤ limit)) → (IsFalse is_complete → (¬ Complete P T) × (len T ≡ limit)) → EndsAs limit P T (end_of_run is_complete)
+ends limit P T true complete stopped = complete refl
+ends limit P T false complete stopped = stopped refl
+
+-- what is written for a program is the text of a legal run
+pub runs_as : (limit : ℕ) (P : Program) (T : Run) (is_complete : Bool) (bytes text : List ℕ) → IsProgram bytes P → WellFormed T → Legal P T → (IsTrue is_complete → Complete P T × (len T ≤ limit))
+    → (IsFalse is_complete → (¬ Complete P T) × (len T ≡ limit)) → IsRunText P T text → IsReadBack P T text → RunsAs limit bytes (end_of_run is_complete) text
+runs_as limit P T is_complete bytes text spelled well legal complete stopped is_text read_back =
+    record { program = P; spelled = spelled; run = T; well_formed = well; is_text = is_text; read_back = read_back; legal = legal; ends = ends limit P T is_complete complete stopped; safe = legal_safe P T well legal; decided = decided P T legal; saved = report_lines P T is_text.are.report is_text.are.report_is }
+
+-- a run ends in one way
+ends_once : (limit other : ℕ) (P : Program) (T : Run) (end another : End) → EndsAs limit P T end → EndsAs other P T another → end ≡ another
+ends_once limit other P T Done Done a b = refl
+ends_once limit other P T Done Stopped a b = absurd (b.0 a.0)
+ends_once limit other P T Stopped Done a b = absurd (a.0 b.0)
+ends_once limit other P T Stopped Stopped a b = refl
+ends_once limit other P T Done s a b = absurd b
+ends_once limit other P T Stopped s a b = absurd b
+ends_once limit other P T s another a b = absurd a
+
+-- the text determines the program, the run and the end
+pub texts_tell_runs : TextsTellRuns
+texts_tell_runs limit other bytes others end another text one two =
+    let a : Tells one.program one.run text = record { well_formed = one.well_formed; opening = one.legal.opening; read_back = one.read_back } in
+    let b : Tells two.program two.run text = record { well_formed = two.well_formed; opening = two.legal.opening; read_back = two.read_back } in
+    let same = texts_tell one.program two.program one.run two.run text a b in
+    let there : EndsAs other one.program one.run another = subst (λ P. EndsAs other P one.run another) (sym same.0) (subst (λ T. EndsAs other two.program T another) (sym same.1) two.ends) in
+    record { program = same.0; run = same.1; ends = ends_once limit other one.program one.run end another one.ends there }

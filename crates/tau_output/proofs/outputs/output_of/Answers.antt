@@ -1,0 +1,23 @@
+use Rattle.tau_command.specs.declared.commands.Command.TheVariants.{Run, Check, Audit, Report, Print}
+use Rattle.tau_output.proofs.LawLemmas.{answer_told}
+use Rattle.tau_output.proofs.outputs.output_of.Goals as goal
+
+pub returns-in-Run-clause-faulty : goal.returns-in-Run-clause-faulty
+returns-in-Run-clause-faulty c =
+    answer_told c.args.command (Run c.in-Run.workers c.in-Run.jobs c.in-Run.seed c.in-Run.steps) c.args.bytes.now c.run_program.result c.in-Run.is c.requires.bytes c.run_program.ensures.output c.run_program.ensures.fault
+
+pub returns-in-Check-clause-faulty : goal.returns-in-Check-clause-faulty
+returns-in-Check-clause-faulty c =
+    answer_told c.args.command Check c.args.bytes.now c.check_run.result c.in-Check.is c.requires.bytes c.check_run.ensures.output c.check_run.ensures.fault
+
+pub returns-in-Audit-clause-faulty : goal.returns-in-Audit-clause-faulty
+returns-in-Audit-clause-faulty c =
+    answer_told c.args.command Audit c.args.bytes.now c.audit_run.result c.in-Audit.is c.requires.bytes c.audit_run.ensures.output c.audit_run.ensures.fault
+
+pub returns-in-Report-clause-faulty : goal.returns-in-Report-clause-faulty
+returns-in-Report-clause-faulty c =
+    answer_told c.args.command Report c.args.bytes.now c.report_run.result c.in-Report.is c.requires.bytes c.report_run.ensures.output c.report_run.ensures.fault
+
+pub returns-in-Print-clause-faulty : goal.returns-in-Print-clause-faulty
+returns-in-Print-clause-faulty c =
+    answer_told c.args.command Print c.args.bytes.now c.print_program.result c.in-Print.is c.requires.bytes c.print_program.ensures.output c.print_program.ensures.fault

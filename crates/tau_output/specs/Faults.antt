@@ -1,0 +1,32 @@
+-- The fault of the input of a command (docs/formats.md, "Input faults").
+use Rattle.std.specs.Prelude.{◌≡◌, ℕ, ◌<◌, ◌≤◌, Bool, true, false, IsTrue, List, length}
+use Rattle.tau_command.specs.declared.commands.Command.{Command}
+use Rattle.tau_command.specs.declared.commands.Command.TheVariants.{Run, Check, Audit, Report, Print, Gen}
+use Rattle.tau_input.specs.Faults.{IsProgramFault, IsRunFault, IsPrintFault}
+
+-- how many bytes an input may have: 16 MiB
+abbrev pub input_limit : ℕ
+input_limit = 16777216
+
+-- whether a command reads an input
+abbrev pub reads_input : Command → Bool
+reads_input (Run workers jobs seed steps) = true
+reads_input Check = true
+reads_input Audit = true
+reads_input Report = true
+reads_input Print = true
+reads_input (Gen number) = false
+
+-- the first fault of bytes as the command takes them
+abbrev pub IsFaultOf : Command → List ℕ → ℕ → ℕ → Type 0
+IsFaultOf (Run workers jobs seed steps) bytes fault at = IsProgramFault bytes fault at
+IsFaultOf Check bytes fault at = IsRunFault bytes fault at
+IsFaultOf Audit bytes fault at = IsRunFault bytes fault at
+IsFaultOf Report bytes fault at = IsRunFault bytes fault at
+IsFaultOf Print bytes fault at = IsPrintFault bytes fault at
+IsFaultOf (Gen number) bytes fault at = ⊥
+
+-- the input of a command has this fault at this place: too many bytes first
+pub data IsInputFault (command : Command) (bytes : List ℕ) (fault at : ℕ) : Type 0 where
+  too_long : IsTrue (reads_input command) → input_limit < length bytes → fault ≡ 10 → at ≡ input_limit → IsInputFault command bytes fault at
+  within : length bytes ≤ input_limit → IsFaultOf command bytes fault at → IsInputFault command bytes fault at

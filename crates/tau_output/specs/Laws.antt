@@ -1,0 +1,35 @@
+-- What holds of all inputs: a command writes one text, none for an input with a fault, an input has one fault, and what `run` writes
+-- determines its program and its run.
+use Rattle.std.specs.Prelude.{◌≡◌, ℕ, List}
+use Rattle.tau_command.specs.declared.commands.Command.{Command}
+use Rattle.tau_command.specs.declared.commands.Command.TheVariants.{Run}
+use Rattle.tau_output.specs.declared.outputs.End.{End}
+use Rattle.tau_output.specs.Faults.{IsInputFault}
+use Rattle.tau_output.specs.Runs.{RunsAs}
+use Rattle.tau_output.specs.Writing.{Writes}
+
+-- a command that runs nothing
+abbrev pub RunsNothing : Command → Type 0
+RunsNothing (Run workers jobs seed steps) = ⊥
+RunsNothing command = Unit {0}
+
+-- a command that runs nothing writes no other text for the same bytes, and ends in no other way
+abbrev pub WritesOnce : List ℕ → Type 0
+WritesOnce bytes = (command : Command) (end another : End) (text other : List ℕ) → RunsNothing command → Writes command bytes end text → Writes command bytes another other → (end ≡ another) × (text ≡ other)
+
+-- a command writes nothing for bytes with a fault
+abbrev pub WritesWithoutFault : List ℕ → Type 0
+WritesWithoutFault bytes = (command : Command) (end : End) (text : List ℕ) (fault at : ℕ) → Writes command bytes end text → ¬ IsInputFault command bytes fault at
+
+-- the bytes of an input have one fault at most
+abbrev pub FailsOnce : List ℕ → Type 0
+FailsOnce bytes = (command : Command) (a b c d : ℕ) → IsInputFault command bytes a b → IsInputFault command bytes c d → (a ≡ c) × (b ≡ d)
+
+-- a text that `run` writes, whatever the input, the limit and the end, determines the program, the run and the end
+pub record IsSameRun {limit other : ℕ} {bytes others : List ℕ} {end another : End} {text : List ℕ} (one : RunsAs limit bytes end text) (two : RunsAs other others another text) : Type 0 where
+  pub program : one.program ≡ two.program
+  pub run : one.run ≡ two.run
+  pub ends : end ≡ another
+
+abbrev pub TextsTellRuns : Type 0
+TextsTellRuns = (limit other : ℕ) (bytes others : List ℕ) (end another : End) (text : List ℕ) (one : RunsAs limit bytes end text) (two : RunsAs other others another text) → IsSameRun one two

@@ -1,0 +1,9 @@
+pub mod Faults
+pub mod Runs
+pub mod Checks
+pub mod Audits
+pub mod Reports
+pub mod Printing
+pub mod Ends
+pub mod Writing
+pub mod Laws

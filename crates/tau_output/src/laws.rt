@@ -1,0 +1,15 @@
+//! Laws of inputs and of what is written. The calls do nothing: what they ensure holds of all bytes.
+ghost use Rattle.tau_output.specs.Laws.{WritesOnce, WritesWithoutFault, FailsOnce, TextsTellRuns};
+
+/// For an input a command writes one text, or the input has one fault, and not both (docs/formats.md, "Input faults"). Of
+/// `run` it is said that it writes none where there is a fault; which legal run it writes isn't said here.
+pub fn output_is_unique(_bytes: &[u8])
+    ensures once { WritesOnce _bytes.now }
+    ensures without_fault { WritesWithoutFault _bytes.now }
+    ensures one_fault { FailsOnce _bytes.now }
+{}
+
+/// The text that `run` writes determines the program, the run and the end (docs/definitions.md, "Run text").
+pub fn run_texts_tell()
+    ensures { TextsTellRuns }
+{}

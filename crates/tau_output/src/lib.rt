@@ -1,0 +1,17 @@
+//! What each command writes for the bytes of its input, and how it then ends (docs/formats.md, "Command line").
+#![tactic(auto)]
+
+mod auditing;
+mod checking;
+mod generating;
+mod laws;
+mod outputs;
+mod printing;
+mod reporting;
+mod running;
+
+pub use laws::{output_is_unique, run_texts_tell};
+pub use outputs::{End, INPUT_LIMIT, Output, output_of, reads_input};
+
+#[cfg(test)]
+mod tests;

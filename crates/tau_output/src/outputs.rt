@@ -1,0 +1,87 @@
+//! What commands write.
+ghost use Rattle.std.specs.Prelude.{◌≡◌, ◌⊎◌, ℕ, ◌≤◌, length, IfOk, IfErr, Err};
+ghost use Rattle.tau_input.specs.Errors.{Tells};
+ghost use Rattle.tau_output.specs.Faults.{input_limit, reads_input as reads, IsInputFault};
+ghost use Rattle.tau_output.specs.Writing.{Writes, HasLimit};
+
+use crate::auditing::audit_run;
+use crate::checking::check_run;
+use crate::generating::generate_program;
+use crate::printing::print_program;
+use crate::reporting::report_run;
+use crate::running::run_program;
+use std::alloc::Global;
+use tau_command::Command;
+use tau_input::InputError;
+use tau_points::Point;
+
+/// How many bytes an input may have (docs/limits.md).
+pub const INPUT_LIMIT: usize = 16_777_216;
+
+/// How a command ends that writes its whole text (docs/formats.md, "Statuses").
+#[derive(Clone, Copy, Debug, PartialEq, Eq)]
+pub enum End {
+    /// Nothing is left to say.
+    Done,
+    /// The run has as many steps as its limit and isn't complete.
+    Stopped,
+    /// The step at this place is the first that isn't legal.
+    Bad {
+        place: u32,
+    },
+    /// The trace isn't safe: the place of the first Checkpoint whose causal past holds a rolled-back point, the least such
+    /// point, and the first place at which it was rolled back.
+    Broken {
+        checkpoint: u32,
+        point: Point,
+        fall: u32,
+    },
+}
+
+/// The text that a command writes, and how it ends then.
+#[derive(Drop)]
+pub struct Output {
+    pub text: Vec<u8>,
+    pub end: End,
+}
+
+/// Whether a command reads an input (docs/formats.md, "Command line").
+pub fn reads_input(command: &Command) -> bool
+    ensures { result ≡ reads command.now }
+{
+    match command {
+        Command::Run { .. } => true,
+        Command::Check => true,
+        Command::Audit => true,
+        Command::Report => true,
+        Command::Print => true,
+        Command::Gen { .. } => false,
+    }
+}
+
+/// What a command writes for the bytes of its input (docs/formats.md, "Command line"). The bytes are passed over where it
+/// reads none.
+/// `Fault` comes exactly where the input has a fault, with the first one (docs/formats.md, "Input faults").
+pub fn output_of(alloc: Global, command: Command, bytes: &[u8]) -> Result<Output, InputError>
+    requires bytes { length bytes.now ≤ input_limit }
+    requires limit { HasLimit command }
+    ensures output { IfOk result (λ o. Writes command bytes.now o.end o.text.items) }
+
+    ensures fault { IfErr result (Tells (IsInputFault command bytes.now)) }
+    ensures faulty { (fault at : ℕ) → IsInputFault command bytes.now fault at
+        → (result ≡ Err (InputError.Fault fault at)) ⊎ (result ≡ Err InputError.NoMemory) }
+{
+    match command {
+        Command::Run {
+            jobs,
+            seed,
+            steps,
+            ..
+        } => run_program(alloc, bytes, jobs, seed, steps),
+        Command::Check => check_run(alloc, bytes),
+        Command::Audit => audit_run(alloc, bytes),
+        Command::Report => report_run(alloc, bytes),
+        Command::Print => print_program(alloc, bytes),
+        Command::Gen { number } => Ok(generate_program(alloc, number)?),
+    }
+}

@@ -1,0 +1,39 @@
+//! The command `run`.
+ghost use Rattle.std.specs.Prelude.{◌≡◌, ◌≤◌, IfOk, IfErr};
+ghost use Rattle.tau_input.specs.Errors.{Tells};
+ghost use Rattle.tau_input.specs.Faults.{IsProgramFault};
+ghost use Rattle.tau_output.specs.Runs.{RunsAs};
+ghost use Rattle.tau_output.specs.Ends.{end_of_run};
+
+use crate::{End, Output};
+use std::alloc::Global;
+use tau_input::{InputError, read_program};
+use tau_text::run_text;
+
+/// The run text of the program that the bytes spell, run by one worker, with at most so many steps (docs/formats.md, "Run
+/// text").
+pub(crate) fn run_program(
+    alloc: Global,
+    bytes: &[u8],
+    _jobs: u32,
+    _seed: u64,
+    steps: u32,
+) -> Result<Output, InputError>
+    requires { steps ≤ 1000000 }
+    ensures output { IfOk result (λ o. RunsAs steps bytes.now o.end o.text.items) }
+    ensures fault { IfErr result (Tells (IsProgramFault bytes.now)) }
+{
+    let program = read_program(alloc, bytes)?;
+    let made = tau_serial::run(alloc, &program, steps)?;
+    Ok(Output {
+        text: run_text(alloc, &program, &made.trace)?,
+        end: end_of(made.is_complete),
+    })
+}
+
+// How a run ends, by whether it is complete.
+fn end_of(is_complete: bool) -> End
+    ensures { result ≡ end_of_run is_complete }
+{
+    if is_complete { End::Done } else { End::Stopped }
+}
