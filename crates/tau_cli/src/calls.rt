@@ -53,7 +53,7 @@ pub fn tau_still<I: Source, O: Sink>(
 
     ensures unwritten { IsRefusal result → output.new ≡ output.old }
 
-    // The text is that of the command for the input; with `run` it is as `RunsAs` says.
+    // The text is that of the command for the input; with `run` it is as `RunsSerially` says.
     ensures written { IsResult result
         → (text : List ℕ) × IsOutput words.now (I.left input.old) result text
         × Appends (O.held output.old) (O.held output.new) text }

@@ -10,6 +10,7 @@ use Rattle.tau_past.specs.Safety.{Safe}
 use Rattle.tau_legal.specs.Traces.{Legal, Complete}
 use Rattle.tau_report.specs.Report.{IsSavedForm, counts_form}
 use Rattle.tau_text.specs.RunText.{IsRunText, IsReadBack}
+use Rattle.tau_serial.specs.SerialRun.{IsSerialRun}
 use Rattle.tau_input.specs.Meaning.{IsProgram}
 use Rattle.tau_output.specs.declared.outputs.End.{End}
 use Rattle.tau_output.specs.declared.outputs.End.TheVariants.{Done, Stopped}
@@ -58,3 +59,8 @@ pub record RunsAs (steps : ℕ) (bytes : List ℕ) (end : End) (text : List ℕ)
   pub decided : IsDecided run
   -- each value on a saved line of the report was saved by a Checkpoint or is an opening state
   pub saved : All (IsReportLine program run) is_text.are.report
+
+-- as one worker runs it that holds so many jobs at most and chooses by this seed: the run is the serial one
+pub record RunsSerially (jobs seed steps : ℕ) (bytes : List ℕ) (end : End) (text : List ℕ) : Type 0 where
+  pub runs : RunsAs steps bytes end text
+  pub serial : IsSerialRun runs.program jobs seed steps runs.run

@@ -5,7 +5,7 @@ use Rattle.tau_command.specs.declared.commands.Command.TheVariants.{Run, Check, 
 use Rattle.tau_output.specs.declared.outputs.End.{End}
 use Rattle.tau_output.specs.declared.outputs.End.TheVariants.{Done}
 use Rattle.tau_output.specs.Faults.{input_limit, reads_input}
-use Rattle.tau_output.specs.Runs.{RunsAs}
+use Rattle.tau_output.specs.Runs.{RunsSerially}
 use Rattle.tau_output.specs.Checks.{ChecksAs}
 use Rattle.tau_output.specs.Audits.{AuditsAs}
 use Rattle.tau_output.specs.Reports.{ReportsAs}
@@ -13,7 +13,7 @@ use Rattle.tau_output.specs.Printing.{PrintsAs, GeneratesAs}
 
 -- the text that a command writes for bytes, and how it then ends
 abbrev pub Answers : Command → List ℕ → End → List ℕ → Type 0
-Answers (Run workers jobs seed steps) bytes end text = RunsAs steps bytes end text
+Answers (Run workers jobs seed steps) bytes end text = RunsSerially jobs seed steps bytes end text
 Answers Check bytes end text = ChecksAs bytes end text
 Answers Audit bytes end text = AuditsAs bytes end text
 Answers Report bytes end text = ReportsAs bytes text × (end ≡ Done)
@@ -25,7 +25,7 @@ pub record Writes (command : Command) (bytes : List ℕ) (end : End) (text : Lis
   pub few : IsTrue (reads_input command) → length bytes ≤ input_limit
   pub answers : Answers command bytes end text
 
--- a limit of steps that a trace can have
+-- a number of jobs that a worker can hold, and a limit of steps that a trace can have
 abbrev pub HasLimit : Command → Type 0
-HasLimit (Run workers jobs seed steps) = steps ≤ 1000000
+HasLimit (Run workers jobs seed steps) = (1 ≤ jobs) × (jobs ≤ 16) × (steps ≤ 1000000)
 HasLimit command = Unit {0}

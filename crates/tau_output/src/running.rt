@@ -2,7 +2,7 @@
 ghost use Rattle.std.specs.Prelude.{◌≡◌, ◌≤◌, IfOk, IfErr};
 ghost use Rattle.tau_input.specs.Errors.{Tells};
 ghost use Rattle.tau_input.specs.Faults.{IsProgramFault};
-ghost use Rattle.tau_output.specs.Runs.{RunsAs};
+ghost use Rattle.tau_output.specs.Runs.{RunsSerially};
 ghost use Rattle.tau_output.specs.Ends.{end_of_run};
 
 use crate::{End, Output};
@@ -10,21 +10,23 @@ use std::alloc::Global;
 use tau_input::{InputError, read_program};
 use tau_text::run_text;
 
-/// The run text of the program that the bytes spell, run by one worker, with at most so many steps (docs/formats.md, "Run
-/// text").
+/// The run text of the serial run of the program that the bytes spell, by one worker with room for 1 to 16 jobs and this
+/// seed, with at most so many steps (docs/formats.md, "Run text"; docs/definitions.md, "Serial run").
 pub(crate) fn run_program(
     alloc: Global,
     bytes: &[u8],
-    _jobs: u32,
-    _seed: u64,
+    jobs: u32,
+    seed: u64,
     steps: u32,
 ) -> Result<Output, InputError>
-    requires { steps ≤ 1000000 }
-    ensures output { IfOk result (λ o. RunsAs steps bytes.now o.end o.text.items) }
+    requires some { 1 ≤ jobs }
+    requires few { jobs ≤ 16 }
+    requires limit { steps ≤ 1000000 }
+    ensures output { IfOk result (λ o. RunsSerially jobs seed steps bytes.now o.end o.text.items) }
     ensures fault { IfErr result (Tells (IsProgramFault bytes.now)) }
 {
     let program = read_program(alloc, bytes)?;
-    let made = tau_serial::run(alloc, &program, steps)?;
+    let made = tau_serial::run(alloc, &program, jobs, seed, steps)?;
     Ok(Output {
         text: run_text(alloc, &program, &made.trace)?,
         end: end_of(made.is_complete),

@@ -1,5 +1,5 @@
 use Rattle.tau_input.proofs.AnswerLemmas.{from_no_memory}
-use Rattle.tau_output.proofs.RunLemmas.{runs_as}
+use Rattle.tau_output.proofs.RunLemmas.{runs_serially}
 use Rattle.tau_output.proofs.running.run_program.Goals as goal
 
 pub returns-in_err-run_text-clause-fault : goal.returns-in_err-run_text-clause-fault
@@ -9,5 +9,5 @@ pub returns-clause-output : goal.returns-clause-output
 returns-clause-output c =
     let made = c.in_ok-made in
     rw c.end_of.ensures
-    (runs_as c.args.steps c.in_ok-program.program made.made.trace.run made.made.is_complete c.args.bytes.now c.in_ok-run_text.field-0.items
-    c.in_ok-program.ensures.program made.ensures.well_formed made.ensures.legal made.ensures.complete made.ensures.stopped c.in_ok-run_text.ensures.text c.in_ok-run_text.ensures.read_back)
+    (runs_serially c.args.jobs c.args.seed c.args.steps c.in_ok-program.program made.made.trace.run made.made.is_complete c.args.bytes.now c.in_ok-run_text.field-0.items
+    c.in_ok-program.ensures.program made.ensures.serial made.ensures.well_formed made.ensures.legal made.ensures.complete made.ensures.stopped c.in_ok-run_text.ensures.text c.in_ok-run_text.ensures.read_back)
