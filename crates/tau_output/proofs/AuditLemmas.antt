@@ -1,5 +1,5 @@
 -- What `audit` writes for a run.
-use Rattle.std.proofs.Common.{◌≡◌, ◌↔◌, List, ℕ, refl}
+use Rattle.std.proofs.Common.{◌≡◌, ◌↔◌, refl}
 use Rattle.tau_trace.specs.Run.{Run}
 use Rattle.tau_past.specs.Safety.{Safe}
 use Rattle.tau_past.specs.Audits.{IsAudit}

@@ -1,5 +1,5 @@
 -- What `check` writes for a run.
-use Rattle.std.proofs.Common.{◌≡◌, inl, inr, Bool, true, false, List, ℕ, ◌↔◌, IsTrue, refl}
+use Rattle.std.proofs.Common.{inl, inr, Bool, true, false, ◌↔◌, IsTrue, refl}
 use Rattle.tau_tree.specs.declared.programs.Program.{Program}
 use Rattle.tau_trace.specs.Run.{Run}
 use Rattle.tau_trace.specs.Known.{WellFormed}

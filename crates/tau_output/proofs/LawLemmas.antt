@@ -1,16 +1,13 @@
 -- What is written for an input is determined, and comes only where the input has no fault.
 use Rattle.std.proofs.Common.{◌≡◌, ◌⊎◌, inl, inr, ℕ, ◌<◌, ◌≤◌, List, length, Some, Result, Ok, Err, IfOk, IfErr, refl, sym, ap, subst, ◌∙◌, arith}
-use Rattle.std.proofs.lemmas.Bool.{cases_lt}
 use Rattle.tau_sexpr.specs.Printing.{printed}
 use Rattle.tau_points.specs.declared.point.Point.{Point}
-use Rattle.tau_points.specs.Order.{point_cmp}
 use Rattle.tau_points.proofs.PointOrder.{point_cmp-total}
 use Rattle.tau_tree.specs.declared.programs.Program.{Program}
 use Rattle.tau_forms.specs.Printed as forms
-use Rattle.tau_trace.specs.Run.{Run, len, step_at}
+use Rattle.tau_trace.specs.Run.{Run, len}
 use Rattle.tau_trace.specs.Places.{IsFirst}
-use Rattle.tau_legal.specs.Traces.{Legal}
-use Rattle.tau_past.specs.Audits.{IsBrokenAt, IsNotAfter, IsLeastBreak, RollsBackAt, IsBroken}
+use Rattle.tau_past.specs.Audits.{IsBrokenAt, IsLeastBreak, RollsBackAt, IsBroken}
 use Rattle.tau_check.specs.Legality.{IsFirstIllegal}
 use Rattle.tau_report.specs.Report.{IsReportText}
 use Rattle.tau_report.proofs.Uniqueness.{report_once}
@@ -23,7 +20,7 @@ use Rattle.tau_input.proofs.FaultLemmas.{program_unique, run_unique, print_uniqu
 use Rattle.tau_output.specs.declared.outputs.End.{End}
 use Rattle.tau_output.specs.declared.outputs.Output.{Output}
 use Rattle.tau_output.specs.declared.outputs.End.TheVariants.{Done, Stopped, Bad, Broken}
-use Rattle.tau_output.specs.Faults.{input_limit, reads_input, IsFaultOf, IsInputFault, too_long, within}
+use Rattle.tau_output.specs.Faults.{input_limit, IsFaultOf, IsInputFault, too_long, within}
 use Rattle.tau_output.specs.Checks.{IsChecked, bad_line, ChecksAs}
 use Rattle.tau_output.specs.Audits.{IsAudited, broken_line, AuditsAs}
 use Rattle.tau_output.specs.Writing.{Answers, Writes}

@@ -12,12 +12,15 @@ use Rattle.tau_report.specs.Report.{SavedForms, none, without, with_one, counts_
 use Rattle.tau_text.specs.RunText.{IsRunText, IsReadBack}
 use Rattle.tau_text.specs.Laws.{Tells}
 use Rattle.tau_text.proofs.Telling.{texts_tell}
+use Rattle.tau_past.specs.Safety.{Safe}
 use Rattle.tau_input.specs.Meaning.{IsProgram}
+use Rattle.tau_input.proofs.ReadBack.{run_texts_read_back}
 use Rattle.tau_output.specs.declared.outputs.End.{End}
 use Rattle.tau_output.specs.declared.outputs.End.TheVariants.{Done, Stopped}
 use Rattle.tau_output.specs.Ends.{end_of_run}
 use Rattle.tau_output.specs.Runs.{EndsAs, IsDecided, IsReportLine, RunsAs}
-use Rattle.tau_output.specs.Laws.{TextsTellRuns}
+use Rattle.tau_output.specs.Checks.{IsChecked}
+use Rattle.tau_output.specs.Laws.{TextsTellRuns, RunTextsAreAccepted, line_after}
 
 -- each step of a legal run is decided by what was heard
 decided : (P : Program) (T : Run) → Legal P T → IsDecided T
@@ -70,3 +73,26 @@ texts_tell_runs limit other bytes others end another text one two =
     let same = texts_tell one.program two.program one.run two.run text a b in
     let there : EndsAs other one.program one.run another = subst (λ P. EndsAs other P one.run another) (sym same.0) (subst (λ T. EndsAs other two.program T another) (sym same.1) two.ends) in
     record { program = same.0; run = same.1; ends = ends_once limit other one.program one.run end another one.ends there }
+
+-- ---- what the other commands make of the text
+
+-- what `check` says of it, by how the run ended
+checked_after : (limit : ℕ) (P : Program) (T : Run) (end : End) → Legal P T → Safe T → EndsAs limit P T end → IsChecked P T Done (line_after end)
+checked_after limit P T Done legal safe h = (legal, safe, inl (h.0, refl))
+checked_after limit P T Stopped legal safe h = (legal, safe, inr (h.0, refl))
+checked_after limit P T end legal safe h = absurd h
+
+pub run_texts_accepted : RunTextsAreAccepted
+run_texts_accepted limit bytes end text one l =
+    let P = one.program in
+    let T = one.run in
+    let tells : Tells P T text = record { well_formed = one.well_formed; opening = one.legal.opening; read_back = one.read_back } in
+    let back = run_texts_read_back P T text tells in
+    record {
+      check = record {
+        few = λ reads. l;
+        answers = record { program = P; run = T; read = back.0; checked = checked_after limit P T end one.legal one.safe one.ends };
+      };
+      audit = record { few = λ reads. l; answers = record { program = P; run = T; read = back.0; audited = (one.safe, refl) } };
+      print = record { few = λ reads. l; answers = (record { program = P; read = back.1; is_text = refl }, refl) };
+    }

@@ -1,10 +1,13 @@
 -- What holds of all inputs: a command writes one text, none for an input with a fault, an input has one fault, and what `run` writes
--- determines its program and its run.
-use Rattle.std.specs.Prelude.{◌≡◌, ℕ, List}
+-- determines its program and its run, and is accepted by the other commands.
+use Rattle.std.specs.Prelude.{◌≡◌, ℕ, ◌≤◌, List, [], length, codes}
+use Rattle.tau_sexpr.specs.Printing.{printed}
+use Rattle.tau_forms.specs.Printed as forms
 use Rattle.tau_command.specs.declared.commands.Command.{Command}
-use Rattle.tau_command.specs.declared.commands.Command.TheVariants.{Run}
+use Rattle.tau_command.specs.declared.commands.Command.TheVariants.{Run, Check, Audit, Print}
 use Rattle.tau_output.specs.declared.outputs.End.{End}
-use Rattle.tau_output.specs.Faults.{IsInputFault}
+use Rattle.tau_output.specs.declared.outputs.End.TheVariants.{Done, Stopped}
+use Rattle.tau_output.specs.Faults.{input_limit, IsInputFault}
 use Rattle.tau_output.specs.Runs.{RunsAs}
 use Rattle.tau_output.specs.Writing.{Writes}
 
@@ -33,3 +36,20 @@ pub record IsSameRun {limit other : ℕ} {bytes others : List ℕ} {end another 
 
 abbrev pub TextsTellRuns : Type 0
 TextsTellRuns = (limit other : ℕ) (bytes others : List ℕ) (end another : End) (text : List ℕ) (one : RunsAs limit bytes end text) (two : RunsAs other others another text) → IsSameRun one two
+
+-- what `check` writes for a text of `run`, by how the run ended
+abbrev pub line_after : End → List ℕ
+line_after Done = codes "legal complete\n"
+line_after Stopped = codes "legal open\n"
+line_after end = []
+
+-- of a text that `run` writes `check` says that it is legal, and complete where the run was, `audit` that it is safe, and `print`
+-- writes its program
+pub record IsAccepted {limit : ℕ} {bytes : List ℕ} {end : End} {text : List ℕ} (one : RunsAs limit bytes end text) : Type 0 where
+  pub check : Writes Check text Done (line_after end)
+  pub audit : Writes Audit text Done (codes "safe\n")
+  pub print : Writes Print text Done (printed (forms.printed one.program))
+
+-- so it is where the text isn't longer than an input may be
+abbrev pub RunTextsAreAccepted : Type 0
+RunTextsAreAccepted = (limit : ℕ) (bytes : List ℕ) (end : End) (text : List ℕ) (one : RunsAs limit bytes end text) → length text ≤ input_limit → IsAccepted one

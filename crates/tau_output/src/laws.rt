@@ -1,5 +1,5 @@
 //! Laws of inputs and of what is written. The calls do nothing: what they ensure holds of all bytes.
-ghost use Rattle.tau_output.specs.Laws.{WritesOnce, WritesWithoutFault, FailsOnce, TextsTellRuns};
+ghost use Rattle.tau_output.specs.Laws.{WritesOnce, WritesWithoutFault, FailsOnce, TextsTellRuns, RunTextsAreAccepted};
 
 /// For an input a command writes one text, or the input has one fault, and not both (docs/formats.md, "Input faults"). Of
 /// `run` it is said that it writes none where there is a fault; which legal run it writes isn't said here.
@@ -12,4 +12,10 @@ pub fn output_is_unique(_bytes: &[u8])
 /// The text that `run` writes determines the program, the run and the end (docs/definitions.md, "Run text").
 pub fn run_texts_tell()
     ensures { TextsTellRuns }
+{}
+
+/// Of a text that `run` writes, which isn't longer than an input may be, `check` says that it is legal, `audit` that it is
+/// safe, and `print` writes its program (docs/formats.md, "Command line").
+pub fn run_texts_are_accepted()
+    ensures { RunTextsAreAccepted }
 {}

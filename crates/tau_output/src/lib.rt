@@ -10,7 +10,7 @@ mod printing;
 mod reporting;
 mod running;
 
-pub use laws::{output_is_unique, run_texts_tell};
+pub use laws::{output_is_unique, run_texts_are_accepted, run_texts_tell};
 pub use outputs::{End, INPUT_LIMIT, Output, output_of, reads_input};
 
 #[cfg(test)]

@@ -10,5 +10,6 @@ fn writes_the_generated_program(rt: HostRuntime) -> Result<(), Fail> {
     assert_eq!(rt; output.text.len(), 1_195);
     output_is_unique(b"");
     run_texts_tell();
+    run_texts_are_accepted();
     Ok(())
 }
