@@ -3,6 +3,9 @@
 //! written, and for each type of view what the calls answer: a step that was made, or why none was, or what was asked for.
 #![tactic(auto)]
 
+ghost use Rattle.std.specs.Prelude.{IfSome};
+ghost use Rattle.tau_tree.specs.Sound.{Sound};
+
 mod answers;
 mod run;
 mod showing;
@@ -11,13 +14,12 @@ use crate::run::Run;
 use crate::showing::Shown;
 use std::alloc::{AllocError, Global};
 use std::process::ExitCode;
-use tau_cli::read_program;
 use tau_compact::PrunedView;
+use tau_forms::program_of;
 use tau_io::{StdSink, StdSource, read_all, write_all_of};
+use tau_sexpr::read_forms;
 use tau_tree::Program;
 use tau_view::FullView;
-
-ghost use Rattle.tau_tree.specs.Sound.{Sound};
 
 fn main(rt: HostRuntime) -> ExitCode {
     let alloc = rt.alloc();
@@ -70,17 +72,26 @@ fn section_of(bytes: &[u8]) -> (&[u8], &[u8]) {
 
 // What stands before the line `(calls)`, and what follows it.
 fn parts_of(section: &[u8]) -> (&[u8], &[u8]) {
-    let mut at = 0;
-    for _ in 0..section.len() {
-        let Some((line, after)) = line_of(&section[at..]) else {
-            break;
-        };
-        if line == b"(calls)".as_slice() {
-            return (&section[..at], after);
+    let mut at_start = true;
+    for (place, byte) in section.iter().enumerate() {
+        if at_start && *byte == b'(' {
+            if let Some(after) = after_mark(&section[place..]) {
+                return (&section[..place], after);
+            }
         }
-        at = section.len() - after.len();
+        at_start = *byte == b'\n';
     }
     (section, &section[section.len()..])
+}
+
+// What follows the first line, where it is `(calls)`.
+fn after_mark(bytes: &[u8]) -> Option<&[u8]> {
+    let (line, after) = line_of(bytes)?;
+    if line == b"(calls)".as_slice() {
+        Some(after)
+    } else {
+        None
+    }
 }
 
 // Adds the line of a section, and what its calls answer.
@@ -93,7 +104,7 @@ fn add_section(
     let line = str::from_utf8(line).unwrap_or("");
     writeln!(text, "{line}")?;
     let (program, calls) = parts_of(section);
-    let Ok(program) = read_program(alloc, program) else {
+    let Some(program) = program_from(alloc, program) else {
         return text.push_str("(no program)\n");
     };
     let views = line.split_whitespace().nth(1).unwrap_or("");
@@ -106,6 +117,19 @@ fn add_section(
         add_run::<PrunedView>(alloc, text, &program, calls)?;
     }
     Ok(())
+}
+
+// The program that bytes spell.
+fn program_from(alloc: Global, bytes: &[u8]) -> Option<Program>
+    ensures { IfSome result Sound }
+{
+    let Ok(forms) = read_forms(alloc, bytes) else {
+        return None;
+    };
+    match program_of(alloc, &forms) {
+        Ok(program) => Some(program),
+        Err(_) => None,
+    }
 }
 
 // Adds what the calls answer on a run of the program.

@@ -44,8 +44,9 @@ impl<'p, V: Shown> Run<'p, V> {
         let born = self.system.trace().born();
         match verb {
             "standing" => add_standing(text, number, self.system.standing(number)),
-            "history" => add_history(text, number, self.system.history_of(number))
-                .and_then(|()| text.push('\n')),
+            "history" => add_history(text, number, self.system.history_of(number)).and_then(
+                |()| text.push('\n'),
+            ),
             "view" => match self.system.view_of(number) {
                 Some(view) => add_view(text, born, view),
                 None => text.push_str("(no view)\n"),
@@ -84,11 +85,7 @@ fn step_text(alloc: Global, trace: &Trace, place: u32) -> Result<Vec<u8>, AllocE
 }
 
 // Adds what a transactor is doing.
-fn add_standing(
-    text: &mut String,
-    who: u32,
-    standing: Option<Standing>,
-) -> Result<(), AllocError> {
+fn add_standing(text: &mut String, who: u32, standing: Option<Standing>) -> Result<(), AllocError> {
     match standing {
         None => writeln!(text, "(standing {who} none)"),
         Some(Standing::Idle) => writeln!(text, "(standing {who} idle)"),
@@ -98,11 +95,7 @@ fn add_standing(
 }
 
 // Adds a history: its transactor, its mode, and its numbers.
-fn add_history(
-    text: &mut String,
-    who: u32,
-    history: Option<&History>,
-) -> Result<(), AllocError> {
+fn add_history(text: &mut String, who: u32, history: Option<&History>) -> Result<(), AllocError> {
     let Some(history) = history else {
         return Ok(());
     };
@@ -183,8 +176,7 @@ fn add_verdict<V: Shown>(
     let Some(who) = system.trace().target(message) else {
         return text.push_str("(no view)\n");
     };
-    let (Some(point), Some(letter)) = (own_point(system, who), system.message_view(message))
-    else {
+    let (Some(point), Some(letter)) = (own_point(system, who), system.message_view(message)) else {
         return text.push_str("(no view)\n");
     };
     let Some(merged) = merged_view(system, who, message)? else {
