@@ -59,6 +59,7 @@ runs_as limit P T is_complete bytes text spelled well legal complete stopped is_
 -- and where the run is the serial one
 pub runs_serially : (jobs seed limit : ℕ) (P : Program) (T : Run) (is_complete : Bool) (bytes text : List ℕ) → IsProgram bytes P → IsSerialRun P jobs seed limit T → WellFormed T → Legal P T → (IsTrue is_complete → Complete P T × (len T ≤ limit))
     → (IsFalse is_complete → (¬ Complete P T) × (len T ≡ limit)) → IsRunText P T text → IsReadBack P T text → RunsSerially jobs seed limit bytes (end_of_run is_complete) text
+unfolding runs_as
 runs_serially jobs seed limit P T is_complete bytes text spelled serial well legal complete stopped is_text read_back =
     record { runs = runs_as limit P T is_complete bytes text spelled well legal complete stopped is_text read_back; serial = serial }
 
