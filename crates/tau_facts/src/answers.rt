@@ -3,8 +3,9 @@ ghost use Rattle.std.specs.Prelude.{◌≡◌};
 ghost use Rattle.tau_tree.specs.Sound.{Sound};
 ghost use Rattle.tau_script.specs.Openings.{program_opening};
 
+use crate::errors::FactsError;
 use crate::texts::{audit_text, legality_text, number_text, points_text, report_text, step_text};
-use std::alloc::{AllocError, Global};
+use std::alloc::Global;
 use tau_check::check;
 use tau_past::{audit, carried, past};
 use tau_points::Point;
@@ -18,27 +19,34 @@ pub(crate) fn answer(
     program: &Program,
     trace: &Trace,
     question: &str,
-) -> Result<String, AllocError>
+) -> Result<String, FactsError>
     requires sound { Sound program.now }
     requires opening { trace.now.run.opening ≡ program_opening program.now }
 {
     let (kind, rest) = question.split_once(" ").unwrap_or((question, ""));
     let numbers = numbers_in(alloc, rest)?;
     if let Some(number) = reader_answer(trace, kind, numbers.as_slice()) {
-        return number_text(alloc, number);
+        return Ok(number_text(alloc, number)?);
     }
     match (kind, numbers.as_slice()) {
-        ("check", []) => legality_text(alloc, check(alloc, program, trace)?),
-        ("report", []) => report_text(alloc, &report(alloc, program, trace)?),
+        ("check", []) => Ok(legality_text(alloc, check(alloc, program, trace)?)?),
+        ("report", []) => Ok(report_text(alloc, &report(alloc, program, trace)?)?),
         (kind, numbers) => past_answer(alloc, trace, kind, numbers),
     }
 }
 
 /// The numbers of a text, in order.
-fn numbers_in(alloc: Global, text: &str) -> Result<Vec<u32>, AllocError> {
-    text.split_whitespace()
-        .filter_map(|word| word.parse::<u32>().ok())
-        .collect(alloc)
+fn numbers_in(alloc: Global, text: &str) -> Result<Vec<u32>, FactsError> {
+    let mut numbers = Vec::new(alloc);
+    for word in text.split_whitespace() {
+        let Ok(number) = word.parse() else {
+            return Err(FactsError::Faulty);
+        };
+        if numbers.push(number).is_err() {
+            return Err(FactsError::NoMemory);
+        }
+    }
+    Ok(numbers)
 }
 
 /// What a reader of the trace answers; `None` where the question is none for a reader.
@@ -64,20 +72,21 @@ fn past_answer(
     trace: &Trace,
     kind: &str,
     numbers: &[u32],
-) -> Result<String, AllocError> {
-    match (kind, numbers) {
-        ("carried", [place]) => points_text(alloc, carried(alloc, trace, *place)?.points()),
+) -> Result<String, FactsError> {
+    let text = match (kind, numbers) {
+        ("carried", [place]) => points_text(alloc, carried(alloc, trace, *place)?.points())?,
         ("past", [who, interval, incarnation]) => {
             let point = Point {
                 who: *who,
                 interval: *interval,
                 incarnation: *incarnation,
             };
-            points_text(alloc, past(alloc, trace, point)?.points())
+            points_text(alloc, past(alloc, trace, point)?.points())?
         }
-        ("audit", []) => audit_text(alloc, audit(alloc, trace)?),
-        ("form", [place]) => step_text(alloc, trace, *place),
-        ("copied", []) => number_text(alloc, Some(trace.copy()?.len())),
-        _ => String::from_str(alloc, "no question"),
-    }
+        ("audit", []) => audit_text(alloc, audit(alloc, trace)?)?,
+        ("form", [place]) => step_text(alloc, trace, *place)?,
+        ("copied", []) => number_text(alloc, Some(trace.copy()?.len()))?,
+        _ => return Err(FactsError::Faulty),
+    };
+    Ok(text)
 }

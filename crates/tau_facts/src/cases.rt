@@ -1,10 +1,11 @@
 //! Sections of the input: a program, steps and questions.
-ghost use Rattle.std.specs.Prelude.{◌≡◌, IfSome};
+ghost use Rattle.std.specs.Prelude.{◌≡◌, IfOk};
 ghost use Rattle.tau_tree.specs.Sound.{Sound};
 ghost use Rattle.tau_script.specs.Openings.{program_opening};
 
 use crate::answers::answer;
-use std::alloc::{AllocError, Global};
+use crate::errors::FactsError;
+use std::alloc::Global;
 use tau_forms::program_of;
 use tau_script::opening_of;
 use tau_sexpr::{Forms, read_forms};
@@ -34,29 +35,24 @@ fn section_of(text: &str) -> Option<Section<'_>> {
 }
 
 /// Adds the name of a section, and its questions with their answers.
-pub(crate) fn add_case(alloc: Global, text: &mut String, section: &str) -> Result<(), AllocError> {
+pub(crate) fn add_case(alloc: Global, text: &mut String, section: &str) -> Result<(), FactsError> {
     let Some(section) = section_of(section) else {
-        return text.push_str("no section\n");
+        return Err(FactsError::Faulty);
     };
+    let program = program_in(alloc, section.program)?;
+    let steps = read_forms(alloc, section.steps.as_bytes())?;
     text.push_str("# ")?;
     text.push_str(section.name)?;
     text.push_str("\n")?;
-    let program = program_in(alloc, section.program);
-    let steps = read_forms(alloc, section.steps.as_bytes());
-    match (program, steps) {
-        (Some(program), Ok(steps)) => {
-            add_answers(alloc, text, &program, &steps, section.questions)
-        }
-        _ => text.push_str("no program or no forms\n"),
-    }
+    add_answers(alloc, text, &program, &steps, section.questions)
 }
 
-/// The program of a text, if it has one.
-fn program_in(alloc: Global, text: &str) -> Option<Program>
-    ensures { IfSome result Sound }
+/// The program of a text.
+fn program_in(alloc: Global, text: &str) -> Result<Program, FactsError>
+    ensures { IfOk result Sound }
 {
-    let forms = read_forms(alloc, text.as_bytes()).ok()?;
-    program_of(alloc, &forms).ok()
+    let forms = read_forms(alloc, text.as_bytes())?;
+    Ok(program_of(alloc, &forms)?)
 }
 
 /// Adds each question with its answer, on a line of its own.
@@ -66,7 +62,7 @@ fn add_answers(
     program: &Program,
     steps: &Forms,
     questions: &str,
-) -> Result<(), AllocError>
+) -> Result<(), FactsError>
     requires { Sound program.now }
 {
     for line in questions.lines() {
@@ -84,29 +80,34 @@ fn answer_to(
     program: &Program,
     steps: &Forms,
     line: &str,
-) -> Result<String, AllocError>
+) -> Result<String, FactsError>
     requires { Sound program.now }
 {
-    let (question, count) = counted(line, steps.len());
-    match trace_of(alloc, program, steps, count) {
-        Some(trace) => answer(alloc, program, &trace, question),
-        None => String::from_str(alloc, "no trace"),
+    let (question, count) = match line.split_once(" at ") {
+        Some((question, count)) => (question, count_in(count)?),
+        None => (line, steps.len()),
+    };
+    let trace = trace_of(alloc, program, steps, count)?;
+    answer(alloc, program, &trace, question)
+}
+
+fn count_in(word: &str) -> Result<usize, FactsError> {
+    match word.parse() {
+        Ok(count) => Ok(count),
+        Err(_) => Err(FactsError::Faulty),
     }
 }
 
-/// The question of a line, and how many steps it is asked of.
-fn counted(line: &str, count: usize) -> (&str, usize) {
-    match line.split_once(" at ") {
-        Some((question, number)) => (question, number.parse().unwrap_or(count)),
-        None => (line, count),
-    }
-}
-
-/// The trace whose steps the first so many forms mean, if they mean steps.
-fn trace_of(alloc: Global, program: &Program, steps: &Forms, count: usize) -> Option<Trace>
+/// The trace whose steps the first so many forms mean.
+fn trace_of(
+    alloc: Global,
+    program: &Program,
+    steps: &Forms,
+    count: usize,
+) -> Result<Trace, FactsError>
     requires { Sound program.now }
-    ensures { IfSome result (λ t. t.run.opening ≡ program_opening program.now) }
+    ensures { IfOk result (λ t. t.run.opening ≡ program_opening program.now) }
 {
-    let opening = opening_of(alloc, program).ok()?;
-    steps_of(alloc, steps, 0, count.min(steps.len()), opening).ok()
+    let opening = opening_of(alloc, program)?;
+    Ok(steps_of(alloc, steps, 0, count.min(steps.len()), opening)?)
 }

@@ -1,0 +1,50 @@
+//! Why no facts are told.
+use std::alloc::AllocError;
+use tau_forms::ProgramError;
+use tau_sexpr::FormError;
+use tau_steps::StepError;
+use thiserror::Error;
+
+/// Why no facts are told.
+#[derive(Clone, Copy, Debug, PartialEq, Eq, Error)]
+pub(crate) enum FactsError {
+    /// The input isn't of the shape that is told at the head of the program.
+    #[error("the input is faulty")]
+    Faulty,
+    /// Memory ran out.
+    #[error("out of memory")]
+    NoMemory,
+}
+
+impl From<AllocError> for FactsError {
+    fn from(_error: AllocError) -> FactsError {
+        FactsError::NoMemory
+    }
+}
+
+impl From<FormError> for FactsError {
+    fn from(error: FormError) -> FactsError {
+        match error {
+            FormError::NoMemory => FactsError::NoMemory,
+            _ => FactsError::Faulty,
+        }
+    }
+}
+
+impl From<ProgramError> for FactsError {
+    fn from(error: ProgramError) -> FactsError {
+        match error {
+            ProgramError::NoMemory => FactsError::NoMemory,
+            _ => FactsError::Faulty,
+        }
+    }
+}
+
+impl From<StepError> for FactsError {
+    fn from(error: StepError) -> FactsError {
+        match error {
+            StepError::NoMemory => FactsError::NoMemory,
+            _ => FactsError::Faulty,
+        }
+    }
+}
