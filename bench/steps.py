@@ -2,8 +2,8 @@
 """Measures long runs of the system over views of both types: processor seconds, steps a second, the peak of the memory, and
 how much a step costs in the long run against the short one.
 
-It builds the program tau_calls by `rt run` where it isn't built, and prints a table. The median of several runs is shown. The
-aims are, for 50,000 steps over pruned views, 500,000 steps a second for a transactor that sends to itself, 100,000 for one
+It builds the program tau_calls by `rt run` where it isn't built, and prints a table. The median of several runs is shown; the
+peak is at least that of the measuring process. The aims are, for 50,000 steps over pruned views, 500,000 steps a second for a transactor that sends to itself, 100,000 for one
 that checkpoints each turn, 8,000 for a ring of 64, and a growth below two; two seconds for the turn of 30,000 Gets; one
 second and 200 MB for the 2,048 transactors.
 """
