@@ -182,9 +182,9 @@ module _ (seed : ℕ) (old new : Booked) (h k : Held) (was : IsBook old) (is : I
         let idle = idle_then s by e in
         jobs_stay P T s was.well_formed (well_formed_after s e) (ks r.offer) quiet
         (λ t place m acts u. ⊎_elim
-            (λ x. idle.idle place m (subst (λ y. Turn T y (len T) place m) (same_some (sym acts ∙ idle.by)) x))
-            (λ x. quiet t m x.1)
-            (earlier T s t place m u))
+        (λ x. idle.idle place m (subst (λ y. Turn T y (len T) place m) (same_some (sym acts ∙ idle.by)) x))
+        (λ x. quiet t m x.1)
+        (earlier T s t place m u))
         (record {
           one_each = open_apart P T r.offer.turns r.offer.turns_are h.jobs w.jobs_are;
           records = λ j c f. are_open P T r.offer.turns r.offer.turns_are h.jobs w.jobs_are j c;
@@ -197,10 +197,10 @@ module _ (seed : ℕ) (old new : Booked) (h k : Held) (was : IsBook old) (is : I
         let idle = idle_then s refl d.appended in
         let idle_who : IsOpenTurn T job.who (len T) None = subst (λ x. IsOpenTurn T x (len T) None) (same_some (sym idle.by)) idle.idle in
         made job.who s (ks r.offer ++ job ∷ []) take d.appended (jobs_begun P T s was.well_formed (well_formed_after s d.appended) (ks r.offer) job r.message refl d.place idle_who
-            (subst (λ (c : Core). IsOpenJob c.program c.run job) d.appended d.opened)
-            (open_apart P T r.offer.turns r.offer.turns_are h.jobs w.jobs_are)
-            (are_open P T r.offer.turns r.offer.turns_are h.jobs w.jobs_are)
-            (job_from P T r.offer.turns r.offer.turns_are h.jobs w.jobs_are))
+        (subst (λ (c : Core). IsOpenJob c.program c.run job) d.appended d.opened)
+        (open_apart P T r.offer.turns r.offer.turns_are h.jobs w.jobs_are)
+        (are_open P T r.offer.turns r.offer.turns_are h.jobs w.jobs_are)
+        (job_from P T r.offer.turns r.offer.turns_are h.jobs w.jobs_are))
     by_answer Dropped d = made d.0 (steps.Drop d.0 r.message) (ks r.offer) drop d.1 (stays (steps.Drop d.0 r.message) refl (λ t m e. cc) d.1)
     by_answer Fell d = made d.0 (steps.Fall d.0 r.message) (ks r.offer) fall d.1 (stays (steps.Fall d.0 r.message) refl (λ t m e. cc) d.1)
     by_answer Voided d = made d.0 (steps.Void d.0 r.message) (ks r.offer) void d.1 (stays (steps.Void d.0 r.message) refl (λ t m e. cc) d.1)

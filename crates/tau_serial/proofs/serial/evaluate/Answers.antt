@@ -32,12 +32,12 @@ pub unreachable-requires-in-Ok-Redone : goal.unreachable-requires-in-Ok-Redone
 unreachable-requires-in-Ok-Redone c =
     let x = c.requires.chosen in
     let told = subst (λ j. IsRedoneWith c.args.book.now c.act.new.self c.args.hand.now c.act.new.hand j) c.in-Ok.ensures.ok
-        (subst (λ t. IsTold c.args.book.now c.act.new.self c.args.hand.now c.act.new.hand c.in-Ok.pending t) c.in-Ok-Redone.field-0-is c.in-Ok-Redone.ensures.ok) in
+    (subst (λ t. IsTold c.args.book.now c.act.new.self c.args.hand.now c.act.new.hand c.in-Ok.pending t) c.in-Ok-Redone.field-0-is c.in-Ok-Redone.ensures.ok) in
     never_redone x.0 c.args.book.now c.act.new.self c.args.hand.now c.act.new.hand c.args.job c.act.ensures.was_book c.act.ensures.is_book x.1 told
 
 pub unreachable-requires-in-Ok-Stale : goal.unreachable-requires-in-Ok-Stale
 unreachable-requires-in-Ok-Stale c =
     let x = c.requires.chosen in
     let told = subst (λ j. IsStale c.args.book.now c.act.new.self c.args.hand.now c.act.new.hand j.place c.in-Ok-Stale.field-0-0) c.in-Ok.ensures.ok
-        (subst (λ t. IsTold c.args.book.now c.act.new.self c.args.hand.now c.act.new.hand c.in-Ok.pending t) c.in-Ok-Stale.field-0-is c.in-Ok-Stale.ensures.ok) in
+    (subst (λ t. IsTold c.args.book.now c.act.new.self c.args.hand.now c.act.new.hand c.in-Ok.pending t) c.in-Ok-Stale.field-0-is c.in-Ok-Stale.ensures.ok) in
     never_stale x.0 c.args.book.now c.act.new.self c.args.hand.now c.act.new.hand c.args.job c.act.ensures.was_book c.act.ensures.is_book x.1 c.in-Ok-Stale.field-0-0 told
