@@ -6,7 +6,6 @@ use Rattle.tau_command.specs.declared.commands.Command.TheVariants.{Run, Check, 
 use Rattle.tau_command.specs.Commands.{command_of}
 use Rattle.tau_output.specs.declared.outputs.End.{End}
 use Rattle.tau_output.specs.Faults.{input_limit, reads_input, IsInputFault}
-use Rattle.tau_output.specs.Writing.{Writes}
 use Rattle.tau_cli.specs.declared.statuses.Status.{Status}
 use Rattle.tau_cli.specs.declared.statuses.Status.TheVariants.{Done, Stopped, Words, Input, Bad, ReadFault, NoMemory, Broken}
 use Rattle.tau_cli.specs.Status.{of_end}
@@ -31,12 +30,16 @@ pub record IsTooLong (left : Option (List ℕ)) : Type 0 where
   pub are_left : AreLeft left bytes
   pub many : input_limit < length bytes
 
--- the command of the words writes this text for the bytes that a source had left, and ends with this status
-pub record IsOutput (words : List (List ℕ)) (left : Option (List ℕ)) (status : Status) (text : List ℕ) : Type 0 where
+-- that a command writes this text for bytes, and how it then ends
+abbrev pub Writing : Type 1
+Writing = Command → List ℕ → End → List ℕ → Type 0
+
+-- the command of the words writes this text for the bytes that a source had left, where it reads them, and ends with this status
+pub record IsOutput (Writes : Writing) (words : List (List ℕ)) (left : Option (List ℕ)) (status : Status) (text : List ℕ) : Type 0 where
   pub command : Command
   pub is_command : command_of words ≡ Some command
   pub bytes : List ℕ
-  pub are_left : AreLeft left bytes
+  pub are_left : IsTrue (reads_input command) → AreLeft left bytes
   pub end : End
   pub writes : Writes command bytes end text
   pub is_status : status ≡ of_end end

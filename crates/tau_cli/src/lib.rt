@@ -2,13 +2,15 @@
 #![tactic(auto)]
 
 mod calls;
+mod makers;
 mod process;
 mod statuses;
 
-pub use calls::tau_still;
+pub use calls::{tau, tau_still};
 pub use process::run_process;
 pub use statuses::{Status, number};
 pub use tau_command::{Command, Line, Words, WordsError, read_words};
+pub use tau_workers::{Gate, OpenGate};
 
 #[cfg(test)]
 mod tests;

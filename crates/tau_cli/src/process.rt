@@ -4,7 +4,7 @@ ghost use Rattle.std.specs.Process.{exit_status};
 ghost use Rattle.tau_cli.specs.declared.statuses.Status.{Status};
 ghost use Rattle.tau_cli.specs.Status.{number_of};
 
-use crate::{Status, number, tau_still};
+use crate::{OpenGate, Status, number, tau};
 use std::alloc::Global;
 use std::env;
 use std::io::{self, ErrorKind};
@@ -32,7 +32,14 @@ fn process_status(rt: &HostRuntime) -> Status {
         Ok(words) => {
             let mut input = StdSource::new(rt.stdin());
             let mut output = StdSink::new(rt.stdout());
-            tau_still(rt.alloc(), &words, &mut input, &mut output)
+            tau(
+                rt,
+                rt.alloc(),
+                &words,
+                &mut input,
+                &mut output,
+                &OpenGate,
+            )
         }
         Err(error) => Status::from(error),
     }

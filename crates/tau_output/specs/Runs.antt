@@ -64,3 +64,8 @@ pub record RunsAs (steps : ℕ) (bytes : List ℕ) (end : End) (text : List ℕ)
 pub record RunsSerially (jobs seed steps : ℕ) (bytes : List ℕ) (end : End) (text : List ℕ) : Type 0 where
   pub runs : RunsAs steps bytes end text
   pub serial : IsSerialRun runs.program jobs seed steps runs.run
+
+-- as several workers run it: where there is one alone, the run is the serial one
+pub record RunsTogether (workers jobs seed steps : ℕ) (bytes : List ℕ) (end : End) (text : List ℕ) : Type 0 where
+  pub runs : RunsAs steps bytes end text
+  pub alone : workers ≤ 1 → IsSerialRun runs.program jobs seed steps runs.run

@@ -5,7 +5,7 @@ use Rattle.tau_command.specs.declared.commands.Command.TheVariants.{Run, Check, 
 use Rattle.tau_output.specs.declared.outputs.End.{End}
 use Rattle.tau_output.specs.declared.outputs.End.TheVariants.{Done}
 use Rattle.tau_output.specs.Faults.{input_limit, reads_input}
-use Rattle.tau_output.specs.Runs.{RunsSerially}
+use Rattle.tau_output.specs.Runs.{RunsSerially, RunsTogether}
 use Rattle.tau_output.specs.Checks.{ChecksAs}
 use Rattle.tau_output.specs.Audits.{AuditsAs}
 use Rattle.tau_output.specs.Reports.{ReportsAs}
@@ -25,7 +25,16 @@ pub record Writes (command : Command) (bytes : List ℕ) (end : End) (text : Lis
   pub few : IsTrue (reads_input command) → length bytes ≤ input_limit
   pub answers : Answers command bytes end text
 
--- a number of jobs that a worker can hold, and a limit of steps that a trace can have
+-- the same, where `run` starts as many workers as it is told
+abbrev pub AnswersTogether : Command → List ℕ → End → List ℕ → Type 0
+AnswersTogether (Run workers jobs seed steps) bytes end text = RunsTogether workers jobs seed steps bytes end text
+AnswersTogether command bytes end text = Answers command bytes end text
+
+pub record WritesTogether (command : Command) (bytes : List ℕ) (end : End) (text : List ℕ) : Type 0 where
+  pub few : IsTrue (reads_input command) → length bytes ≤ input_limit
+  pub answers : AnswersTogether command bytes end text
+
+-- some workers, a number of jobs that a worker can hold, and a limit of steps that a trace can have
 abbrev pub HasLimit : Command → Type 0
-HasLimit (Run workers jobs seed steps) = (1 ≤ jobs) × (jobs ≤ 16) × (steps ≤ 1000000)
+HasLimit (Run workers jobs seed steps) = (1 ≤ workers) × (1 ≤ jobs) × (jobs ≤ 16) × (steps ≤ 1000000)
 HasLimit command = Unit {0}

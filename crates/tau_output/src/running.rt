@@ -33,8 +33,8 @@ pub(crate) fn run_program(
     })
 }
 
-// How a run ends, by whether it is complete.
-fn end_of(is_complete: bool) -> End
+/// How a run ends, by whether it is complete.
+pub(crate) fn end_of(is_complete: bool) -> End
     ensures { result ≡ end_of_run is_complete }
 {
     if is_complete { End::Done } else { End::Stopped }

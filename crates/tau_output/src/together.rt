@@ -1,0 +1,76 @@
+//! What commands write where `run` starts several workers.
+ghost use Rattle.std.specs.Prelude.{◌≡◌, ◌⊎◌, ℕ, ◌<◌, ◌≤◌, length, IfOk, IfErr, Err};
+ghost use Rattle.tau_input.specs.Errors.{Tells};
+ghost use Rattle.tau_input.specs.Faults.{IsProgramFault};
+ghost use Rattle.tau_output.specs.Faults.{input_limit, IsInputFault};
+ghost use Rattle.tau_output.specs.Runs.{RunsAs};
+ghost use Rattle.tau_output.specs.Writing.{WritesTogether, HasLimit};
+
+use crate::running::end_of;
+use crate::{Output, output_of};
+use std::alloc::Global;
+use std::sync::Wait;
+use std::thread::Threads;
+use tau_command::Command;
+use tau_input::{InputError, read_program};
+use tau_text::run_text;
+use tau_workers::{Gate, Settings, run_workers};
+
+/// What a command writes for the bytes of its input, as [`output_of`] says, but `run` with two workers or more starts a thread for
+/// each of them (docs/rules.md, "Workers"). The gate stands before and after each evaluation.
+pub fn output_by_workers<R: Threads + Wait + Sync, G: Gate + Sync>(
+    rt: &R,
+    alloc: Global,
+    command: Command,
+    bytes: &[u8],
+    gate: &G,
+) -> Result<Output, InputError>
+    requires bytes { length bytes.now ≤ input_limit }
+    requires limit { HasLimit command }
+    ensures output { IfOk result (λ o. WritesTogether command bytes.now o.end o.text.items) }
+
+    ensures fault { IfErr result (Tells (IsInputFault command bytes.now)) }
+    ensures faulty { (fault at : ℕ) → IsInputFault command bytes.now fault at
+        → (result ≡ Err (InputError.Fault fault at)) ⊎ (result ≡ Err InputError.NoMemory) }
+{
+    match command {
+        Command::Run {
+            workers,
+            jobs,
+            seed,
+            steps,
+        } if workers > 1 => {
+            let settings = Settings {
+                workers,
+                jobs,
+                seed,
+                limit: steps,
+            };
+            run_together(rt, alloc, bytes, settings, gate)
+        }
+        command => output_of(alloc, command, bytes),
+    }
+}
+
+// The run text of the program that the bytes spell and of a run that several workers made.
+fn run_together<R: Threads + Wait + Sync, G: Gate + Sync>(
+    rt: &R,
+    alloc: Global,
+    bytes: &[u8],
+    settings: Settings,
+    gate: &G,
+) -> Result<Output, InputError>
+    requires some { 1 ≤ settings.workers }
+    requires one { 1 ≤ settings.jobs }
+    requires few { settings.jobs ≤ 16 }
+    requires limit { settings.limit ≤ 1000000 }
+    ensures output { IfOk result (λ o. RunsAs settings.limit bytes.now o.end o.text.items) }
+    ensures fault { IfErr result (Tells (IsProgramFault bytes.now)) }
+{
+    let program = read_program(alloc, bytes)?;
+    let ran = run_workers(rt, alloc, &program, settings, gate)?;
+    Ok(Output {
+        text: run_text(alloc, &program, &ran.trace)?,
+        end: end_of(ran.is_complete),
+    })
+}
