@@ -7,19 +7,26 @@ ghost use Rattle.tau_cli.specs.Status.{number_of};
 use crate::{OpenGate, Status, number, tau};
 use std::alloc::Global;
 use std::env;
-use std::io::{self, ErrorKind};
+use std::io::{self, ErrorKind, Print, Stdin, Stdout};
 use std::process::ExitCode;
-use std::rt::Env;
+use std::rt::{Alloc, Env};
+use std::sync::Wait;
+use std::thread::Threads;
 use tau_command::{Line, Words, WordsError};
 use tau_io::{StdSink, StdSource};
 
 /// Does what the command line of the process asks for, from standard input to standard output. It prints the line of
 /// the status on standard error, and gives the number of the status (docs/formats.md, "Statuses"). A word that isn't
 /// UTF-8 is a faulty command line; without memory for the words the status is `NoMemory`.
-pub fn run_process(rt: &HostRuntime) -> ExitCode
+pub fn run_process<R: Env + Alloc + Print + Threads + Wait + Sync>(
+    rt: &R,
+    alloc: Global,
+    input: Stdin,
+    output: Stdout,
+) -> ExitCode
     ensures { (status : Status) × (exit_status result ≡ number_of status) }
 {
-    let status = process_status(rt);
+    let status = process_status(rt, alloc, input, output);
     if status != Status::Done {
         // Nothing is left to do where standard error takes no line.
         let _ = eprintln!(rt; "{status}");
@@ -27,19 +34,17 @@ pub fn run_process(rt: &HostRuntime) -> ExitCode
     ExitCode::from(number(&status))
 }
 
-fn process_status(rt: &HostRuntime) -> Status {
-    match collect_words(rt, rt.alloc()) {
+fn process_status<R: Env + Alloc + Threads + Wait + Sync>(
+    rt: &R,
+    alloc: Global,
+    input: Stdin,
+    output: Stdout,
+) -> Status {
+    match collect_words(rt, alloc) {
         Ok(words) => {
-            let mut input = StdSource::new(rt.stdin());
-            let mut output = StdSink::new(rt.stdout());
-            tau(
-                rt,
-                rt.alloc(),
-                &words,
-                &mut input,
-                &mut output,
-                &OpenGate,
-            )
+            let mut source = StdSource::new(input);
+            let mut sink = StdSink::new(output);
+            tau(rt, alloc, &words, &mut source, &mut sink, &OpenGate)
         }
         Err(error) => Status::from(error),
     }
