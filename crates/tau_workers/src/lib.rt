@@ -1,0 +1,12 @@
+//! A run of a program to its end by several workers, on threads, over one book under a lock.
+#![tactic(auto)]
+
+mod gates;
+mod locked;
+mod running;
+mod workers;
+
+pub use gates::{Gate, OpenGate};
+pub use locked::LockedBook;
+pub use running::{Ran, Settings, run_workers};
+pub use workers::{Worker, run};

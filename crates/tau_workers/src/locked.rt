@@ -1,0 +1,161 @@
+//! A book under a lock.
+ghost use Rattle.std.specs.Prelude.{◌≡◌, ◌<◌, [], IfOk, IfErr, OnErr, length};
+ghost use Rattle.tau_book.specs.Places.{IsNotIdle, LeavesRoom, ComesBack};
+
+use std::alloc::AllocError;
+use std::sync::{Condvar, Mutex, MutexGuard, Wait};
+use tau_book::{Book, Hand, Next, StepPlace, Told};
+use tau_eval::Pending;
+use tau_view::View;
+
+/// A book under a lock, on which several workers stand (docs/rules.md, "Workers"). A lock's value is known by its type alone: of a
+/// book that is taken out of the lock what holds of each book is known, and not which one it is.
+#[derive(Drop)]
+pub struct LockedBook<'p, V: View + Drop + Send> {
+    shared: Mutex<Shared<'p, V>>,
+    changed: Condvar,
+}
+
+// What lies under the lock.
+#[derive(Drop)]
+struct Shared<'p, V: View + Drop + Send> {
+    book: Book<'p, V>,
+    // How many workers wait for a change of the book.
+    waiting: u32,
+    // Whether one of them was woken and hasn't asked again yet.
+    is_waking: bool,
+}
+
+impl<'p, V: View + Drop + Send> LockedBook<'p, V> {
+    /// Puts a book under a lock.
+    pub fn new(book: Book<'p, V>) -> LockedBook<'p, V> {
+        LockedBook {
+            shared: Mutex::new(Shared {
+                book,
+                waiting: 0,
+                is_waking: false,
+            }),
+            changed: Condvar::new(),
+        }
+    }
+
+    /// Takes the book out of the lock.
+    pub fn into_book(self) -> Book<'p, V> {
+        let LockedBook {
+            shared,
+            changed: _changed,
+        } = self;
+        shared.into_inner().book
+    }
+
+    // `next` of the book. Where the book is `Idle`, the worker waits for a change of it and asks again.
+    fn next<R: Wait>(&self, rt: &R, hand: &mut Hand<'p>) -> Result<Next<'p>, AllocError>
+        ensures never_idle { IfOk result IsNotIdle }
+        ensures room { IfOk result (LeavesRoom hand.new) }
+        ensures size { hand.new.size ≡ hand.old.size }
+    {
+        let mut shared = self.shared.lock(rt);
+        for _ in rt.forever() {
+            match shared.book.next(hand)? {
+                Next::Idle { .. } => shared = self.wait(rt, shared),
+                Next::Complete => {
+                    self.changed.notify_all();
+                    return Ok(Next::Complete);
+                }
+                Next::Stopped => {
+                    self.changed.notify_all();
+                    return Ok(Next::Stopped);
+                }
+                answer => {
+                    self.wake(&mut shared);
+                    return Ok(answer);
+                }
+            }
+        }
+        unreachable!()
+    }
+
+    // `act` of the book.
+    fn act<R: Wait>(
+        &self,
+        rt: &R,
+        hand: &mut Hand<'p>,
+        pending: Pending<'p>,
+    ) -> Result<Told<'p>, (Pending<'p>, AllocError)>
+        requires room { length hand.old.jobs < hand.old.size }
+        ensures later { IfOk result (ComesBack hand.old hand.new pending.entry) }
+        ensures pending_on_err { IfErr result (λ e. e.0 ≡ pending.entry) }
+        ensures hand_on_err { OnErr result (hand.new ≡ hand.old) }
+        ensures size { hand.new.size ≡ hand.old.size }
+    {
+        let mut shared = self.shared.lock(rt);
+        let told = shared.book.act(hand, pending)?;
+        self.wake(&mut shared);
+        Ok(told)
+    }
+
+    // `give_back` of the book.
+    fn give_back<R: Wait>(&self, rt: &R, hand: &mut Hand<'p>)
+        ensures empty { hand.new.jobs ≡ [] }
+        ensures size { hand.new.size ≡ hand.old.size }
+    {
+        let mut shared = self.shared.lock(rt);
+        shared.book.give_back(hand);
+        self.wake(&mut shared);
+    }
+
+    // Waits for a change of the book. The lock is free only inside the wait, so that no change falls between the look at the book and
+    // the wait.
+    fn wait<'b, R: Wait>(
+        &self,
+        rt: &R,
+        mut shared: MutexGuard<'b, Shared<'p, V>>,
+    ) -> MutexGuard<'b, Shared<'p, V>> {
+        shared.waiting = shared.waiting.saturating_add(1);
+        let mut shared = self.changed.wait(rt, shared);
+        shared.waiting = shared.waiting.saturating_sub(1);
+        shared.is_waking = false;
+        shared
+    }
+
+    // Wakes a worker that waits, unless one was woken that hasn't asked again yet: that one looks at the book after this change too,
+    // and where it finds something to do, it wakes another.
+    fn wake(&self, shared: &mut Shared<'p, V>) {
+        if shared.waiting > 0 && !shared.is_waking {
+            shared.is_waking = true;
+            self.changed.notify_one();
+        }
+    }
+}
+
+impl<'p, V: View + Drop + Send> StepPlace<'p> for &LockedBook<'p, V> {
+    ghost use Rattle.std.specs.Prelude.{Bool, false, None};
+
+    ghost Key = { Unit {0} };
+
+    ghost key = { λ _. tt };
+
+    ghost tells_end = { false };
+
+    ghost end = { λ _. None };
+
+    fn next<R: Wait>(&mut self, rt: &R, hand: &mut Hand<'p>) -> Result<Next<'p>, AllocError> {
+        let place: &LockedBook<'p, V> = *self;
+        place.next(rt, hand)
+    }
+
+    fn act<R: Wait>(
+        &mut self,
+        rt: &R,
+        hand: &mut Hand<'p>,
+        pending: Pending<'p>,
+    ) -> Result<Told<'p>, (Pending<'p>, AllocError)> {
+        let place: &LockedBook<'p, V> = *self;
+        place.act(rt, hand, pending)
+    }
+
+    fn give_back<R: Wait>(&mut self, rt: &R, hand: &mut Hand<'p>) {
+        let place: &LockedBook<'p, V> = *self;
+        place.give_back(rt, hand);
+    }
+}

@@ -1,0 +1,127 @@
+//! Workers, each on a thread of its own.
+ghost use Rattle.std.specs.Prelude.{◌≡◌, ◌<◌, ℕ, [], IsSome, IsTrue, IsFalse, length, slice_index_or};
+
+use crate::gates::Gate;
+use std::sync::Wait;
+use std::thread;
+use std::thread::Threads;
+use tau_book::{Hand, Next, StepPlace, Told};
+use tau_eval::{Job, Pending};
+
+/// A worker: its number, its place on a book, and its hand; and whether it has ended for want of memory.
+#[derive(Drop)]
+pub struct Worker<'p, P> {
+    pub number: u32,
+    pub place: P,
+    pub hand: Hand<'p>,
+    pub short: bool,
+}
+
+/// Lets each worker work on a thread of its own until the book answers `Complete` or `Stopped` (docs/rules.md, "Workers"). A worker
+/// evaluates a job outside the lock, between `enter` and `leave` of the gate. Without memory it gives its jobs back, is marked as
+/// short, and ends. Each worker keeps its number and its place's key; where places tell their end, the place of a worker that isn't
+/// short has one.
+pub fn run<'p, R: Threads + Wait + Sync, P: StepPlace<'p> + Send, G: Gate + Sync>(
+    rt: &R,
+    workers: &mut [Worker<'p, P>],
+    gate: &G,
+)
+    ensures number { (i : ℕ) (d : _) → i < length workers.old → (slice_index_or workers.new i d).number ≡ (slice_index_or workers.old i d).number }
+    ensures key { (i : ℕ) (d : _) → i < length workers.old → P.key (slice_index_or workers.new i d).place ≡ P.key (slice_index_or workers.old i d).place }
+    ensures end { (i : ℕ) (d : _) → i < length workers.old → IsTrue P.tells_end → IsFalse (slice_index_or workers.new i d).short → IsSome (P.end (slice_index_or workers.new i d).place) }
+{
+    let threads = workers.len();
+    if threads > 0 {
+        thread::for_each_mut(rt, workers, threads, &|_, worker| worker.work(rt, gate));
+    }
+}
+
+impl<'p, P: StepPlace<'p>> Worker<'p, P> {
+    // Works until the book answers `Complete` or `Stopped`, or memory is short.
+    fn work<R: Wait, G: Gate>(&mut self, rt: &R, gate: &G)
+        ensures number { self.new.number ≡ self.old.number }
+        ensures key { P.key self.new.place ≡ P.key self.old.place }
+        ensures end { IsTrue P.tells_end → IsFalse self.new.short → IsSome (P.end self.new.place) }
+    {
+        for _ in rt.forever() {
+            if !self.ask(rt, gate) {
+                return;
+            }
+        }
+        unreachable!()
+    }
+
+    // Asks for something to do, and does it. `false` where the worker has ended.
+    fn ask<R: Wait, G: Gate>(&mut self, rt: &R, gate: &G) -> bool
+        ensures number { self.new.number ≡ self.old.number }
+        ensures key { P.key self.new.place ≡ P.key self.old.place }
+        ensures end { IsTrue P.tells_end → IsFalse result → IsFalse self.new.short → IsSome (P.end self.new.place) }
+    {
+        match self.place.next(rt, &mut self.hand) {
+            Ok(Next::Work(job)) => self.evaluate(rt, gate, job),
+            Ok(Next::Stepped) => true,
+            Ok(Next::Complete | Next::Stopped) => false,
+            Ok(Next::Idle { .. }) => unreachable!(),
+            Err(_) => self.end_short(rt),
+        }
+    }
+
+    // Evaluates a job up to its next effect, and brings that. `false` where memory is short.
+    fn evaluate<R: Wait, G: Gate>(&mut self, rt: &R, gate: &G, job: Job<'p>) -> bool
+        requires room { length self.old.hand.jobs < self.old.hand.size }
+        ensures number { self.new.number ≡ self.old.number }
+        ensures key { P.key self.new.place ≡ P.key self.old.place }
+        ensures short { IsFalse result → IsTrue self.new.short }
+    {
+        let turn = job.turn();
+        gate.enter(self.number, turn);
+        let advanced = job.advance();
+        gate.leave(self.number, turn);
+        match advanced {
+            Ok(pending) => self.bring(rt, pending),
+            Err((job, _)) => self.end_short_with(rt, job),
+        }
+    }
+
+    // Brings an effect, and brings it again for as long as a step of the script comes first. `false` where memory is short.
+    fn bring<R: Wait>(&mut self, rt: &R, pending: Pending<'p>) -> bool
+        requires room { length self.old.hand.jobs < self.old.hand.size }
+        ensures number { self.new.number ≡ self.old.number }
+        ensures key { P.key self.new.place ≡ P.key self.old.place }
+        ensures short { IsFalse result → IsTrue self.new.short }
+    {
+        let mut pending = pending;
+        for _ in rt.forever() {
+            match self.place.act(rt, &mut self.hand, pending) {
+                Ok(Told::Later(back)) => pending = back,
+                Ok(_) => return true,
+                Err((refused, _)) => return self.end_short_with(rt, refused.back()),
+            }
+        }
+        unreachable!()
+    }
+
+    // Puts the job that was refused into the hand, and ends.
+    fn end_short_with<R: Wait>(&mut self, rt: &R, job: Job<'p>) -> bool
+        requires room { length self.old.hand.jobs < self.old.hand.size }
+        ensures number { self.new.number ≡ self.old.number }
+        ensures key { P.key self.new.place ≡ P.key self.old.place }
+        ensures result { IsFalse result }
+        ensures short { IsTrue self.new.short }
+    {
+        self.hand.keep(job);
+        self.end_short(rt)
+    }
+
+    // Gives the jobs back, and ends as short of memory: always `false`.
+    fn end_short<R: Wait>(&mut self, rt: &R) -> bool
+        ensures number { self.new.number ≡ self.old.number }
+        ensures key { P.key self.new.place ≡ P.key self.old.place }
+        ensures result { IsFalse result }
+        ensures short { IsTrue self.new.short }
+    {
+        self.place.give_back(rt, &mut self.hand);
+        self.short = true;
+        false
+    }
+}
