@@ -28,6 +28,7 @@ pub(crate) trait Maker {
 }
 
 /// All is done on the caller's thread.
+#[derive(Drop)]
 pub(crate) struct Alone;
 
 impl Maker for Alone {
@@ -39,6 +40,7 @@ impl Maker for Alone {
 }
 
 /// `run` starts as many workers as it is told, each with a thread of its own.
+#[derive(Drop)]
 pub(crate) struct Together<'a, R: Threads + Wait + Sync, G: Gate + Sync> {
     pub(crate) rt: &'a R,
     pub(crate) gate: &'a G,

@@ -7,9 +7,9 @@ ghost use Rattle.tau_cli.specs.Status.{number_of};
 use crate::{OpenGate, Status, number, tau};
 use std::alloc::Global;
 use std::env;
-use std::io::{self, ErrorKind, Print, Stdin, Stdout};
+use std::io::{self, ErrorKind, Stdin, Stdout};
 use std::process::ExitCode;
-use std::rt::{Alloc, Env};
+use std::rt::Env;
 use std::sync::Wait;
 use std::thread::Threads;
 use tau_command::{Line, Words, WordsError};
@@ -18,7 +18,7 @@ use tau_io::{StdSink, StdSource};
 /// Does what the command line of the process asks for, from standard input to standard output. It prints the line of
 /// the status on standard error, and gives the number of the status (docs/formats.md, "Statuses"). A word that isn't
 /// UTF-8 is a faulty command line; without memory for the words the status is `NoMemory`.
-pub fn run_process<R: Env + Alloc + Print + Threads + Wait + Sync>(
+pub fn run_process<R: Env + Alloc + Eprint + Threads + Wait + Sync>(
     rt: &R,
     alloc: Global,
     input: Stdin,

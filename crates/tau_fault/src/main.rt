@@ -4,5 +4,5 @@
 use std::process::ExitCode;
 
 fn main(rt: HostRuntime) -> ExitCode {
-    tau_cli::run_process(&rt)
+    tau_cli::run_process(&rt, rt.alloc(), rt.stdin(), rt.stdout())
 }

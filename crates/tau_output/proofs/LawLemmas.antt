@@ -57,7 +57,7 @@ writes_without_fault bytes command end text a b w (too_long r l p q) = let few :
 writes_without_fault bytes command end text a b w (within l f) = clean command bytes end text a b w.answers f
 
 -- an answer for an input with a fault tells the fault, or want of memory
-told_once : (command : Command) (bytes : List ℕ) (e : InputError) (a b : ℕ) → Tells (IsInputFault command bytes) e → IsInputFault command bytes a b → (e ≡ Fault a b) ⊎ (e ≡ NoMemory)
+pub told_once : (command : Command) (bytes : List ℕ) (e : InputError) (a b : ℕ) → Tells (IsInputFault command bytes) e → IsInputFault command bytes a b → (e ≡ Fault a b) ⊎ (e ≡ NoMemory)
 told_once command bytes (Fault c d) a b t f = let same = fails_once bytes command c d a b t f in inl (ap (λ x. Fault x d) same.0 ∙ ap (λ x. Fault a x) same.1)
 told_once command bytes NoMemory a b t f = inr refl
 
@@ -71,7 +71,7 @@ tells_within : (command : Command) (bytes : List ℕ) (e : InputError) → lengt
 tells_within command bytes (Fault a b) l t = within l t
 tells_within command bytes NoMemory l t = tt
 
-fault_within : (command : Command) (bytes : List ℕ) (r : Result Output InputError) → length bytes ≤ input_limit → IfErr r (Tells (IsFaultOf command bytes)) → IfErr r (Tells (IsInputFault command bytes))
+pub fault_within : (command : Command) (bytes : List ℕ) (r : Result Output InputError) → length bytes ≤ input_limit → IfErr r (Tells (IsFaultOf command bytes)) → IfErr r (Tells (IsInputFault command bytes))
 fault_within command bytes (Ok o) l t = tt
 fault_within command bytes (Err e) l t = tells_within command bytes e l t
 
