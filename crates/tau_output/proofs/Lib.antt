@@ -2,3 +2,4 @@ pub mod RunLemmas
 pub mod CheckLemmas
 pub mod AuditLemmas
 pub mod LawLemmas
+pub mod DrillLemmas

@@ -34,7 +34,7 @@ pub(crate) fn run_program(
 }
 
 // How a run ends, by whether it is complete.
-fn end_of(is_complete: bool) -> End
+pub(crate) fn end_of(is_complete: bool) -> End
     ensures { result ≡ end_of_run is_complete }
 {
     if is_complete { End::Done } else { End::Stopped }
