@@ -2,7 +2,8 @@
 """Measures `tau run` from start to end: steps, milliseconds by the clock, steps a second, and the peak of the memory.
 
 It builds the program by bin/tau where it isn't built, and prints a table. Each program is run several times, and the
-median is shown. The aim is 50 ms for 1,000 steps, and two seconds for a text of 16 MiB.
+median is shown. The aim is 50 ms for 1,000 steps, and two seconds for a text of 16 MiB. Its arguments are numbers of
+generated programs that are run besides, 1 without any.
 """
 
 import os
@@ -49,6 +50,12 @@ PROGRAMS = [
 ]
 
 
+def generated(number):
+    """The generated program of a number."""
+    made = subprocess.run([PROGRAM, "gen", number], stdout=subprocess.PIPE, check=True)
+    return made.stdout.decode("utf-8")
+
+
 def measured(path):
     """Seconds by the clock, peak memory in MB, and the text, of one run."""
     with open(path, "rb") as source, tempfile.TemporaryFile() as sink:
@@ -71,9 +78,11 @@ def steps_of(text):
 def main():
     if not os.path.exists(PROGRAM):
         subprocess.run([os.path.join(ROOT, "bin", "tau")], stdin=subprocess.DEVNULL, check=False)
+    numbers = sys.argv[1:] or ["1"]
+    programs = PROGRAMS + [(f"the generated program {number}", generated(number)) for number in numbers]
     print(f"{'program':44} {'steps':>6} {'ms':>9} {'steps/s':>10} {'MB':>7}")
     with tempfile.TemporaryDirectory() as folder:
-        for name, text in PROGRAMS:
+        for name, text in programs:
             path = os.path.join(folder, "program.tau")
             with open(path, "w", encoding="utf-8") as file:
                 file.write(text)

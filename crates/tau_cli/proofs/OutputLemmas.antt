@@ -1,7 +1,7 @@
 -- What the words of a command line come to.
 use Rattle.std.proofs.Common.{◌≡◌, ◌⊎◌, inr, ℕ, Bool, true, false, List, [], Option, Some, None, IsTrue, refl, sym, ◌∙◌, subst}
 use Rattle.tau_command.specs.declared.commands.Command.{Command}
-use Rattle.tau_command.specs.declared.commands.Command.TheVariants.{Run, Check, Audit, Report, Print, Gen}
+use Rattle.tau_command.specs.declared.commands.Command.TheVariants.{Run, Check, Audit, Report, Print, Gen, Drill}
 use Rattle.tau_command.specs.Commands.{command_of}
 use Rattle.tau_output.specs.declared.outputs.End.{End}
 use Rattle.tau_output.specs.Faults.{reads_input, IsInputFault}
@@ -29,6 +29,7 @@ any_bytes Audit bytes others end text e w = absurd (cc)
 any_bytes Report bytes others end text e w = absurd (cc)
 any_bytes Print bytes others end text e w = absurd (cc)
 any_bytes (Gen number) bytes others end text e w = record { few = λ h. absurd (cc); answers = w.answers }
+any_bytes (Drill number) bytes others end text e w = record { few = λ h. absurd (cc); answers = w.answers }
 
 -- what is written for the bytes that were read is what is written for those that were left
 pub output_left : (words : List (List ℕ)) (left : Option (List ℕ)) (command : Command) (bytes : List ℕ) (end : End) (text : List ℕ) → command_of words ≡ Some command

@@ -2,7 +2,7 @@
 use Rattle.std.specs.Prelude.{◌≡◌, ◌⊎◌, ℕ, ◌<◌, IsTrue, List, length, Option, Some, None}
 use Rattle.tau_points.specs.declared.point.Point.{Point}
 use Rattle.tau_command.specs.declared.commands.Command.{Command}
-use Rattle.tau_command.specs.declared.commands.Command.TheVariants.{Run, Check, Audit, Report, Print, Gen}
+use Rattle.tau_command.specs.declared.commands.Command.TheVariants.{Run, Check, Audit, Report, Print, Gen, Drill}
 use Rattle.tau_command.specs.Commands.{command_of}
 use Rattle.tau_output.specs.declared.outputs.End.{End}
 use Rattle.tau_output.specs.Faults.{input_limit, reads_input, IsInputFault}
@@ -18,6 +18,7 @@ IsEndOf Audit status = (status ≡ Done) ⊎ ((checkpoint : ℕ) × (point : Poi
 IsEndOf Report status = status ≡ Done
 IsEndOf Print status = status ≡ Done
 IsEndOf (Gen number) status = status ≡ Done
+IsEndOf (Drill number) status = (status ≡ Done) ⊎ (status ≡ Stopped)
 
 -- the bytes are those that a source had left, where it tells them
 abbrev pub AreLeft : Option (List ℕ) → List ℕ → Type 0

@@ -31,7 +31,8 @@ use tau_workers::Gate;
 /// with `Done`, and has exactly as many steps as its limit and isn't complete with `Stopped`; with `check` the line for the
 /// first step that isn't legal with `Bad`, and with `audit` the line for the first checkpoint that isn't safe with `Broken`.
 /// `WriteFault` comes only where the sink's count rose; the sink then holds a front of such a text more than before.
-/// `NoMemory` may come in place of each; nothing or a front of the text is written then. `gen` reads nothing.
+/// `NoMemory` may come in place of each; nothing or a front of the text is written then. `gen` and `drill` read nothing,
+/// and `drill` ends with `Done` or `Stopped` as the run does that it tells of.
 pub fn tau_still<I: Source, O: Sink>(
     alloc: Global,
     words: &Words,
@@ -45,9 +46,9 @@ pub fn tau_still<I: Source, O: Sink>(
 
     ensures read_fault { result ≡ Status.ReadFault
         → HasRisen (I.faults input.old) (I.faults input.new) }
-    // `gen` reads nothing.
-    ensures untouched { (number : ℕ) → command_of words.now ≡ Some (Command.Gen number)
-        → (input.new ≡ input.old) × (result ≢ Status.ReadFault) }
+    // `gen` and `drill` read nothing.
+    ensures untouched { (command : Command) → command_of words.now ≡ Some command
+        → reads command ≡ false → (input.new ≡ input.old) × (result ≢ Status.ReadFault) }
 
     ensures input { (fault at : ℕ) → result ≡ Status.Input fault at
         → IsFaulty words.now (I.left input.old) fault at }
@@ -213,8 +214,8 @@ fn output_for<M: Maker, I: Source>(
         IsOutput M.writes words.now (I.left input.old) (of_end o.end) o.text.items) }
     ensures status { IfErr result (Stops words.now (I.left input.old) (input.new ≡ input.old)
         (HasRisen (I.faults input.old) (I.faults input.new))) }
-    ensures untouched { (number : ℕ) → command_of words.now ≡ Some (Command.Gen number)
-        → input.new ≡ input.old }
+    ensures untouched { (command : Command) → command_of words.now ≡ Some command
+        → reads command ≡ false → input.new ≡ input.old }
     ensures faulty { (command : Command) (bytes : List ℕ) (fault at : ℕ)
         → command_of words.now ≡ Some command → I.left input.old ≡ Some bytes
         → IsInputFault command bytes fault at

@@ -91,6 +91,20 @@ fn generates_without_reading(rt: HostRuntime) -> Result<(), Fail> {
     Ok(())
 }
 
+// And so with a drill.
+#[test]
+fn drills_without_reading(rt: HostRuntime) -> Result<(), Fail> {
+    let fails = vec![in rt.alloc(); 0]?;
+    let mut source = MemorySource::new(Vec::new(rt.alloc()), 16, fails);
+    let mut output = SteadySink::new(rt.alloc());
+    let status = tau(rt.alloc(), "drill 1", &mut source, &mut output);
+    assert_eq!(rt; status, Status::Done);
+    let want =
+        "(steps 696)\n(counts (checkpoints 7) (holds 0) (drops 2) (falls 12) (losses 1))\n";
+    assert_eq!(rt; output.bytes(), want.as_bytes());
+    Ok(())
+}
+
 // The line of a status, if there is memory for it.
 fn line_of(alloc: Global, status: Status) -> Option<String> {
     status.to_string(alloc).ok()

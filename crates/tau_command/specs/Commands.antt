@@ -9,7 +9,7 @@ use Rattle.clap.specs.declared.parser.matches.ValueSource.{ValueSource}
 use Rattle.clap.specs.declared.parser.matches.ValueSource.TheVariants.{CommandLine}
 use Rattle.tau_command.specs.Arguments.{tau_command}
 use Rattle.tau_command.specs.declared.commands.Command.{Command}
-use Rattle.tau_command.specs.declared.commands.Command.TheVariants.{Run, Check, Audit, Report, Print, Gen}
+use Rattle.tau_command.specs.declared.commands.Command.TheVariants.{Run, Check, Audit, Report, Print, Gen, Drill}
 
 -- ---- what the matches say
 
@@ -47,7 +47,7 @@ run_of rows =
     (number_of 32 (codes "steps") rows)) (number_of 64 (codes "seed") rows))
     (number_of 32 (codes "jobs") rows)) (number_of 32 (codes "workers") rows)
 
--- the command with a name; `gen` has its number
+-- the command with a name; `gen` and `drill` have their number
 abbrev pub command_named : Text → List Row → Option Command
 command_named name rows = if bytes_eq name (codes "run") then run_of rows
     else (if bytes_eq name (codes "check") then Some Check
@@ -55,12 +55,17 @@ command_named name rows = if bytes_eq name (codes "run") then run_of rows
     else (if bytes_eq name (codes "report") then Some Report
     else (if bytes_eq name (codes "print") then Some Print
     else (if bytes_eq name (codes "gen") then option_map (λ n. Gen n) (number_of 64 (codes "number") rows)
-    else None)))))
+    else (if bytes_eq name (codes "drill") then option_map (λ n. Drill n) (number_of 64 (codes "number") rows)
+    else None))))))
 
--- an option stands with a command other than `run`, or a number with one other than `gen`
+-- a command with a number
+abbrev pub takes_number : Text → Bool
+takes_number name = bytes_eq name (codes "gen") || bytes_eq name (codes "drill")
+
+-- an option stands with a command other than `run`, or a number with one that takes none
 abbrev pub stands_amiss : Text → List Row → Bool
 stands_amiss name rows = (has_option rows && not (bytes_eq name (codes "run")))
-    || (stands (codes "number") rows && not (bytes_eq name (codes "gen")))
+    || (stands (codes "number") rows && not (takes_number name))
 
 -- the command with a name, where what stands on the line goes with it
 abbrev pub command_allowed : List Row → Text → Option Command

@@ -39,6 +39,11 @@ pub enum Command {
         /// The number of the program.
         number: u64,
     },
+    /// Runs a generated program, and tells its steps and counts.
+    Drill {
+        /// The number of the program, which is the seed too.
+        number: u64,
+    },
 }
 
 /// Why words name no command (docs/formats.md, "Error types").

@@ -1,7 +1,7 @@
 //! What the matches of `clap` say.
 ghost use Rattle.std.specs.Prelude.{◌≡◌};
 ghost use Rattle.clap.specs.Words.{found_of, rows_of};
-ghost use Rattle.tau_command.specs.Commands.{command_allowed, command_matched, command_named, has_option, is_from_words, number_of, run_of, stands, stands_amiss};
+ghost use Rattle.tau_command.specs.Commands.{command_allowed, command_matched, command_named, has_option, is_from_words, number_of, run_of, stands, stands_amiss, takes_number};
 
 use crate::Command;
 use clap::ArgMatches;
@@ -25,11 +25,18 @@ fn command_allowed(name: &str, matches: &ArgMatches<'_>) -> Option<Command>
     }
 }
 
-// Whether an option stands with a command other than `run`, or a number with one other than `gen`.
+// Whether an option stands with a command other than `run`, or a number with one that takes none.
 fn stands_amiss(name: &str, matches: &ArgMatches<'_>) -> bool
     ensures { result ≡ stands_amiss name.now (rows_of (found_of matches.now)) }
 {
-    (has_option(matches) && name != "run") || (stands(matches, "number") && name != "gen")
+    (has_option(matches) && name != "run") || (stands(matches, "number") && !takes_number(name))
+}
+
+// Whether a command has a number.
+fn takes_number(name: &str) -> bool
+    ensures { result ≡ takes_number name.now }
+{
+    name == "gen" || name == "drill"
 }
 
 // The command with this name.
@@ -42,9 +49,8 @@ fn command_named(name: &str, matches: &ArgMatches<'_>) -> Option<Command>
         "audit" => Some(Command::Audit),
         "report" => Some(Command::Report),
         "print" => Some(Command::Print),
-        "gen" => Some(Command::Gen {
-            number: long_number(matches, "number")?,
-        }),
+        "gen" => long_number(matches, "number").map(|number| Command::Gen { number }),
+        "drill" => long_number(matches, "number").map(|number| Command::Drill { number }),
         _ => None,
     }
 }

@@ -37,6 +37,10 @@ fn refuses_words(rt: HostRuntime) {
         "gen",
         "gen x",
         "gen 18446744073709551616",
+        "drill",
+        "drill x",
+        "drill 1 --seed 2",
+        "check 5",
         "audit 5",
         "run 5",
         "gen 5 6",
@@ -74,6 +78,7 @@ fn reads_words(rt: HostRuntime) {
         ("print", Command::Print),
         ("gen +5", Command::Gen { number: 5 }),
         ("gen -- 5", Command::Gen { number: 5 }),
+        ("drill 5", Command::Drill { number: 5 }),
     ] {
         assert_eq!(rt; read(rt.alloc(), line), Ok(command));
     }

@@ -12,7 +12,7 @@ use Rattle.tau_check.specs.Legality.{IsFirstIllegal}
 use Rattle.tau_report.specs.Report.{IsReportText}
 use Rattle.tau_report.proofs.Uniqueness.{report_once}
 use Rattle.tau_command.specs.declared.commands.Command.{Command}
-use Rattle.tau_command.specs.declared.commands.Command.TheVariants.{Run as RunCommand, Check, Audit, Report, Print, Gen}
+use Rattle.tau_command.specs.declared.commands.Command.TheVariants.{Run as RunCommand, Check, Audit, Report, Print, Gen, Drill}
 use Rattle.tau_input.specs.declared.errors.InputError.{InputError}
 use Rattle.tau_input.specs.declared.errors.InputError.TheVariants.{Fault, NoMemory}
 use Rattle.tau_input.specs.Errors.{Tells}
@@ -36,6 +36,7 @@ one_fault_of Audit bytes a b c d f g = (run_unique bytes).one_fault a b c d f g
 one_fault_of Report bytes a b c d f g = (run_unique bytes).one_fault a b c d f g
 one_fault_of Print bytes a b c d f g = (print_unique bytes).one_fault a b c d f g
 one_fault_of (Gen number) bytes a b c d f g = absurd f
+one_fault_of (Drill number) bytes a b c d f g = absurd f
 
 pub fails_once : (bytes : List ℕ) → FailsOnce bytes
 fails_once bytes command a b c d (too_long r l p q) (too_long s m v w) = (p ∙ sym v, q ∙ sym w)
@@ -51,6 +52,7 @@ clean Audit bytes end text a b w f = (run_unique bytes).not_both (w.program, w.r
 clean Report bytes end text a b w f = (run_unique bytes).not_both (w.0.program, w.0.run) a b w.0.read f
 clean Print bytes end text a b w f = (print_unique bytes).not_both w.0.program a b w.0.read f
 clean (Gen number) bytes end text a b w f = absurd f
+clean (Drill number) bytes end text a b w f = absurd f
 
 pub writes_without_fault : (bytes : List ℕ) → WritesWithoutFault bytes
 writes_without_fault bytes command end text a b w (too_long r l p q) = let few : length bytes ≤ input_limit = w.few r in omega arith
@@ -177,6 +179,7 @@ answers_once Audit bytes end another text other n v w = audit_once bytes end ano
 answers_once Report bytes end another text other n v w = (v.1 ∙ sym w.1, report_text_once bytes text other v.0 w.0)
 answers_once Print bytes end another text other n v w = (v.1 ∙ sym w.1, print_text_once bytes text other v.0 w.0)
 answers_once (Gen number) bytes end another text other n v w = (v.1 ∙ sym w.1, v.0.is_text ∙ sym w.0.is_text)
+answers_once (Drill number) bytes end another text other n v w = absurd n
 
 pub writes_once : (bytes : List ℕ) → WritesOnce bytes
 writes_once bytes command end another text other n v w = answers_once command bytes end another text other n v.answers w.answers

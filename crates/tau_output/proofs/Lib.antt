@@ -2,4 +2,5 @@ pub mod RunLemmas
 pub mod CheckLemmas
 pub mod AuditLemmas
 pub mod LawLemmas
-mod TogetherLemmas
+pub mod TogetherLemmas
+pub mod DrillLemmas

@@ -46,7 +46,7 @@ report_lines P T forms r =
     subst (All L) (sym r.is) (All-append L r.saved (counts_form T ∷ []) (saved_lines P T _ r.saved r.saved_are) (All-cons L (counts_form T) [] (inl refl) (All-nil L)))
 
 -- how the run ends
-ends : (limit : ℕ) (P : Program) (T : Run) (is_complete : Bool) → (IsTrue is_complete → Complete P T × (len T ≤ limit)) → (IsFalse is_complete → (¬ Complete P T) × (len T ≡ limit)) → EndsAs limit P T (end_of_run is_complete)
+pub ends : (limit : ℕ) (P : Program) (T : Run) (is_complete : Bool) → (IsTrue is_complete → Complete P T × (len T ≤ limit)) → (IsFalse is_complete → (¬ Complete P T) × (len T ≡ limit)) → EndsAs limit P T (end_of_run is_complete)
 ends limit P T true complete stopped = complete refl
 ends limit P T false complete stopped = stopped refl
 

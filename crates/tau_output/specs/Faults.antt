@@ -1,7 +1,7 @@
 -- The fault of the input of a command (docs/formats.md, "Input faults").
 use Rattle.std.specs.Prelude.{◌≡◌, ℕ, ◌<◌, ◌≤◌, Bool, true, false, IsTrue, List, length}
 use Rattle.tau_command.specs.declared.commands.Command.{Command}
-use Rattle.tau_command.specs.declared.commands.Command.TheVariants.{Run, Check, Audit, Report, Print, Gen}
+use Rattle.tau_command.specs.declared.commands.Command.TheVariants.{Run, Check, Audit, Report, Print, Gen, Drill}
 use Rattle.tau_input.specs.Faults.{IsProgramFault, IsRunFault, IsPrintFault}
 
 -- how many bytes an input may have: 16 MiB
@@ -16,6 +16,7 @@ reads_input Audit = true
 reads_input Report = true
 reads_input Print = true
 reads_input (Gen number) = false
+reads_input (Drill number) = false
 
 -- the first fault of bytes as the command takes them
 abbrev pub IsFaultOf : Command → List ℕ → ℕ → ℕ → Type 0
@@ -25,6 +26,7 @@ IsFaultOf Audit bytes fault at = IsRunFault bytes fault at
 IsFaultOf Report bytes fault at = IsRunFault bytes fault at
 IsFaultOf Print bytes fault at = IsPrintFault bytes fault at
 IsFaultOf (Gen number) bytes fault at = ⊥
+IsFaultOf (Drill number) bytes fault at = ⊥
 
 -- the input of a command has this fault at this place: too many bytes first
 pub data IsInputFault (command : Command) (bytes : List ℕ) (fault at : ℕ) : Type 0 where

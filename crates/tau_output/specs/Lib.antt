@@ -4,6 +4,7 @@ pub mod Checks
 pub mod Audits
 pub mod Reports
 pub mod Printing
+pub mod Drills
 pub mod Ends
 pub mod Writing
 pub mod Laws

@@ -1,7 +1,7 @@
 -- What each command writes for the bytes of its input, and how it then ends.
 use Rattle.std.specs.Prelude.{◌≡◌, ℕ, ◌≤◌, IsTrue, List, length}
 use Rattle.tau_command.specs.declared.commands.Command.{Command}
-use Rattle.tau_command.specs.declared.commands.Command.TheVariants.{Run, Check, Audit, Report, Print, Gen}
+use Rattle.tau_command.specs.declared.commands.Command.TheVariants.{Run, Check, Audit, Report, Print, Gen, Drill}
 use Rattle.tau_output.specs.declared.outputs.End.{End}
 use Rattle.tau_output.specs.declared.outputs.End.TheVariants.{Done}
 use Rattle.tau_output.specs.Faults.{input_limit, reads_input}
@@ -10,6 +10,7 @@ use Rattle.tau_output.specs.Checks.{ChecksAs}
 use Rattle.tau_output.specs.Audits.{AuditsAs}
 use Rattle.tau_output.specs.Reports.{ReportsAs}
 use Rattle.tau_output.specs.Printing.{PrintsAs, GeneratesAs}
+use Rattle.tau_output.specs.Drills.{DrillsAs}
 
 -- the text that a command writes for bytes, and how it then ends
 abbrev pub Answers : Command → List ℕ → End → List ℕ → Type 0
@@ -19,6 +20,7 @@ Answers Audit bytes end text = AuditsAs bytes end text
 Answers Report bytes end text = ReportsAs bytes text × (end ≡ Done)
 Answers Print bytes end text = PrintsAs bytes text × (end ≡ Done)
 Answers (Gen number) bytes end text = GeneratesAs number text × (end ≡ Done)
+Answers (Drill number) bytes end text = DrillsAs number end text
 
 -- and so for an input of these bytes, which are not too many where the command reads any
 pub record Writes (command : Command) (bytes : List ℕ) (end : End) (text : List ℕ) : Type 0 where

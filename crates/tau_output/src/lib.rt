@@ -3,6 +3,7 @@
 
 mod auditing;
 mod checking;
+mod drilling;
 mod generating;
 mod laws;
 mod outputs;

@@ -6,6 +6,7 @@ ghost use Rattle.tau_output.specs.Writing.{Writes, HasLimit};
 
 use crate::auditing::audit_run;
 use crate::checking::check_run;
+use crate::drilling::drill_program;
 use crate::generating::generate_program;
 use crate::printing::print_program;
 use crate::reporting::report_run;
@@ -56,6 +57,7 @@ pub fn reads_input(command: &Command) -> bool
         Command::Report => true,
         Command::Print => true,
         Command::Gen { .. } => false,
+        Command::Drill { .. } => false,
     }
 }
 
@@ -83,5 +85,6 @@ pub fn output_of(alloc: Global, command: Command, bytes: &[u8]) -> Result<Output
         Command::Report => report_run(alloc, bytes),
         Command::Print => print_program(alloc, bytes),
         Command::Gen { number } => Ok(generate_program(alloc, number)?),
+        Command::Drill { number } => Ok(drill_program(alloc, number)?),
     }
 }
