@@ -104,9 +104,9 @@ pub fn tau<R: Threads + Wait + Sync, I: Source, O: Sink, G: Gate + Sync>(
 
     ensures read_fault { result ≡ Status.ReadFault
         → HasRisen (I.faults input.old) (I.faults input.new) }
-    // `gen` reads nothing.
-    ensures untouched { (number : ℕ) → command_of words.now ≡ Some (Command.Gen number)
-        → (input.new ≡ input.old) × (result ≢ Status.ReadFault) }
+    // `gen` and `drill` read nothing.
+    ensures untouched { (command : Command) → command_of words.now ≡ Some command
+        → reads command ≡ false → (input.new ≡ input.old) × (result ≢ Status.ReadFault) }
 
     ensures input { (fault at : ℕ) → result ≡ Status.Input fault at
         → IsFaulty words.now (I.left input.old) fault at }
@@ -159,8 +159,8 @@ fn answer<M: Maker, I: Source, O: Sink>(
 
     ensures read_fault { result ≡ Status.ReadFault
         → HasRisen (I.faults input.old) (I.faults input.new) }
-    ensures untouched { (number : ℕ) → command_of words.now ≡ Some (Command.Gen number)
-        → (input.new ≡ input.old) × (result ≢ Status.ReadFault) }
+    ensures untouched { (command : Command) → command_of words.now ≡ Some command
+        → reads command ≡ false → (input.new ≡ input.old) × (result ≢ Status.ReadFault) }
 
     ensures input { (fault at : ℕ) → result ≡ Status.Input fault at
         → IsFaulty words.now (I.left input.old) fault at }

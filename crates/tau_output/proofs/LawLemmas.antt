@@ -26,7 +26,8 @@ use Rattle.tau_output.specs.Audits.{IsAudited, broken_line, AuditsAs}
 use Rattle.tau_output.specs.Writing.{Answers, Writes}
 use Rattle.tau_output.specs.Reports.{ReportsAs}
 use Rattle.tau_output.specs.Printing.{PrintsAs}
-use Rattle.tau_output.specs.Laws.{RunsNothing, WritesOnce, WritesWithoutFault, FailsOnce}
+use Rattle.tau_output.proofs.SerialLemmas.{runs_once, drills_once}
+use Rattle.tau_output.specs.Laws.{WritesOnce, WritesWithoutFault, FailsOnce}
 
 -- bytes have one fault as a command takes them
 one_fault_of : (command : Command) (bytes : List ℕ) (a b c d : ℕ) → IsFaultOf command bytes a b → IsFaultOf command bytes c d → (a ≡ c) × (b ≡ d)
@@ -172,14 +173,14 @@ print_text_once : (bytes text other : List ℕ) → PrintsAs bytes text → Prin
 print_text_once bytes text other v w =
     v.is_text ∙ ap (λ p. printed (forms.printed p)) ((print_unique bytes).one_meaning v.program w.program v.read w.read) ∙ sym w.is_text
 
-answers_once : (command : Command) (bytes : List ℕ) (end another : End) (text other : List ℕ) → RunsNothing command → Answers command bytes end text → Answers command bytes another other → (end ≡ another) × (text ≡ other)
-answers_once (RunCommand workers jobs seed steps) bytes end another text other n v w = absurd n
-answers_once Check bytes end another text other n v w = check_once bytes end another text other v w
-answers_once Audit bytes end another text other n v w = audit_once bytes end another text other v w
-answers_once Report bytes end another text other n v w = (v.1 ∙ sym w.1, report_text_once bytes text other v.0 w.0)
-answers_once Print bytes end another text other n v w = (v.1 ∙ sym w.1, print_text_once bytes text other v.0 w.0)
-answers_once (Gen number) bytes end another text other n v w = (v.1 ∙ sym w.1, v.0.is_text ∙ sym w.0.is_text)
-answers_once (Drill number) bytes end another text other n v w = absurd n
+answers_once : (command : Command) (bytes : List ℕ) (end another : End) (text other : List ℕ) → Answers command bytes end text → Answers command bytes another other → (end ≡ another) × (text ≡ other)
+answers_once (RunCommand workers jobs seed steps) bytes end another text other v w = runs_once jobs seed steps bytes end another text other v w
+answers_once Check bytes end another text other v w = check_once bytes end another text other v w
+answers_once Audit bytes end another text other v w = audit_once bytes end another text other v w
+answers_once Report bytes end another text other v w = (v.1 ∙ sym w.1, report_text_once bytes text other v.0 w.0)
+answers_once Print bytes end another text other v w = (v.1 ∙ sym w.1, print_text_once bytes text other v.0 w.0)
+answers_once (Gen number) bytes end another text other v w = (v.1 ∙ sym w.1, v.0.is_text ∙ sym w.0.is_text)
+answers_once (Drill number) bytes end another text other v w = drills_once number end another text other v w
 
 pub writes_once : (bytes : List ℕ) → WritesOnce bytes
-writes_once bytes command end another text other n v w = answers_once command bytes end another text other n v.answers w.answers
+writes_once bytes command end another text other v w = answers_once command bytes end another text other v.answers w.answers

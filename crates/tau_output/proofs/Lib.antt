@@ -4,3 +4,4 @@ pub mod AuditLemmas
 pub mod LawLemmas
 pub mod TogetherLemmas
 pub mod DrillLemmas
+pub mod SerialLemmas

@@ -64,7 +64,7 @@ runs_serially jobs seed limit P T is_complete bytes text spelled serial well leg
     record { runs = runs_as limit P T is_complete bytes text spelled well legal complete stopped is_text read_back; serial = serial }
 
 -- a run ends in one way
-ends_once : (limit other : ℕ) (P : Program) (T : Run) (end another : End) → EndsAs limit P T end → EndsAs other P T another → end ≡ another
+pub ends_once : (limit other : ℕ) (P : Program) (T : Run) (end another : End) → EndsAs limit P T end → EndsAs other P T another → end ≡ another
 ends_once limit other P T Done Done a b = refl
 ends_once limit other P T Done Stopped a b = absurd (b.0 a.0)
 ends_once limit other P T Stopped Done a b = absurd (a.0 b.0)

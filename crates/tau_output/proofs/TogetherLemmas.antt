@@ -1,7 +1,7 @@
 -- What `run` writes where it starts several workers.
 use Rattle.std.proofs.Common.{◌≡◌, ◌⊎◌, inl, inr, ℕ, ◌<◌, ◌≤◌, List, length, Result, Ok, Err, IfOk, IfErr, ap, subst, arith}
 use Rattle.tau_command.specs.declared.commands.Command.{Command}
-use Rattle.tau_command.specs.declared.commands.Command.TheVariants.{Run as RunCommand, Check, Audit, Report, Print, Gen}
+use Rattle.tau_command.specs.declared.commands.Command.TheVariants.{Run as RunCommand, Check, Audit, Report, Print, Gen, Drill}
 use Rattle.tau_input.specs.declared.errors.InputError.{InputError}
 use Rattle.tau_input.specs.declared.errors.InputError.TheVariants.{Fault, NoMemory}
 use Rattle.tau_input.specs.Errors.{Tells}
@@ -22,6 +22,7 @@ written_together Audit bytes end text w = record { few = w.few; answers = w.answ
 written_together Report bytes end text w = record { few = w.few; answers = w.answers }
 written_together Print bytes end text w = record { few = w.few; answers = w.answers }
 written_together (Gen number) bytes end text w = record { few = w.few; answers = w.answers }
+written_together (Drill number) bytes end text w = record { few = w.few; answers = w.answers }
 
 -- what two workers or more write
 pub run_together : (workers jobs seed steps : ℕ) (bytes : List ℕ) (end : End) (text : List ℕ) → length bytes ≤ input_limit → 1 < workers → RunsAs steps bytes end text

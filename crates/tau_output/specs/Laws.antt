@@ -4,22 +4,16 @@ use Rattle.std.specs.Prelude.{◌≡◌, ℕ, ◌≤◌, List, [], length, codes
 use Rattle.tau_sexpr.specs.Printing.{printed}
 use Rattle.tau_forms.specs.Printed as forms
 use Rattle.tau_command.specs.declared.commands.Command.{Command}
-use Rattle.tau_command.specs.declared.commands.Command.TheVariants.{Run, Check, Audit, Print, Drill}
+use Rattle.tau_command.specs.declared.commands.Command.TheVariants.{Check, Audit, Print}
 use Rattle.tau_output.specs.declared.outputs.End.{End}
 use Rattle.tau_output.specs.declared.outputs.End.TheVariants.{Done, Stopped}
 use Rattle.tau_output.specs.Faults.{input_limit, IsInputFault}
 use Rattle.tau_output.specs.Runs.{RunsAs}
 use Rattle.tau_output.specs.Writing.{Writes}
 
--- a command that runs nothing
-abbrev pub RunsNothing : Command → Type 0
-RunsNothing (Run workers jobs seed steps) = ⊥
-RunsNothing (Drill number) = ⊥
-RunsNothing command = Unit {0}
-
--- a command that runs nothing writes no other text for the same bytes, and ends in no other way
+-- on one thread a command writes no other text for the same bytes, and ends in no other way
 abbrev pub WritesOnce : List ℕ → Type 0
-WritesOnce bytes = (command : Command) (end another : End) (text other : List ℕ) → RunsNothing command → Writes command bytes end text → Writes command bytes another other → (end ≡ another) × (text ≡ other)
+WritesOnce bytes = (command : Command) (end another : End) (text other : List ℕ) → Writes command bytes end text → Writes command bytes another other → (end ≡ another) × (text ≡ other)
 
 -- a command writes nothing for bytes with a fault
 abbrev pub WritesWithoutFault : List ℕ → Type 0
