@@ -9,4 +9,4 @@ mod workers;
 pub use gates::{Gate, OpenGate};
 pub use locked::LockedBook;
 pub use running::{Ran, Settings, run_workers};
-pub use workers::{Worker, run};
+pub use workers::{Task, Worker, run};

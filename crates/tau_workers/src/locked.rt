@@ -12,13 +12,33 @@ use tau_view::View;
 /// book that is taken out of the lock what holds of each book is known, and not which one it is.
 #[derive(Drop)]
 pub struct LockedBook<'p, V: View + Drop + Send> {
+    desk: Desk<'p, V>,
+}
+
+impl<'p, V: View + Drop + Send> LockedBook<'p, V> {
+    /// Puts a book under a lock.
+    pub fn new(book: Book<'p, V>) -> LockedBook<'p, V> {
+        LockedBook {
+            desk: Desk::new(book),
+        }
+    }
+
+    /// Takes the book out of the lock.
+    pub fn into_book(self) -> Book<'p, V> {
+        self.desk.into_book()
+    }
+}
+
+// The lock, and what is told where the book changes.
+#[derive(Drop)]
+struct Desk<'p, V: View + Drop> {
     shared: Mutex<Shared<'p, V>>,
     changed: Condvar,
 }
 
 // What lies under the lock.
 #[derive(Drop)]
-struct Shared<'p, V: View + Drop + Send> {
+struct Shared<'p, V: View + Drop> {
     book: Book<'p, V>,
     // How many workers wait for a change of the book.
     waiting: u32,
@@ -26,10 +46,10 @@ struct Shared<'p, V: View + Drop + Send> {
     is_waking: bool,
 }
 
-impl<'p, V: View + Drop + Send> LockedBook<'p, V> {
-    /// Puts a book under a lock.
-    pub fn new(book: Book<'p, V>) -> LockedBook<'p, V> {
-        LockedBook {
+impl<'p, V: View + Drop> Desk<'p, V> {
+    // Puts a book under a lock.
+    fn new(book: Book<'p, V>) -> Desk<'p, V> {
+        Desk {
             shared: Mutex::new(Shared {
                 book,
                 waiting: 0,
@@ -39,9 +59,9 @@ impl<'p, V: View + Drop + Send> LockedBook<'p, V> {
         }
     }
 
-    /// Takes the book out of the lock.
-    pub fn into_book(self) -> Book<'p, V> {
-        let LockedBook {
+    // Takes the book out of the lock.
+    fn into_book(self) -> Book<'p, V> {
+        let Desk {
             shared,
             changed: _changed,
         } = self;
@@ -140,8 +160,7 @@ impl<'p, V: View + Drop + Send> StepPlace<'p> for &LockedBook<'p, V> {
     ghost end = { λ _. None };
 
     fn next<R: Wait>(&mut self, rt: &R, hand: &mut Hand<'p>) -> Result<Next<'p>, AllocError> {
-        let place: &LockedBook<'p, V> = *self;
-        place.next(rt, hand)
+        self.desk.next(rt, hand)
     }
 
     fn act<R: Wait>(
@@ -150,12 +169,10 @@ impl<'p, V: View + Drop + Send> StepPlace<'p> for &LockedBook<'p, V> {
         hand: &mut Hand<'p>,
         pending: Pending<'p>,
     ) -> Result<Told<'p>, (Pending<'p>, AllocError)> {
-        let place: &LockedBook<'p, V> = *self;
-        place.act(rt, hand, pending)
+        self.desk.act(rt, hand, pending)
     }
 
     fn give_back<R: Wait>(&mut self, rt: &R, hand: &mut Hand<'p>) {
-        let place: &LockedBook<'p, V> = *self;
-        place.give_back(rt, hand);
+        self.desk.give_back(rt, hand);
     }
 }

@@ -17,18 +17,29 @@ pub struct Worker<'p, P> {
     pub short: bool,
 }
 
-/// Lets each worker work on a thread of its own until the book answers `Complete` or `Stopped` (docs/rules.md, "Workers"). A worker
-/// evaluates a job outside the lock, between `enter` and `leave` of the gate. Without memory it gives its jobs back, is marked as
-/// short, and ends. Each worker keeps its number and its place's key; where places tell their end, the place of a worker that isn't
-/// short has one.
-pub fn run<'p, R: Threads + Wait + Sync, P: StepPlace<'p> + Send, G: Gate + Sync>(
+/// What a thread does, which keeps a part of what it is, and has ended in some way. (A bound that names a lifetime, as `StepPlace<'p>`,
+/// is none that a thread may be given, so `run` takes this one.)
+pub trait Task {
+    ghost Part: { Type 0 };
+
+    ghost part: { Self → Part };
+
+    ghost has_ended: { Self → Type 0 };
+
+    fn work<R: Wait, G: Gate>(&mut self, rt: &R, gate: &G)
+        ensures part { part self.new ≡ part self.old }
+        ensures ended { has_ended self.new };
+}
+
+/// Lets each worker work on a thread of its own until it ends (docs/rules.md, "Workers"). Each keeps its part and has ended: a `Worker`
+/// keeps its number and its place's key, and where its place tells its end and it isn't short, the place has one.
+pub fn run<R: Threads + Wait + Sync, T: Task + Send, G: Gate + Sync>(
     rt: &R,
-    workers: &mut [Worker<'p, P>],
+    workers: &mut [T],
     gate: &G,
 )
-    ensures number { (i : ℕ) (d : _) → i < length workers.old → (slice_index_or workers.new i d).number ≡ (slice_index_or workers.old i d).number }
-    ensures key { (i : ℕ) (d : _) → i < length workers.old → P.key (slice_index_or workers.new i d).place ≡ P.key (slice_index_or workers.old i d).place }
-    ensures end { (i : ℕ) (d : _) → i < length workers.old → IsTrue P.tells_end → IsFalse (slice_index_or workers.new i d).short → IsSome (P.end (slice_index_or workers.new i d).place) }
+    ensures part { (i : ℕ) (d : _) → i < length workers.old → T.part (slice_index_or workers.new i d) ≡ T.part (slice_index_or workers.old i d) }
+    ensures ended { (i : ℕ) (d : _) → i < length workers.old → T.has_ended (slice_index_or workers.new i d) }
 {
     let threads = workers.len();
     if threads > 0 {
@@ -36,9 +47,24 @@ pub fn run<'p, R: Threads + Wait + Sync, P: StepPlace<'p> + Send, G: Gate + Sync
     }
 }
 
+// A worker keeps its number and its place's key. Where its place tells its end and it isn't short, the place has one.
+impl<'p, P: StepPlace<'p>> Task for Worker<'p, P> {
+    ghost use Rattle.std.specs.Prelude.{ℕ, IsTrue, IsFalse, IsSome};
+
+    ghost Part = { ℕ × P.Key };
+
+    ghost part = { λ w. (w.number, P.key w.place) };
+
+    ghost has_ended = { λ w. IsTrue P.tells_end → IsFalse w.short → IsSome (P.end w.place) };
+
+    fn work<R: Wait, G: Gate>(&mut self, rt: &R, gate: &G) {
+        self.work_on(rt, gate);
+    }
+}
+
 impl<'p, P: StepPlace<'p>> Worker<'p, P> {
     // Works until the book answers `Complete` or `Stopped`, or memory is short.
-    fn work<R: Wait, G: Gate>(&mut self, rt: &R, gate: &G)
+    fn work_on<R: Wait, G: Gate>(&mut self, rt: &R, gate: &G)
         ensures number { self.new.number ≡ self.old.number }
         ensures key { P.key self.new.place ≡ P.key self.old.place }
         ensures end { IsTrue P.tells_end → IsFalse self.new.short → IsSome (P.end self.new.place) }
@@ -72,6 +98,7 @@ impl<'p, P: StepPlace<'p>> Worker<'p, P> {
         ensures number { self.new.number ≡ self.old.number }
         ensures key { P.key self.new.place ≡ P.key self.old.place }
         ensures short { IsFalse result → IsTrue self.new.short }
+        ensures empty { IsFalse result → self.new.hand.jobs ≡ [] }
     {
         let turn = job.turn();
         gate.enter(self.number, turn);
@@ -89,6 +116,7 @@ impl<'p, P: StepPlace<'p>> Worker<'p, P> {
         ensures number { self.new.number ≡ self.old.number }
         ensures key { P.key self.new.place ≡ P.key self.old.place }
         ensures short { IsFalse result → IsTrue self.new.short }
+        ensures empty { IsFalse result → self.new.hand.jobs ≡ [] }
     {
         let mut pending = pending;
         for _ in rt.forever() {
@@ -108,6 +136,7 @@ impl<'p, P: StepPlace<'p>> Worker<'p, P> {
         ensures key { P.key self.new.place ≡ P.key self.old.place }
         ensures result { IsFalse result }
         ensures short { IsTrue self.new.short }
+        ensures empty { self.new.hand.jobs ≡ [] }
     {
         self.hand.keep(job);
         self.end_short(rt)
@@ -119,6 +148,7 @@ impl<'p, P: StepPlace<'p>> Worker<'p, P> {
         ensures key { P.key self.new.place ≡ P.key self.old.place }
         ensures result { IsFalse result }
         ensures short { IsTrue self.new.short }
+        ensures empty { self.new.hand.jobs ≡ [] }
     {
         self.place.give_back(rt, &mut self.hand);
         self.short = true;
