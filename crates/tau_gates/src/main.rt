@@ -1,0 +1,111 @@
+//! Two workers on one book, held by gates, so that one input gives two traces. Turn 0 is the turn whose Take stands at place 0. In case
+//! A its first `enter` is held until the other turn has left three times. In case B its first `enter` is held until the other turn has
+//! entered, and the first `enter` of that one until turn 0 has left three times. What holds of each trace is written, one line for
+//! each fact.
+#![tactic(auto)]
+
+ghost use Rattle.std.specs.Prelude.{IfSome};
+ghost use Rattle.tau_tree.specs.Sound.{Sound};
+
+mod facts;
+mod holding;
+
+use crate::facts::add_facts;
+use crate::holding::{Case, HoldingGate};
+use std::alloc::{AllocError, Global};
+use std::process::ExitCode;
+use std::sync::Wait;
+use std::thread::Threads;
+use tau_book::{Book, Hand};
+use tau_forms::program_of;
+use tau_sexpr::read_forms;
+use tau_tree::Program;
+use tau_view::FullView;
+use tau_workers::{LockedBook, Worker, run};
+
+const TEXT: &str = "(nodes 1)\n(behaviour copy (seq (get) (set msg)))\n(start a copy 0 0)\n(start b copy 0 0)\n(post a 5)\n(post b 5)\n";
+
+fn main(rt: HostRuntime) -> ExitCode {
+    let Ok(text) = text_of(&rt, rt.alloc()) else {
+        return ExitCode::from(7);
+    };
+    match print!(rt; "{text}") {
+        Ok(()) => ExitCode::from(0),
+        Err(_) => ExitCode::from(6),
+    }
+}
+
+// The text for both cases.
+fn text_of<R: Threads + Wait + Sync>(rt: &R, alloc: Global) -> Result<String, AllocError> {
+    let mut text = String::new(alloc);
+    let Some(program) = program_from(alloc, TEXT.as_bytes()) else {
+        text.push_str("no program\n")?;
+        return Ok(text);
+    };
+    add_case(rt, alloc, &mut text, &program, Case::A)?;
+    add_case(rt, alloc, &mut text, &program, Case::B)?;
+    Ok(text)
+}
+
+// The program that bytes spell.
+fn program_from(alloc: Global, bytes: &[u8]) -> Option<Program>
+    ensures { IfSome result Sound }
+{
+    let Ok(forms) = read_forms(alloc, bytes) else {
+        return None;
+    };
+    match program_of(alloc, &forms) {
+        Ok(program) => Some(program),
+        Err(_) => None,
+    }
+}
+
+// Runs the program by two workers with the gate of a case, and adds what holds of the trace.
+fn add_case<R: Threads + Wait + Sync>(
+    rt: &R,
+    alloc: Global,
+    text: &mut String,
+    program: &Program,
+    case: Case,
+) -> Result<(), AllocError>
+    requires { Sound program.now }
+{
+    let gate = HoldingGate::new(case);
+    let locked = LockedBook::new(Book::open(alloc, program, 1000)?);
+    let is_short = work(rt, alloc, &locked, &gate)?;
+    let book = locked.into_book();
+    writeln!(text, "case {}", name_of(case))?;
+    let held = !gate.ran_out();
+    writeln!(text, "each hold ended before its limit of looks: {held}")?;
+    writeln!(text, "no worker was short of memory: {}", !is_short)?;
+    let is_same = book.system().program().same(program);
+    writeln!(text, "the book is one of this program: {is_same}")?;
+    add_facts(alloc, text, case, book.system())
+}
+
+fn name_of(case: Case) -> &'static str {
+    match case {
+        Case::A => "A",
+        Case::B => "B",
+    }
+}
+
+// Lets two workers work on a book. Whether one was short of memory.
+fn work<R: Threads + Wait + Sync>(
+    rt: &R,
+    alloc: Global,
+    locked: &LockedBook<'_, FullView>,
+    gate: &HoldingGate,
+) -> Result<bool, AllocError> {
+    let mut workers = Vec::new(alloc);
+    for number in 0..2 {
+        workers.push(Worker {
+            number,
+            place: locked,
+            hand: Hand::new(alloc, u64::from(number), 1)?,
+            short: false,
+        })?;
+    }
+    run(rt, workers.as_mut_slice(), gate);
+    Ok(workers.iter().any(|worker| worker.short))
+}
