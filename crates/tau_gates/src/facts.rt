@@ -1,20 +1,26 @@
 //! What holds of the trace that the workers made.
+ghost use Rattle.std.specs.Prelude.{◌≡◌};
+ghost use Rattle.tau_tree.specs.Sound.{Sound};
+ghost use Rattle.tau_script.specs.Openings.{program_opening};
+
 use crate::holding::Case;
 use std::alloc::{AllocError, Global};
 use tau_check::{Legality, check};
-use tau_rules::System;
 use tau_trace::{Step, Trace};
-use tau_view::FullView;
+use tau_tree::Program;
 
 /// Adds a line for each fact of the trace of a case.
 pub fn add_facts(
     alloc: Global,
     text: &mut String,
     case: Case,
-    system: &System<'_, FullView>,
-) -> Result<(), AllocError> {
-    let trace = system.trace();
-    match check(alloc, system.program(), trace)? {
+    program: &Program,
+    trace: &Trace,
+) -> Result<(), AllocError>
+    requires sound { Sound program.now }
+    requires opening { trace.now.run.opening ≡ program_opening program.now }
+{
+    match check(alloc, program, trace)? {
         Legality::Legal { complete } => {
             text.push_str("the trace is legal: true\n")?;
             writeln!(text, "the trace is complete: {complete}")?;

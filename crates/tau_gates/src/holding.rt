@@ -13,6 +13,16 @@ pub enum Case {
     B,
 }
 
+impl Case {
+    /// The letter of the case.
+    pub fn name(self) -> &'static str {
+        match self {
+            Case::A => "A",
+            Case::B => "B",
+        }
+    }
+}
+
 /// The gate of a case. It counts how often turn 0 and the other turn have entered and left.
 #[derive(Drop)]
 pub struct HoldingGate {

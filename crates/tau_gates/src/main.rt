@@ -1,15 +1,17 @@
 //! Two workers on one book, held by gates, so that one input gives two traces. Turn 0 is the turn whose Take stands at place 0. In case
 //! A its first `enter` is held until the other turn has left three times. In case B its first `enter` is held until the other turn has
-//! entered, and the first `enter` of that one until turn 0 has left three times. What holds of each trace is written, one line for
-//! each fact.
+//! entered, and the first `enter` of that one until turn 0 has left three times. So it is done with workers on a locked book, and by the
+//! command `run`. What holds of each trace is written, one line for each fact.
 #![tactic(auto)]
 
 ghost use Rattle.std.specs.Prelude.{IfSome};
 ghost use Rattle.tau_tree.specs.Sound.{Sound};
 
+mod commands;
 mod facts;
 mod holding;
 
+use crate::commands::add_command;
 use crate::facts::add_facts;
 use crate::holding::{Case, HoldingGate};
 use std::alloc::{AllocError, Global};
@@ -44,6 +46,8 @@ fn text_of<R: Threads + Wait + Sync>(rt: &R, alloc: Global) -> Result<String, Al
     };
     add_case(rt, alloc, &mut text, &program, Case::A)?;
     add_case(rt, alloc, &mut text, &program, Case::B)?;
+    add_command(rt, alloc, &mut text, TEXT, Case::A)?;
+    add_command(rt, alloc, &mut text, TEXT, Case::B)?;
     Ok(text)
 }
 
@@ -74,20 +78,13 @@ fn add_case<R: Threads + Wait + Sync>(
     let locked = LockedBook::new(Book::open(alloc, program, 1000)?);
     let is_short = work(rt, alloc, &locked, &gate)?;
     let book = locked.into_book();
-    writeln!(text, "case {}", name_of(case))?;
+    writeln!(text, "case {}", case.name())?;
     let held = !gate.ran_out();
     writeln!(text, "each hold ended before its limit of looks: {held}")?;
     writeln!(text, "no worker was short of memory: {}", !is_short)?;
     let is_same = book.system().program().same(program);
     writeln!(text, "the book is one of this program: {is_same}")?;
-    add_facts(alloc, text, case, book.system())
-}
-
-fn name_of(case: Case) -> &'static str {
-    match case {
-        Case::A => "A",
-        Case::B => "B",
-    }
+    add_facts(alloc, text, case, book.system().program(), book.system().trace())
 }
 
 // Lets two workers work on a book. Whether one was short of memory.
