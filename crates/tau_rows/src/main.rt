@@ -1,11 +1,14 @@
 //! Inputs with what `tau` writes for them. Standard input has sections: a line `# WORDS`, and then an input. For each
-//! section the line is written, then what the command of these words writes for the input, and on a line `; N LINE` the
-//! number of its status and the status's line on standard error.
+//! section the line is written, then what the command of these words writes for the input on one thread, and on a line `; N LINE`
+//! the number of its status and the status's line on standard error. Where the words start one worker, a further line says whether the
+//! call that starts threads does the same.
 #![tactic(auto)]
 
 use std::alloc::{AllocError, Global};
 use std::process::ExitCode;
-use tau_cli::{Line, Status, Words, number, tau_still};
+use std::sync::Wait;
+use std::thread::Threads;
+use tau_cli::{Command, Line, OpenGate, Status, Words, number, read_words, tau, tau_still};
 use tau_io::{ReadError, StdSink, StdSource, SteadySink, SteadySource, read_all, write_all_of};
 
 fn main(rt: HostRuntime) -> ExitCode {
@@ -15,7 +18,7 @@ fn main(rt: HostRuntime) -> ExitCode {
     let Ok(bytes) = read_all(alloc, &mut input, 16_777_216) else {
         return ExitCode::from(5);
     };
-    let Ok(text) = text_of(alloc, &bytes) else {
+    let Ok(text) = text_of(&rt, alloc, &bytes) else {
         return ExitCode::from(7);
     };
     match write_all_of(&mut output, &text) {
@@ -25,7 +28,11 @@ fn main(rt: HostRuntime) -> ExitCode {
 }
 
 // The text for all sections.
-fn text_of(alloc: Global, bytes: &[u8]) -> Result<Vec<u8>, AllocError> {
+fn text_of<R: Threads + Wait + Sync>(
+    rt: &R,
+    alloc: Global,
+    bytes: &[u8],
+) -> Result<Vec<u8>, AllocError> {
     let mut text = Vec::new(alloc);
     let mut rest = bytes;
     for _ in 0..bytes.len() {
@@ -33,7 +40,7 @@ fn text_of(alloc: Global, bytes: &[u8]) -> Result<Vec<u8>, AllocError> {
             break;
         };
         let (section, next) = section_of(after);
-        add_section(alloc, &mut text, words, section)?;
+        add_section(rt, alloc, &mut text, words, section)?;
         rest = next;
     }
     Ok(text)
@@ -58,7 +65,8 @@ fn section_of(bytes: &[u8]) -> (&[u8], &[u8]) {
 }
 
 // Adds the line of a section, what its words write for its input, and the status.
-fn add_section(
+fn add_section<R: Threads + Wait + Sync>(
+    rt: &R,
     alloc: Global,
     text: &mut Vec<u8>,
     line: &[u8],
@@ -71,7 +79,26 @@ fn add_section(
     text.extend_from_slice(line)?;
     text.push(b'\n')?;
     text.extend_from_slice(output.bytes())?;
-    add_status(alloc, text, status)
+    add_status(alloc, text, status)?;
+    if starts_one_worker(alloc, &words) {
+        let mut input = SteadySource::new(Vec::from_slice(alloc, section)?);
+        let mut other = SteadySink::new(alloc);
+        let end = tau(rt, alloc, &words, &mut input, &mut other, &OpenGate);
+        let is_same = end == status && other.bytes() == output.bytes();
+        let line = if is_same { "the same" } else { "another text" };
+        text.extend_from_slice(b"; with threads ")?;
+        text.extend_from_slice(line.as_bytes())?;
+        text.push(b'\n')?;
+    }
+    Ok(())
+}
+
+// Whether the words are those of `run` with one worker.
+fn starts_one_worker(alloc: Global, words: &Words) -> bool {
+    matches!(
+        read_words(alloc, words),
+        Ok(Command::Run { workers: 1, .. })
+    )
 }
 
 // Adds a line with the number of a status, and the line that the program prints for it.
