@@ -1,5 +1,5 @@
 //! Runs of a program in which the start reads its state when it takes its only message.
-use crate::{Serial, run};
+use crate::{Serial, run, serial_run_is_unique};
 use std::alloc::Global;
 use std::process::Abort;
 use tau_sexpr::{Word, are_word_bytes};
@@ -77,4 +77,9 @@ fn a_message_is_taken_and_its_turn_made(rt: HostRuntime) {
 fn a_run_stops_at_its_limit(rt: HostRuntime) {
     let serial = made(rt.alloc(), 1);
     assert!(rt; serial.as_ref().is_some_and(is_begun));
+}
+
+#[test]
+fn the_law_is_stated() {
+    serial_run_is_unique();
 }
