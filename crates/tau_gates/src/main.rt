@@ -25,7 +25,8 @@ use tau_tree::Program;
 use tau_view::FullView;
 use tau_workers::{LockedBook, Worker, run};
 
-const TEXT: &str = "(nodes 1)\n(behaviour copy (seq (get) (set msg)))\n(start a copy 0 0)\n(start b copy 0 0)\n(post a 5)\n(post b 5)\n";
+const TEXT: &str =
+    "(nodes 1)\n(behaviour copy (seq (get) (set msg)))\n(start a copy 0 0)\n(start b copy 0 0)\n(post a 5)\n(post b 5)\n";
 
 fn main(rt: HostRuntime) -> ExitCode {
     let Ok(text) = text_of(&rt, rt.alloc()) else {

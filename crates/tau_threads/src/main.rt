@@ -17,7 +17,9 @@ use tau_workers::{OpenGate, Ran, Settings, run_workers};
 
 /// How many transactors there are, how many messages are posted to each, and the number that is posted.
 const RING: u32 = 16;
+
 const POSTS: u32 = 5;
+
 const NUMBER: u32 = 50;
 
 /// By how many workers the program is run.

@@ -165,13 +165,7 @@ fn without(
     if is_short {
         return Err(AllocError);
     }
-    let serial = tau_serial::run(
-        alloc,
-        program,
-        settings.jobs,
-        settings.seed,
-        settings.limit,
-    )?;
+    let serial = tau_serial::run(alloc, program, settings.jobs, settings.seed, settings.limit)?;
     Ok(Ran {
         trace: serial.trace,
         is_complete: serial.is_complete,
