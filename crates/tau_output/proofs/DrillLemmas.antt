@@ -48,8 +48,15 @@ steps_words n small = ((λ e. cc), ((λ e. omega (arith, decimal_nonempty n smal
 pub lines_depth : (T : Run) → depths (drill_lines T) ≤ 200
 lines_depth T = lit≤ tt
 
-pub lines_words : (T : Run) → HasWords (steps_form (len T)) → HasWords (counts_form T) → All HasWords (drill_lines T)
-lines_words T s c = All-cons HasWords (steps_form (len T)) (counts_form T ∷ []) s (All-cons HasWords (counts_form T) [] c (All-nil HasWords))
+pub lines_words : (a b : Tree) → HasWords a → HasWords b → All HasWords (a ∷ b ∷ [])
+lines_words a b s c = All-cons HasWords a (b ∷ []) s (All-cons HasWords b [] c (All-nil HasWords))
+
+-- forms that are added to none are the two lines
+pub two_lines : (none one two : List Tree) (a b : Tree) → none ≡ [] → one ≡ none ++ a ∷ [] → two ≡ one ++ b ∷ [] → two ≡ a ∷ b ∷ []
+two_lines none one two a b e f g = g ∙ ap (λ l. l ++ b ∷ []) (f ∙ ap (λ l. l ++ a ∷ []) e)
+
+pub lines_are : (T : Run) (n : ℕ) (a b : Tree) → n ≡ len T → a ≡ steps_form n → b ≡ counts_form T → a ∷ b ∷ [] ≡ drill_lines T
+lines_are T n a b e f g = ap (λ x. x ∷ b ∷ []) (f ∙ ap steps_form e) ∙ ap (λ x. steps_form (len T) ∷ x ∷ []) g
 
 -- ---- what is written
 
