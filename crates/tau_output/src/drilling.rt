@@ -9,7 +9,7 @@ ghost use Rattle.tau_report.specs.Report.{counts_form as form_of_run};
 ghost use Rattle.tau_output.specs.Drills.{steps_form as form_of_steps, drill_lines, DrillsAs};
 
 use crate::running::end_of;
-use crate::{End, Output};
+use crate::Output;
 use std::alloc::{AllocError, Global};
 use tau_gen::generate;
 use tau_report::report_forms;
@@ -50,7 +50,7 @@ fn lines_of(alloc: Global, program: &Program, trace: &Trace) -> Result<Vec<u8>, 
 #[tactic(auto, using(tau_sexpr::proofs::Literals::word_literal), unfolding(tau_sexpr::specs::Bytes::is_word_byte, tau_sexpr::specs::Bytes::is_letter_or_digit, tau_sexpr::specs::Bytes::is_word_sign))]
 fn steps_form(alloc: Global, steps: u32) -> Result<Form, AllocError>
     ensures form { IfOk result (λ f. tree_of f ≡ form_of_steps steps) }
-    ensures words { OnOk result (HasWords (form_of_steps steps)) }
+    ensures words { IfOk result (λ f. HasWords (tree_of f)) }
 {
     let mut items = Forms::new(alloc);
     add(&mut items, Form::Word(Word::of(alloc, b"steps")?))?;
@@ -66,7 +66,7 @@ fn counts_form(alloc: Global, program: &Program, trace: &Trace) -> Result<Form, 
     requires opening { trace.now.run.opening ≡ program_opening program.now }
     requires sound { Sound program.now }
     ensures form { IfOk result (λ f. tree_of f ≡ form_of_run trace.now.run) }
-    ensures words { OnOk result (HasWords (form_of_run trace.now.run)) }
+    ensures words { IfOk result (λ f. HasWords (tree_of f)) }
 {
     let report = report_forms(alloc, program, trace)?;
     match report.item(report.len() - 1) {
