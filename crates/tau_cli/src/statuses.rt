@@ -139,7 +139,9 @@ impl fmt::Display for Status {
         match self {
             Status::Done => Ok(()),
             Status::Stopped => f.write_str("tau: stopped at the step limit"),
-            Status::Words => f.write_str("tau: usage: tau run|check|audit|report|print|gen N|drill N"),
+            Status::Words => f.write_str(
+                "tau: usage: tau run|check|audit|report|print|gen N|drill N",
+            ),
             Status::Input { fault, at } => write!(f, "tau: input fault {fault} at {at}"),
             Status::Bad { .. } => f.write_str("tau: a step is not legal"),
             Status::ReadFault => f.write_str("tau: reading failed"),

@@ -99,8 +99,7 @@ fn drills_without_reading(rt: HostRuntime) -> Result<(), Fail> {
     let mut output = SteadySink::new(rt.alloc());
     let status = tau(rt.alloc(), "drill 1", &mut source, &mut output);
     assert_eq!(rt; status, Status::Done);
-    let want =
-        "(steps 696)\n(counts (checkpoints 7) (holds 0) (drops 2) (falls 12) (losses 1))\n";
+    let want = "(steps 696)\n(counts (checkpoints 7) (holds 0) (drops 2) (falls 12) (losses 1))\n";
     assert_eq!(rt; output.bytes(), want.as_bytes());
     Ok(())
 }

@@ -8,8 +8,8 @@ ghost use Rattle.tau_script.specs.Openings.{program_opening};
 ghost use Rattle.tau_report.specs.Report.{counts_form as form_of_run};
 ghost use Rattle.tau_output.specs.Drills.{steps_form as form_of_steps, drill_lines, DrillsAs};
 
-use crate::running::end_of;
 use crate::Output;
+use crate::running::end_of;
 use std::alloc::{AllocError, Global};
 use tau_gen::generate;
 use tau_report::report_forms;
