@@ -1,5 +1,5 @@
 -- On one thread `run` and `drill` write one text, since there is one serial run.
-use Rattle.std.proofs.Common.{◌≡◌, ℕ, List, [], ◌∷◌, ◌++◌, Option, Some, None, refl, sym, ap, subst, ◌∙◌}
+use Rattle.std.proofs.Common.{◌≡◌, ℕ, ◌+◌, List, [], ◌∷◌, ◌++◌, Option, Some, None, refl, sym, ap, subst, ◌∙◌}
 use Rattle.std.specs.Prelude.{slice_get}
 use Rattle.tau_sexpr.specs.Tree.{Tree}
 use Rattle.tau_sexpr.specs.Printing.{printed}

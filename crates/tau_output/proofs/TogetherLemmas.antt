@@ -1,5 +1,5 @@
 -- What `run` writes where it starts several workers.
-use Rattle.std.proofs.Common.{◌≡◌, ◌⊎◌, inl, inr, ℕ, ◌<◌, ◌≤◌, List, length, Result, Ok, Err, IfOk, IfErr, ap, subst, arith}
+use Rattle.std.proofs.Common.{◌≡◌, ◌⊎◌, inl, inr, ℕ, ◌≤◌, List, length, Result, Ok, Err, IfOk, IfErr, ap, subst, arith}
 use Rattle.tau_command.specs.declared.commands.Command.{Command}
 use Rattle.tau_command.specs.declared.commands.Command.TheVariants.{Run as RunCommand, Check, Audit, Report, Print, Gen, Drill}
 use Rattle.tau_input.specs.declared.errors.InputError.{InputError}
@@ -10,7 +10,7 @@ use Rattle.tau_input.proofs.FaultLemmas.{program_unique}
 use Rattle.tau_output.specs.declared.outputs.End.{End}
 use Rattle.tau_output.specs.declared.outputs.Output.{Output}
 use Rattle.tau_output.specs.Faults.{input_limit, IsInputFault, too_long, within}
-use Rattle.tau_output.specs.Runs.{RunsAs, RunsTogether}
+use Rattle.tau_output.specs.Runs.{RunsAs}
 use Rattle.tau_output.specs.Writing.{Writes, WritesTogether}
 use Rattle.tau_output.proofs.LawLemmas.{told_once, fault_within}
 
@@ -24,13 +24,11 @@ written_together Print bytes end text w = record { few = w.few; answers = w.answ
 written_together (Gen number) bytes end text w = record { few = w.few; answers = w.answers }
 written_together (Drill number) bytes end text w = record { few = w.few; answers = w.answers }
 
--- what two workers or more write
-pub run_together : (workers jobs seed steps : ℕ) (bytes : List ℕ) (end : End) (text : List ℕ) → length bytes ≤ input_limit → 1 < workers → RunsAs steps bytes end text
-    → WritesTogether (RunCommand workers jobs seed steps) bytes end text
-run_together workers jobs seed steps bytes end text few many runs =
-    record { few = λ reads. few; answers = record { runs = runs; alone = λ (l : workers ≤ 1). absurd (omega arith) } }
+pub answered_together : (command : Command) (bytes : List ℕ) (r : Result Output InputError) → IfOk r (λ o. Writes command bytes o.end o.text.items) → IfOk r (λ o. WritesTogether command bytes o.end o.text.items)
+answered_together command bytes (Ok o) w = written_together command bytes o.end o.text.items w
+answered_together command bytes (Err e) w = tt
 
--- they write nothing for an input with a fault
+-- several workers write nothing for an input with a fault
 clean_together : (workers jobs seed steps : ℕ) (bytes : List ℕ) (end : End) (text : List ℕ) → length bytes ≤ input_limit → RunsAs steps bytes end text → (a b : ℕ)
     → ¬ IsInputFault (RunCommand workers jobs seed steps) bytes a b
 clean_together workers jobs seed steps bytes end text few runs a b (too_long reads l p q) = omega arith

@@ -3,10 +3,10 @@ use Rattle.tau_output.proofs.RunLemmas.{runs_as}
 use Rattle.tau_output.proofs.together.run_together.Goals as goal
 
 pub returns-in_err-run_text-clause-fault : goal.returns-in_err-run_text-clause-fault
-returns-in_err-run_text-clause-fault c = from_no_memory _ _ c.from_residual-in_err-run_text.ensures.1
+returns-in_err-run_text-clause-fault g c = from_no_memory _ _ c.from_residual-in_err-run_text.ensures.1
 
 pub returns-clause-output : goal.returns-clause-output
-returns-clause-output c =
+returns-clause-output g c =
     let ran = c.in_ok-ran in
     rw c.end_of.ensures
     (runs_as c.args.settings.limit c.in_ok-program.program ran.ran.trace.run ran.ran.is_complete c.args.bytes.now c.in_ok-run_text.field-0.items
