@@ -43,8 +43,8 @@ def small(count, posts, number):
 # Each program with the numbers of workers, and the aim for each: the greatest share of the time of one worker.
 PROGRAMS = [
     ("heavy: 1,000 turns of 90,000 evaluations", heavy(16, 1_000), {2: 0.55, 4: 0.35}),
-    ("small: 80 messages at a time, 4,160 steps", small(16, 5, 12), {2: 2.0, 4: 2.0, 32: 2.0}),
-    ("small: 1 message at a time, 4,000 steps", small(1, 1, 999), {2: 2.0, 4: 2.0, 32: 2.0}),
+    ("small: 80 messages at a time, 3,760 steps", small(16, 5, 11), {2: 2.0, 4: 2.0, 32: 2.0}),
+    ("small: 1 message at a time, 3,999 steps", small(1, 1, 999), {2: 2.0, 4: 2.0, 32: 2.0}),
 ]
 
 
@@ -60,7 +60,7 @@ def seconds_of(command, path, workers):
 
 
 def main():
-    command = sys.argv[1:] or [PROGRAM, "run", "--steps", "1000000"]
+    command = sys.argv[1:] or [PROGRAM, "run", "--steps", "4000"]
     if not sys.argv[1:] and not os.path.exists(PROGRAM):
         subprocess.run([os.path.join(ROOT, "bin", "tau")], stdin=subprocess.DEVNULL, check=False)
     print(f"{'program':44} {'workers':>7} {'seconds':>8} {'of one':>7} {'aim':>5}")
