@@ -1,1 +1,1 @@
-mod Sends
+pub mod Sends

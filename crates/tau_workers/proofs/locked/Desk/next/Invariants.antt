@@ -1,5 +1,4 @@
-use Rattle.std.proofs.Common.{◌≡◌, ◌<◌, [], IfOk, IfErr, OnErr, length, ℕ, ◌+◌, ◌-◌, ◌*◌, ◌≤◌}
-use Rattle.tau_book.specs.Places.{IsNotIdle, LeavesRoom, ComesBack}
+use Rattle.std.proofs.Common.{◌≡◌}
 use Rattle.tau_workers.proofs.locked.Desk.next.Given as goal
 
 abbrev pub invariant-loop : goal.invariant-loop

@@ -1,4 +1,4 @@
-use Rattle.std.proofs.Common.{◌≡◌, ◌<◌, ℕ, [], IsSome, IsTrue, IsFalse, length, slice_index_or, ◌+◌, ◌-◌, ◌*◌, ◌≤◌}
+use Rattle.std.proofs.Common.{◌≡◌}
 use Rattle.tau_workers.proofs.workers.Worker.work_on.Given as goal
 
 abbrev pub invariant-loop : goal.invariant-loop
