@@ -1,5 +1,5 @@
 -- On one thread `run` and `drill` write one text, since there is one serial run.
-use Rattle.std.proofs.Common.{◌≡◌, ℕ, ◌+◌, List, [], ◌∷◌, ◌++◌, Option, Some, None, refl, sym, ap, subst, ◌∙◌}
+use Rattle.std.proofs.Common.{◌≡◌, ℕ, suc, List, [], ◌∷◌, ◌++◌, Option, Some, None, refl, sym, ap, subst, ◌∙◌}
 use Rattle.std.specs.Prelude.{slice_get}
 use Rattle.tau_sexpr.specs.Tree.{Tree}
 use Rattle.tau_sexpr.specs.Printing.{printed}
@@ -25,7 +25,7 @@ same_items [] (y ∷ ys) same = let e : None ≡ Some y = same 0 in absurd (cc)
 same_items (x ∷ xs) [] same = let e : Some x ≡ None = same 0 in absurd (cc)
 same_items (x ∷ xs) (y ∷ ys) same =
     let head : x ≡ y = same_some (same 0) in
-    let rest : xs ≡ ys = same_items xs ys (λ k. same (k + 1)) in
+    let rest : xs ≡ ys = same_items xs ys (λ k. same (suc k)) in
     λ i. head i ∷ rest i
 
 -- a program and a run have one text

@@ -48,7 +48,7 @@ pub fn output_by_workers<R: Threads + Wait + Sync, G: Gate + Sync>(
             };
             run_together(rt, alloc, bytes, settings, gate)
         }
-        command => output_of(alloc, command, bytes),
+        _ => output_of(alloc, command, bytes),
     }
 }
 
