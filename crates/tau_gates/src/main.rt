@@ -1,7 +1,7 @@
 //! Two workers on one book, held by gates, so that one input gives two traces. Turn 0 is the turn whose Take stands at place 0. In case
 //! A its first `enter` is held until the other turn has left three times. In case B its first `enter` is held until the other turn has
-//! entered, and the first `enter` of that one until turn 0 has left three times. So it is done with workers on a locked book, and by the
-//! command `run`. What holds of each trace is written, one line for each fact.
+//! entered, and the first `enter` of that one until turn 0 has left three times. So it is done by a call of `run_workers`, and by the command
+//! `run`. What holds of each trace is written, one line for each fact.
 #![tactic(auto)]
 
 ghost use Rattle.std.specs.Prelude.{IfSome};
@@ -18,15 +18,22 @@ use std::alloc::{AllocError, Global};
 use std::process::ExitCode;
 use std::sync::Wait;
 use std::thread::Threads;
-use tau_book::{Book, Hand};
 use tau_forms::program_of;
 use tau_sexpr::read_forms;
 use tau_tree::Program;
-use tau_view::FullView;
-use tau_workers::{LockedBook, Worker, run};
+use tau_workers::{Settings, run_workers};
 
+/// The program: two transactors that copy a message.
 const TEXT: &str =
     "(nodes 1)\n(behaviour copy (seq (get) (set msg)))\n(start a copy 0 0)\n(start b copy 0 0)\n(post a 5)\n(post b 5)\n";
+
+/// Two workers, each with one job.
+const SETTINGS: Settings = Settings {
+    workers: 2,
+    jobs: 1,
+    seed: 0,
+    limit: 1_000,
+};
 
 fn main(rt: HostRuntime) -> ExitCode {
     let Ok(text) = text_of(&rt, rt.alloc()) else {
@@ -76,34 +83,10 @@ fn add_case<R: Threads + Wait + Sync>(
     requires { Sound program.now }
 {
     let gate = HoldingGate::new(case);
-    let locked = LockedBook::new(Book::open(alloc, program, 1000)?);
-    let is_short = work(rt, alloc, &locked, &gate)?;
-    let book = locked.into_book();
+    let ran = run_workers(rt, alloc, program, SETTINGS, &gate)?;
     writeln!(text, "case {}", case.name())?;
     let held = !gate.ran_out();
     writeln!(text, "each hold ended before its limit of looks: {held}")?;
-    writeln!(text, "no worker was short of memory: {}", !is_short)?;
-    let is_same = book.system().program().same(program);
-    writeln!(text, "the book is one of this program: {is_same}")?;
-    add_facts(alloc, text, case, book.system().program(), book.system().trace())
-}
-
-// Lets two workers work on a book. Whether one was short of memory.
-fn work<R: Threads + Wait + Sync>(
-    rt: &R,
-    alloc: Global,
-    locked: &LockedBook<'_, FullView>,
-    gate: &HoldingGate,
-) -> Result<bool, AllocError> {
-    let mut workers = Vec::new(alloc);
-    for number in 0..2 {
-        workers.push(Worker {
-            number,
-            place: locked,
-            hand: Hand::new(alloc, u64::from(number), 1)?,
-            short: false,
-        })?;
-    }
-    run(rt, workers.as_mut_slice(), gate);
-    Ok(workers.iter().any(|worker| worker.short))
+    writeln!(text, "the run is told as complete: {}", ran.is_complete)?;
+    add_facts(alloc, text, case, program, &ran.trace)
 }

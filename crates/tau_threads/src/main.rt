@@ -20,7 +20,7 @@ const RING: u32 = 16;
 
 const POSTS: u32 = 5;
 
-const NUMBER: u32 = 50;
+const NUMBER: u32 = 25;
 
 /// By how many workers the program is run.
 const WORKERS: [u32; 3] = [2, 4, 32];
