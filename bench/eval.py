@@ -63,7 +63,7 @@ def seconds_of(text, folder):
     for _ in range(RUNS):
         with open(path, "rb") as source:
             begun = time.monotonic()
-            subprocess.run([PROGRAM, "run"], stdin=source, stdout=subprocess.DEVNULL, check=True)
+            subprocess.run([PROGRAM, "run", "--workers", "1"], stdin=source, stdout=subprocess.DEVNULL, check=True)
             taken.append(time.monotonic() - begun)
     return statistics.median(taken)
 

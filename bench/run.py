@@ -60,7 +60,7 @@ def measured(path):
     """Seconds by the clock, peak memory in MB, and the text, of one run."""
     with open(path, "rb") as source, tempfile.TemporaryFile() as sink:
         begun = time.monotonic()
-        process = subprocess.Popen([PROGRAM, "run"], stdin=source, stdout=sink, stderr=subprocess.DEVNULL)
+        process = subprocess.Popen([PROGRAM, "run", "--workers", "1"], stdin=source, stdout=sink, stderr=subprocess.DEVNULL)
         _, _, usage = os.wait4(process.pid, 0)
         seconds = time.monotonic() - begun
         sink.seek(0)
