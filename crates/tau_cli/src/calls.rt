@@ -6,20 +6,16 @@ ghost use Rattle.tau_io.specs.Put.{AppendsFront};
 ghost use Rattle.tau_command.specs.declared.commands.Command.{Command};
 ghost use Rattle.tau_command.specs.Commands.{command_of};
 ghost use Rattle.tau_output.specs.Faults.{input_limit, reads_input as reads, IsInputFault};
-ghost use Rattle.tau_output.specs.Writing.{Writes, WritesTogether};
+ghost use Rattle.tau_output.specs.Writing.{Writes};
 ghost use Rattle.tau_cli.specs.declared.statuses.Status.{Status};
 ghost use Rattle.tau_cli.specs.Output.{AreLeft, IsEndOf, IsOutput, IsFaulty, IsTooLong, Stops, IsUnlessUnread};
 ghost use Rattle.tau_cli.specs.Status.{IsRefusal, IsResult, of_end};
 
 use crate::Status;
-use crate::makers::{Alone, Maker, Together};
 use std::alloc::Global;
-use std::sync::Wait;
-use std::thread::Threads;
 use tau_command::{Command, Words, read_words};
 use tau_io::{ReadError, Sink, Source, WriteError, read_all, write_all_of};
-use tau_output::{INPUT_LIMIT, Output, reads_input};
-use tau_workers::Gate;
+use tau_output::{INPUT_LIMIT, Output, output_of, reads_input};
 
 /// Does what the words of a command line ask for: reads the input of their command, which is at most 16 MiB, and writes
 /// its text, in one call of `write_all_of`. It does all on the caller's thread, and starts no other.
@@ -83,117 +79,7 @@ pub fn tau_still<I: Source, O: Sink>(
         → ¬ HasRisen (O.faults output.old) (O.faults output.new)
         → IsEndOf command result ⊎ (result ≡ Status.NoMemory) }
 {
-    answer(&Alone, alloc, words, input, output)
-}
-
-/// Does what the words of a command line ask for, as [`tau_still`] does, but `run` with two workers or more starts a thread for each
-/// of them (docs/rules.md, "Workers"). It waits for them, so all is said of it if it returns. Of several workers' run it is said that it is a legal run
-/// of the input's program, and not which one. Each evaluation stands between a call of the gate's `enter` and one of its `leave`.
-pub fn tau<R: Threads + Wait + Sync, I: Source, O: Sink, G: Gate + Sync>(
-    rt: &R,
-    alloc: Global,
-    words: &Words,
-    input: &mut I,
-    output: &mut O,
-    gate: &G,
-) -> Status
-    ensures words { result ≡ Status.Words → command_of words.now ≡ None }
-    ensures unread { result ≡ Status.Words → input.new ≡ input.old }
-    ensures refused { command_of words.now ≡ None
-        → (result ≡ Status.Words) ⊎ (result ≡ Status.NoMemory) }
-
-    ensures read_fault { result ≡ Status.ReadFault
-        → HasRisen (I.faults input.old) (I.faults input.new) }
-    // `gen` and `drill` read nothing.
-    ensures untouched { (command : Command) → command_of words.now ≡ Some command
-        → reads command ≡ false → (input.new ≡ input.old) × (result ≢ Status.ReadFault) }
-
-    ensures input { (fault at : ℕ) → result ≡ Status.Input fault at
-        → IsFaulty words.now (I.left input.old) fault at }
-    ensures faulty { (command : Command) (bytes : List ℕ) (fault at : ℕ)
-        → command_of words.now ≡ Some command → I.left input.old ≡ Some bytes
-        → IsInputFault command bytes fault at
-        → IsUnlessUnread result (Status.Input fault at) }
-
-    ensures unwritten { IsRefusal result → output.new ≡ output.old }
-
-    // The text is that of the command for the input; with `run` it is as `RunsTogether` says.
-    ensures written { IsResult result
-        → (text : List ℕ) × IsOutput WritesTogether words.now (I.left input.old) result text
-        × Appends (O.held output.old) (O.held output.new) text }
-
-    ensures write_fault { result ≡ Status.WriteFault
-        → HasRisen (O.faults output.old) (O.faults output.new) }
-    ensures front { result ≡ Status.WriteFault
-        → (status : Status) × (text : List ℕ) × IsOutput WritesTogether words.now (I.left input.old) status text
-        × AppendsFront (O.held output.old) (O.held output.new) text }
-
-    ensures no_memory { result ≡ Status.NoMemory
-        → (output.new ≡ output.old) ⊎ ((status : Status) × (text : List ℕ)
-        × IsOutput WritesTogether words.now (I.left input.old) status text
-        × AppendsFront (O.held output.old) (O.held output.new) text) }
-
-    // Where nothing is wrong, the command ends as it should, or memory ran out.
-    ensures complete { (command : Command) (bytes : List ℕ)
-        → command_of words.now ≡ Some command → I.left input.old ≡ Some bytes
-        → ((fault at : ℕ) → ¬ IsInputFault command bytes fault at)
-        → ¬ HasRisen (I.faults input.old) (I.faults input.new)
-        → ¬ HasRisen (O.faults output.old) (O.faults output.new)
-        → IsEndOf command result ⊎ (result ≡ Status.NoMemory) }
-{
-    answer(&Together { rt, gate }, alloc, words, input, output)
-}
-
-// What the words come to, where this maker makes the output of their command.
-fn answer<M: Maker, I: Source, O: Sink>(
-    maker: &M,
-    alloc: Global,
-    words: &Words,
-    input: &mut I,
-    output: &mut O,
-) -> Status
-    ensures words { result ≡ Status.Words → command_of words.now ≡ None }
-    ensures unread { result ≡ Status.Words → input.new ≡ input.old }
-    ensures refused { command_of words.now ≡ None
-        → (result ≡ Status.Words) ⊎ (result ≡ Status.NoMemory) }
-
-    ensures read_fault { result ≡ Status.ReadFault
-        → HasRisen (I.faults input.old) (I.faults input.new) }
-    ensures untouched { (command : Command) → command_of words.now ≡ Some command
-        → reads command ≡ false → (input.new ≡ input.old) × (result ≢ Status.ReadFault) }
-
-    ensures input { (fault at : ℕ) → result ≡ Status.Input fault at
-        → IsFaulty words.now (I.left input.old) fault at }
-    ensures faulty { (command : Command) (bytes : List ℕ) (fault at : ℕ)
-        → command_of words.now ≡ Some command → I.left input.old ≡ Some bytes
-        → IsInputFault command bytes fault at
-        → IsUnlessUnread result (Status.Input fault at) }
-
-    ensures unwritten { IsRefusal result → output.new ≡ output.old }
-
-    ensures written { IsResult result
-        → (text : List ℕ) × IsOutput M.writes words.now (I.left input.old) result text
-        × Appends (O.held output.old) (O.held output.new) text }
-
-    ensures write_fault { result ≡ Status.WriteFault
-        → HasRisen (O.faults output.old) (O.faults output.new) }
-    ensures front { result ≡ Status.WriteFault
-        → (status : Status) × (text : List ℕ) × IsOutput M.writes words.now (I.left input.old) status text
-        × AppendsFront (O.held output.old) (O.held output.new) text }
-
-    ensures no_memory { result ≡ Status.NoMemory
-        → (output.new ≡ output.old) ⊎ ((status : Status) × (text : List ℕ)
-        × IsOutput M.writes words.now (I.left input.old) status text
-        × AppendsFront (O.held output.old) (O.held output.new) text) }
-
-    ensures complete { (command : Command) (bytes : List ℕ)
-        → command_of words.now ≡ Some command → I.left input.old ≡ Some bytes
-        → ((fault at : ℕ) → ¬ IsInputFault command bytes fault at)
-        → ¬ HasRisen (I.faults input.old) (I.faults input.new)
-        → ¬ HasRisen (O.faults output.old) (O.faults output.new)
-        → IsEndOf command result ⊎ (result ≡ Status.NoMemory) }
-{
-    match output_for(maker, alloc, words, input) {
+    match output_for(alloc, words, input) {
         Ok(answer) => match write_all_of(output, &answer.text) {
             Ok(()) => Status::from(answer.end),
             Err(WriteError::WriteFault) => Status::WriteFault,
@@ -204,14 +90,9 @@ fn answer<M: Maker, I: Source, O: Sink>(
 }
 
 // What the words ask for, or the status with which they end before anything is written.
-fn output_for<M: Maker, I: Source>(
-    maker: &M,
-    alloc: Global,
-    words: &Words,
-    input: &mut I,
-) -> Result<Output, Status>
+fn output_for<I: Source>(alloc: Global, words: &Words, input: &mut I) -> Result<Output, Status>
     ensures output { IfOk result (λ o.
-        IsOutput M.writes words.now (I.left input.old) (of_end o.end) o.text.items) }
+        IsOutput Writes words.now (I.left input.old) (of_end o.end) o.text.items) }
     ensures status { IfErr result (Stops words.now (I.left input.old) (input.new ≡ input.old)
         (HasRisen (I.faults input.old) (I.faults input.new))) }
     ensures untouched { (command : Command) → command_of words.now ≡ Some command
@@ -223,11 +104,11 @@ fn output_for<M: Maker, I: Source>(
 {
     let command = read_words(alloc, words)?;
     let bytes = read_input(alloc, &command, input)?;
-    Ok(maker.output(alloc, command, &bytes)?)
+    Ok(output_of(alloc, command, &bytes)?)
 }
 
-// The bytes of a command's input, at most 16 MiB; none where the command reads none.
-fn read_input<I: Source>(
+/// The bytes of a command's input, at most 16 MiB; none where the command reads none.
+pub(crate) fn read_input<I: Source>(
     alloc: Global,
     command: &Command,
     input: &mut I,

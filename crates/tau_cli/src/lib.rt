@@ -2,13 +2,14 @@
 #![tactic(auto)]
 
 mod calls;
-mod makers;
 mod process;
 mod statuses;
+mod together;
 
-pub use calls::{tau, tau_still};
+pub use calls::tau_still;
 pub use process::run_process;
 pub use statuses::{Status, number};
+pub use together::tau;
 pub use tau_command::{Command, Line, Words, WordsError, read_words};
 pub use tau_workers::{Gate, OpenGate};
 

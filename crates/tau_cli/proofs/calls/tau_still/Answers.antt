@@ -1,5 +1,5 @@
 use Rattle.tau_cli.proofs.OutputLemmas.{stops_without_fault}
-use Rattle.tau_cli.proofs.calls.answer.Goals as goal
+use Rattle.tau_cli.proofs.calls.tau_still.Goals as goal
 
 pub returns-clause-complete : goal.returns-clause-complete
 returns-clause-complete g c command bytes e l f r w =
