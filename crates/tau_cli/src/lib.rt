@@ -9,9 +9,9 @@ mod together;
 pub use calls::tau_still;
 pub use process::run_process;
 pub use statuses::{Status, number};
-pub use together::tau;
 pub use tau_command::{Command, Line, Words, WordsError, read_words};
 pub use tau_workers::{Gate, OpenGate};
+pub use together::tau;
 
 #[cfg(test)]
 mod tests;
