@@ -16,7 +16,7 @@ import time
 
 ROOT = os.path.dirname(os.path.dirname(os.path.abspath(__file__)))
 PROGRAM = os.path.join(ROOT, "crates", "tau", "out", "tau")
-RUNS = 5
+RUNS = 15
 
 
 def heavy(receivers, turns):
