@@ -1,7 +1,7 @@
 //! Two workers on one book, held by gates, so that one input gives two traces. Turn 0 is the turn whose Take stands at place 0. In case
 //! A its first `enter` is held until the other turn has left three times. In case B its first `enter` is held until the other turn has
 //! entered, and the first `enter` of that one until turn 0 has left three times. So it is done by a call of `run_workers`, and by the command
-//! `run`. What holds of each trace is written, one line for each fact.
+//! `run`. What holds of each trace is written, one line for each fact. At the end stands what a book answers to two hands.
 #![tactic(auto)]
 
 ghost use Rattle.std.specs.Prelude.{IfSome};
@@ -9,10 +9,12 @@ ghost use Rattle.tau_tree.specs.Sound.{Sound};
 
 mod commands;
 mod facts;
+mod hands;
 mod holding;
 
 use crate::commands::add_command;
 use crate::facts::add_facts;
+use crate::hands::add_hands;
 use crate::holding::{Case, HoldingGate};
 use std::alloc::{AllocError, Global};
 use std::process::ExitCode;
@@ -26,6 +28,10 @@ use tau_workers::{Settings, run_workers};
 /// The program: two transactors that copy a message.
 const TEXT: &str =
     "(nodes 1)\n(behaviour copy (seq (get) (set msg)))\n(start a copy 0 0)\n(start b copy 0 0)\n(post a 5)\n(post b 5)\n";
+
+/// The program with one of them.
+const SINGLE: &str =
+    "(nodes 1)\n(behaviour copy (seq (get) (set msg)))\n(start a copy 0 0)\n(post a 5)\n";
 
 /// Two workers, each with one job.
 const SETTINGS: Settings = Settings {
@@ -56,6 +62,10 @@ fn text_of<R: Threads + Wait + Sync>(rt: &R, alloc: Global) -> Result<String, Al
     add_case(rt, alloc, &mut text, &program, Case::B)?;
     add_command(rt, alloc, &mut text, TEXT, Case::A)?;
     add_command(rt, alloc, &mut text, TEXT, Case::B)?;
+    if let Some(single) = program_from(alloc, SINGLE.as_bytes()) {
+        text.push_str("two hands on one book\n")?;
+        add_hands(alloc, &mut text, &single)?;
+    }
     Ok(text)
 }
 
