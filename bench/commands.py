@@ -11,8 +11,9 @@ import subprocess
 import sys
 import tempfile
 
-ROOT = os.path.dirname(os.path.dirname(os.path.abspath(__file__)))
-PROGRAM = os.path.join(ROOT, "crates", "tau", "out", "tau")
+import programs
+
+PROGRAM = programs.place("tau")
 STEPS = 200_000
 
 
@@ -68,8 +69,7 @@ def main():
     if len(sys.argv) == 3:
         measure(sys.argv[1], sys.argv[2])
         return
-    if not os.path.exists(PROGRAM):
-        subprocess.run([os.path.join(ROOT, "bin", "tau")], stdin=subprocess.DEVNULL, stderr=subprocess.DEVNULL)
+    programs.prove()
     print(f"{'text':40} {'command':8} {'processor':>9} {'MB':>6} {'status':>6}  last line")
     for name, text in TEXTS:
         with tempfile.NamedTemporaryFile() as source:

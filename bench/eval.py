@@ -1,7 +1,7 @@
 #!/usr/bin/env python3
 """Measures the evaluation of behaviours by `tau run`: evaluations, seconds by the clock, and evaluations a second.
 
-It builds the program by bin/tau where it isn't built, and prints a table. Each program is run several times, and the
+It has `bin/tau prove` build the program, and prints a table. Each program is run several times, and the
 median is shown; the time of an empty program is taken off. The aim is 40 million simple evaluations a second, and a
 second for each of the loads: 1,000 turns of some 90,000 evaluations, a body that reads a message of 65,536 parts 90,000
 times, and a fold that pushes 20,000 items.
@@ -14,8 +14,9 @@ import sys
 import tempfile
 import time
 
-ROOT = os.path.dirname(os.path.dirname(os.path.abspath(__file__)))
-PROGRAM = os.path.join(ROOT, "crates", "tau", "out", "tau")
+import programs
+
+PROGRAM = programs.place("tau")
 RUNS = 5
 
 
@@ -69,8 +70,7 @@ def seconds_of(text, folder):
 
 
 def main():
-    if not os.path.exists(PROGRAM):
-        subprocess.run([os.path.join(ROOT, "bin", "tau")], stdin=subprocess.DEVNULL, check=False)
+    programs.prove()
     print(f"{'load':40} {'evaluations':>12} {'seconds':>8} {'millions a second':>18}")
     with tempfile.TemporaryDirectory() as folder:
         for name, body, message, turns, each in LOADS:

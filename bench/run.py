@@ -1,7 +1,7 @@
 #!/usr/bin/env python3
 """Measures `tau run` from start to end: steps, milliseconds by the clock, steps a second, and the peak of the memory.
 
-It builds the program by bin/tau where it isn't built, and prints a table. Each program is run several times, and the
+It has `bin/tau prove` build the program, and prints a table. Each program is run several times, and the
 median is shown. The aim is 50 ms for 1,000 steps, and two seconds for a text of 16 MiB. Its arguments are numbers of
 generated programs that are run besides, 1 without any.
 """
@@ -13,8 +13,9 @@ import sys
 import tempfile
 import time
 
-ROOT = os.path.dirname(os.path.dirname(os.path.abspath(__file__)))
-PROGRAM = os.path.join(ROOT, "crates", "tau", "out", "tau")
+import programs
+
+PROGRAM = programs.place("tau")
 LIMIT = 16 * 1024 * 1024
 RUNS = 7
 
@@ -76,8 +77,7 @@ def steps_of(text):
 
 
 def main():
-    if not os.path.exists(PROGRAM):
-        subprocess.run([os.path.join(ROOT, "bin", "tau")], stdin=subprocess.DEVNULL, check=False)
+    programs.prove()
     numbers = sys.argv[1:] or ["1"]
     programs = PROGRAMS + [(f"the generated program {number}", generated(number)) for number in numbers]
     print(f"{'program':44} {'steps':>6} {'ms':>9} {'steps/s':>10} {'MB':>7}")

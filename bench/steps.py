@@ -2,7 +2,7 @@
 """Measures long runs of the system over views of both types: processor seconds, steps a second, the peak of the memory, and
 how much a step costs in the long run against the short one.
 
-It builds the program tau_calls by `rt run` where it isn't built, and prints a table. The median of several runs is shown; the
+It has the program tau_calls built, behind `bin/tau prove`, and prints a table. The median of several runs is shown; the
 peak is at least that of the measuring process. The aims are, for 50,000 steps over pruned views, 500,000 steps a second for a transactor that sends to itself, 100,000 for one
 that checkpoints each turn, 8,000 for a ring of 64, and a growth below two; two seconds for the turn of 30,000 Gets; one
 second and 200 MB for the 2,048 transactors.
@@ -13,12 +13,10 @@ import statistics
 import subprocess
 import sys
 
-sys.path.insert(0, os.path.dirname(os.path.abspath(__file__)))
+import programs
 from run import SAVE, SET, ring
 
-ROOT = os.path.dirname(os.path.dirname(os.path.abspath(__file__)))
-CRATE = os.path.join(ROOT, "crates", "tau_calls")
-PROGRAM = os.path.join(CRATE, "out", "tau_calls")
+PROGRAM = programs.place("tau_calls")
 RUNS = 3
 
 GETS = "(nodes 1)\n(behaviour a (fold msg unit (k i) (get)))\n(start a a 0 0)\n(post a (list" + ' "x"' * 30_000 + "))\n"
@@ -56,8 +54,7 @@ def measured(views, text, steps):
 
 
 def main():
-    if not os.path.exists(PROGRAM):
-        subprocess.run(["rt", "run"], cwd=CRATE, check=True, stdin=subprocess.DEVNULL, stdout=subprocess.DEVNULL)
+    programs.prove("tau_calls")
     print(f"{'program':48} {'views':>6} {'steps':>7} {'seconds':>8} {'steps/s':>9} {'MB':>6} {'growth':>7}")
     for name, text, pruned, full in PROGRAMS:
         for views, lengths in (("pruned", pruned), ("full", full)):

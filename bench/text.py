@@ -1,7 +1,7 @@
 #!/usr/bin/env python3
 """Measures `tau print` on large texts: seconds by the clock and by the processor, and the peak of the memory.
 
-It builds the program by bin/tau where it isn't built, and prints a table. Nothing is compared: the aim is two seconds and
+It has `bin/tau prove` build the program, and prints a table. Nothing is compared: the aim is two seconds and
 2.5 GB for each text.
 """
 
@@ -12,8 +12,9 @@ import sys
 import tempfile
 import time
 
-ROOT = os.path.dirname(os.path.dirname(os.path.abspath(__file__)))
-PROGRAM = os.path.join(ROOT, "crates", "tau", "out", "tau")
+import programs
+
+PROGRAM = programs.place("tau")
 LIMIT = 16 * 1024 * 1024
 BEHAVIOURS = 256
 
@@ -88,8 +89,7 @@ def main():
     if len(sys.argv) == 2:
         measure(sys.argv[1])
         return
-    if not os.path.exists(PROGRAM):
-        subprocess.run([os.path.join(ROOT, "bin", "tau")], stdin=subprocess.DEVNULL, stderr=subprocess.DEVNULL)
+    programs.prove()
     print(f"{'text':36} {'bytes':>10} {'seconds':>8} {'processor':>9} {'MB':>6} {'status':>6}  line")
     for name, text in texts():
         with tempfile.NamedTemporaryFile() as source:

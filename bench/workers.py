@@ -1,7 +1,7 @@
 #!/usr/bin/env python3
 """Measures `tau run` by 1, 2, 4 and 32 workers: seconds by the clock, and how many times as long as by one worker.
 
-It builds the program by bin/tau where it isn't built, and prints a table. Each run is repeated, the numbers of workers in turn, and
+It has `bin/tau prove` build the program, and prints a table. Each run is repeated, the numbers of workers in turn, and
 the least time is shown, since other work on the machine only adds to it. The aims, on four processors: with heavy turns, of 90,000
 evaluations each, at most 0.55 of the time of one worker by two and 0.35 by four; with small turns at most twice the time of one.
 
@@ -14,8 +14,9 @@ import sys
 import tempfile
 import time
 
-ROOT = os.path.dirname(os.path.dirname(os.path.abspath(__file__)))
-PROGRAM = os.path.join(ROOT, "crates", "tau", "out", "tau")
+import programs
+
+PROGRAM = programs.place("tau")
 RUNS = 15
 
 
@@ -61,8 +62,8 @@ def seconds_of(command, path, workers):
 
 def main():
     command = sys.argv[1:] or [PROGRAM, "run", "--steps", "4000"]
-    if not sys.argv[1:] and not os.path.exists(PROGRAM):
-        subprocess.run([os.path.join(ROOT, "bin", "tau")], stdin=subprocess.DEVNULL, check=False)
+    if not sys.argv[1:]:
+        programs.prove()
     print(f"{'program':44} {'workers':>7} {'seconds':>8} {'of one':>7} {'aim':>5}")
     with tempfile.TemporaryDirectory() as folder:
         for name, text, aims in PROGRAMS:
