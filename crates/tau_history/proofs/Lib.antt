@@ -8,3 +8,4 @@ pub mod Precedence
 pub mod Later
 pub mod Moves
 pub mod Sequence
+pub mod Parts

@@ -2,6 +2,7 @@
 use Rattle.std.specs.Prelude.{◌≡◌, ◌≢◌, ℕ, ◌⊎◌, ◌↔◌}
 use Rattle.tau_history.specs.Timeline.{Timeline, Move, stabilize, close, fall, moved}
 use Rattle.tau_history.specs.Order.{Precedes, AreComparable, later_of}
+use Rattle.tau_history.specs.Parts.{PrecedesByParts}
 use Rattle.tau_history.specs.Fates.{fate, HasFate, IsOwn}
 use Rattle.tau_history.specs.declared.fate.Fate.{Fate}
 use Rattle.tau_history.specs.declared.fate.Fate.TheVariants.{Ahead, Stable, Closed, Fallen}
@@ -25,6 +26,10 @@ PredecessorsAreComparable = (a b c : Timeline) → Precedes a c → Precedes b c
 -- of two histories of which one precedes the other, both precede the later one
 abbrev pub LaterIsPreceded : Type 0
 LaterIsPreceded = (a b : Timeline) → AreComparable a b → Precedes a (later_of a b) × Precedes b (later_of a b)
+
+-- the order in closed form, by interval, incarnation and mode
+abbrev pub PrecedenceIsByParts : Type 0
+PrecedenceIsByParts = (a b : Timeline) → Precedes a b ↔ PrecedesByParts a b
 
 -- each point has exactly the fate whose row of the table it meets
 abbrev pub FatesAreTheTable : Type 0

@@ -1,5 +1,6 @@
 pub mod Timeline
 pub mod Order
+pub mod Parts
 pub mod Fates
 pub mod Laws
 pub mod Stored

@@ -1,5 +1,5 @@
 //! Laws of the order of histories and of fates, each the contract of a function that does nothing.
-ghost use Rattle.tau_history.specs.Laws.{OrderIsReflexive, OrderIsTransitive, OrderIsAntisymmetric, PredecessorsAreComparable, LaterIsPreceded, FatesAreTheTable, ReachedStaysReached, ClosedStaysClosed, FallenStaysFallen, StableClosesOrFalls, FallsMakeFallen, ClosesMakeClosed, StabilizesMakeStable};
+ghost use Rattle.tau_history.specs.Laws.{OrderIsReflexive, OrderIsTransitive, OrderIsAntisymmetric, PredecessorsAreComparable, LaterIsPreceded, PrecedenceIsByParts, FatesAreTheTable, ReachedStaysReached, ClosedStaysClosed, FallenStaysFallen, StableClosesOrFalls, FallsMakeFallen, ClosesMakeClosed, StabilizesMakeStable};
 
 /// Every history precedes itself (`docs/rules.md`, "Histories").
 #[tactic(auto, using(crate::proofs::Paths::reflexive))]
@@ -29,6 +29,12 @@ pub fn predecessors_are_comparable()
 /// (`docs/rules.md`, "Histories").
 pub fn later_is_preceded()
     ensures { LaterIsPreceded }
+{}
+
+/// The closed form of the order: a history precedes another exactly where their intervals, incarnation numbers and modes lie so
+/// (`docs/rules.md`, "Histories").
+pub fn precedence_is_by_parts()
+    ensures { PrecedenceIsByParts }
 {}
 
 /// Each point has exactly the fate whose row of the table it meets (`docs/rules.md`, "Fates").

@@ -113,6 +113,7 @@ fn laws_and_threads(rt: HostRuntime) -> Result<(), Fail> {
     laws::order_is_antisymmetric();
     laws::predecessors_are_comparable();
     laws::later_is_preceded();
+    laws::precedence_is_by_parts();
     laws::fates_are_the_table();
     laws::reached_stays_reached();
     laws::closed_stays_closed();

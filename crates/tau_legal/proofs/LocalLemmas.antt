@@ -1,31 +1,29 @@
 -- Which step fits at a place reads the opening and the steps before it alone.
-use Rattle.std.proofs.Common.{◌≡◌, ◌⊎◌, ◌↔◌, inl, inr, ⊎_elim, ℕ, zero, suc, ◌+◌, ◌<◌, ◌≤◌, Bool, Option, Some, None, List, length, refl, sym, ap, ◌∙◌, subst, arith}
-use Rattle.std.specs.Prelude.{slice_get, option_and_then}
+use Rattle.std.proofs.Common.{◌≡◌, ◌↔◌, inl, inr, ⊎_elim, ℕ, suc, ◌<◌, Bool, None, List, sym, ap, ◌∙◌, subst, arith}
+use Rattle.std.specs.Prelude.{option_and_then}
 use Rattle.tau_value.specs.declared.shared.Value.{Value}
 use Rattle.tau_value.specs.Val as val
 use Rattle.tau_value.specs.Val.{Val}
-use Rattle.tau_value.specs.Value.{val_of}
-use Rattle.tau_history.specs.Timeline.{interval}
 use Rattle.tau_tree.specs.declared.programs.Program.{Program}
 use Rattle.tau_tree.specs.Code.{Code}
 use Rattle.tau_trace.specs.declared.step.Step.{Step}
 use Rattle.tau_trace.specs.declared.step.Step.TheVariants.{Take, Drop, Fall, Void, Get, Set, Skip, Send, New, Stabilize, Ask, Checkpoint, Hold, Rollback, Stay, Done, Trap, Fail, Lose}
 use Rattle.tau_trace.specs.Steps.{actor}
-use Rattle.tau_trace.specs.Run.{Run, Agree, step_at, ActsAt, len, appended}
-use Rattle.tau_trace.specs.Numbering.{born, sent, IsNew, IsOrigin, Receives, InFlight}
-use Rattle.tau_trace.specs.Histories.{history, Ended, EndsAt, IsLiving}
+use Rattle.tau_trace.specs.Run.{Run, Agree}
+use Rattle.tau_trace.specs.Numbering.{born, sent}
+use Rattle.tau_trace.specs.Histories.{history, IsLiving}
 use Rattle.tau_trace.specs.Points.{point_at}
-use Rattle.tau_trace.specs.Turns.{Turn, IsOpenTurn}
+use Rattle.tau_trace.specs.Turns.{IsOpenTurn}
 use Rattle.tau_trace.specs.Known.{WellFormed, IsKnownAt}
-use Rattle.tau_trace.proofs.Agreement.{agree_sym, agree_below, agree_appended, step_at-appended, born-same, sent-same, history-same, origin_before, new_before, same_at, born-grows}
-use Rattle.tau_past.specs.Decisions.{Judgement, Verdict, Free}
+use Rattle.tau_trace.proofs.Agreement.{agree_below, born-same, sent-same, history-same, origin_before, new_before, same_at}
+use Rattle.tau_past.specs.Decisions.{Free}
 use Rattle.tau_past.specs.States.{StateAt}
 use Rattle.tau_past.specs.LocalLaws.{SameDecisionsAt}
 use Rattle.tau_past.proofs.Agreement.{decisions_local, point-same}
 use Rattle.tau_states.specs.Opening.{opening_states}
 use Rattle.tau_eval.specs.Eff.{Eff}
 use Rattle.tau_legal.specs.Turns.{HasBehaviour, start, created, HasBody, HasValue, post, message, Replies, RepliesOf, before, another, reply, TurnHas}
-use Rattle.tau_legal.specs.Fits.{Arrives, ArrivesLate, LacksNumber, Fits, IsStable, IsVolatile}
+use Rattle.tau_legal.specs.Fits.{Arrives, ArrivesLate, LacksNumber, Fits}
 
 module _ {T U : Run} where
   pub behaviour-same : (P : Program) (t k b : ℕ) → Agree T U k → t < born T k → HasBehaviour P T t b → HasBehaviour P U t b

@@ -4,9 +4,8 @@ use Rattle.tau_tree.specs.declared.programs.Program.{Program}
 use Rattle.tau_trace.specs.declared.step.Step.{Step}
 use Rattle.tau_trace.specs.declared.step.Step.TheVariants.{Fall, Rollback, Set, Checkpoint}
 use Rattle.tau_trace.specs.Steps.{actor}
-use Rattle.tau_trace.specs.Run.{Run, step_at, Does}
-use Rattle.tau_trace.specs.Histories.{history, Closes}
-use Rattle.tau_trace.specs.Known.{WellFormed}
+use Rattle.tau_trace.specs.Run.{Run}
+use Rattle.tau_trace.specs.Histories.{history}
 use Rattle.tau_past.specs.Carried.{is_set}
 use Rattle.tau_past.specs.Decisions.{Verdict, falls, FallsBy, fall}
 use Rattle.tau_past.specs.Safety.{KeepsRules}

@@ -1,22 +1,21 @@
 -- Fitting and legal traces grow by a step that fits or is legal; a trace without steps.
-use Rattle.std.proofs.Common.{◌≡◌, ◌⊎◌, inl, inr, ⊎_elim, ℕ, zero, suc, ◌+◌, ◌<◌, ◌≤◌, Option, Some, None, List, [], ◌∷◌, ◌++◌, length, refl, sym, ap, ◌∙◌, subst, arith}
+use Rattle.std.proofs.Common.{◌≡◌, ◌⊎◌, inl, inr, ⊎_elim, ℕ, zero, suc, ◌<◌, Some, None, List, [], ◌∷◌, length, sym, ap, subst, arith}
 use Rattle.std.specs.Prelude.{slice_get, map}
 use Rattle.tau_tree.specs.declared.entries.Entry.{Entry}
 use Rattle.tau_tree.specs.declared.programs.Program.{Program}
 use Rattle.tau_trace.specs.declared.step.Step.{Step}
 use Rattle.tau_trace.specs.Run.{Run, Agree, step_at, len, appended}
-use Rattle.tau_trace.specs.Numbering.{born, sent, InFlight}
+use Rattle.tau_trace.specs.Numbering.{born, sent}
 use Rattle.tau_trace.specs.Places.{count_below}
-use Rattle.tau_trace.specs.Turns.{Turn}
 use Rattle.tau_trace.specs.Known.{WellFormed, IsKnown, IsKnownAt}
 use Rattle.tau_trace.proofs.Lists.{slice_get-push_cases}
 use Rattle.tau_trace.proofs.Agreement.{agree_below, agree_appended, step_at-appended, born-same, sent-same}
 use Rattle.tau_script.specs.Openings.{program_opening}
-use Rattle.tau_script.specs.Cursors.{first_cursor, PassesTo, rests, IsPassedOver, IsRipe, IsDueAt, CursorAt}
-use Rattle.tau_script.specs.Scripts.{IsDue, NoneDue, Allows}
+use Rattle.tau_script.specs.Cursors.{first_cursor, rests, IsPassedOver, IsRipe}
+use Rattle.tau_script.specs.Scripts.{NoneDue, Allows}
 use Rattle.tau_script.proofs.Same.{same_script}
 use Rattle.tau_legal.specs.Fits.{Fits}
-use Rattle.tau_legal.specs.Traces.{Fitting, IsLegal, Legal, Complete}
+use Rattle.tau_legal.specs.Traces.{Fitting, IsLegal, Legal}
 use Rattle.tau_legal.specs.Laws.{FittingTracesGrow, LegalTracesGrow, LegalityIsLocal, LegalTracesAreSafe, EmptyTracesAreComplete}
 use Rattle.tau_legal.proofs.LocalLemmas.{fits_same}
 use Rattle.tau_legal.proofs.SafetyLemmas.{fitting_safe}

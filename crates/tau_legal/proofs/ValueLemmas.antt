@@ -1,40 +1,37 @@
 -- The values of a run are in bounds and name only transactors that exist.
-use Rattle.std.proofs.Common.{◌≡◌, ◌≢◌, ◌⊎◌, ⊎_elim, ℕ, zero, suc, ◌+◌, ◌<◌, ◌≤◌, Bool, Option, Some, None, List, [], ◌∷◌, ◌++◌, length, refl, sym, ap, ◌∙◌, subst, arith}
-use Rattle.std.specs.Prelude.{slice_get, option_and_then, option_map, map, All, true, false, cond}
+use Rattle.std.proofs.Common.{◌≡◌, ℕ, zero, suc, ◌+◌, ◌<◌, ◌≤◌, Some, List, [], ◌∷◌, ◌++◌, length, refl, sym, ap, subst, arith}
+use Rattle.std.specs.Prelude.{slice_get, option_map, map, All, true, false, cond}
 use Rattle.std.specs.Option.{option_map_or}
 use Rattle.std.proofs.lemmas.List.Elements.{All-head, All-tail}
 use Rattle.tau_value.specs.declared.shared.Value.{Value}
-use Rattle.tau_value.specs.Val as val
 use Rattle.tau_value.specs.Val.{Val}
 use Rattle.tau_value.specs.Value.{val_of}
-use Rattle.tau_value.specs.Sizes.{IsInBounds, NamesBelow, names_end_of, names_below-from_end, names_end-le}
+use Rattle.tau_value.specs.Sizes.{IsInBounds, NamesBelow, names_below-from_end, names_end-le}
 use Rattle.tau_tree.specs.declared.starts.Start.{Start}
-use Rattle.tau_tree.specs.declared.posts.Post.{Post}
 use Rattle.tau_tree.specs.declared.programs.Program.{Program}
 use Rattle.tau_tree.specs.Behaviour.{NamedCode}
 use Rattle.tau_tree.specs.Code.{Code}
-use Rattle.tau_tree.specs.Sound.{Sound, start_names, bodies}
+use Rattle.tau_tree.specs.Sound.{Sound, bodies}
 use Rattle.tau_trace.specs.declared.step.Step.{Step}
 use Rattle.tau_trace.specs.declared.step.Step.TheVariants.{Take, Drop, Fall, Void, Get, Set, Skip, Send, New, Stabilize, Ask, Checkpoint, Hold, Rollback, Stay, Done, Trap, Fail, Lose}
-use Rattle.tau_trace.specs.Run.{Run, step_at, len, ActsAt}
-use Rattle.tau_trace.specs.Numbering.{born, sent, IsNew, IsOrigin}
+use Rattle.tau_trace.specs.Run.{Run, step_at, len}
+use Rattle.tau_trace.specs.Numbering.{born, sent}
 use Rattle.tau_trace.specs.Points.{point_at}
 use Rattle.tau_trace.specs.Known.{WellFormed, IsKnownValue}
-use Rattle.tau_trace.proofs.Agreement.{born-grows, new_before, origin_before}
+use Rattle.tau_trace.proofs.Agreement.{born-grows, origin_before}
 use Rattle.tau_points.specs.declared.point.Point.{Point}
 use Rattle.tau_past.specs.States as states
 use Rattle.tau_past.specs.States.{StateAt, SavedWith}
 use Rattle.tau_script.specs.Openings.{program_opening}
 use Rattle.tau_states.specs.Opening.{opening_states}
 use Rattle.tau_eval.specs.Eff.{Eff}
-use Rattle.tau_eval.specs.Meaning.{next}
 use Rattle.tau_eval.specs.Known.{IsKnown, AreKnown, IsKnownEffect, KeepsNames}
 use Rattle.tau_eval.proofs.KnownLemmas.{effects_known}
 use Rattle.tau_tree.specs.Parts.{Throughout, NamesStart, NamesBehaviour, HasShortText}
 use Rattle.tau_trace.specs.Steps.{is_new}
 use Rattle.tau_trace.proofs.Counts.{count-suc}
 use Rattle.tau_legal.proofs.TraceLemmas.{below_length}
-use Rattle.tau_legal.specs.Turns.{HasBehaviour, start, created, HasBody, HasValue, post, message, Replies, RepliesOf, before, another, reply, TurnHas}
+use Rattle.tau_legal.specs.Turns.{HasValue, post, message, Replies, RepliesOf, before, another, reply, TurnHas}
 
 -- an item of a list has what all items have
 pub at_all : {A : Type 0} (P : A → Type 0) (xs : List A) (k : ℕ) (x : A) → All P xs → slice_get xs k ≡ Some x → P x

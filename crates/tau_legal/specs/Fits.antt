@@ -1,12 +1,11 @@
 -- Which step fits at a place of a run (docs/rules.md, "Steps").
-use Rattle.std.specs.Prelude.{◌≡◌, ◌⊎◌, ◌↔◌, ℕ, ◌<◌, ◌≤◌, IsTrue, IsFalse, None, Some}
-use Rattle.tau_value.specs.declared.shared.Value.{Value}
+use Rattle.std.specs.Prelude.{◌≡◌, ◌⊎◌, ◌↔◌, ℕ, ◌<◌, ◌≤◌, IsTrue, IsFalse, None}
 use Rattle.tau_value.specs.Val.{Val}
 use Rattle.tau_value.specs.Value.{val_of}
 use Rattle.tau_tree.specs.declared.programs.Program.{Program}
 use Rattle.tau_trace.specs.declared.step.Step.{Step}
 use Rattle.tau_trace.specs.declared.step.Step.TheVariants.{Take, Drop, Fall, Void, Get, Set, Skip, Send, New, Stabilize, Ask, Checkpoint, Hold, Rollback, Stay, Done, Trap, Fail, Lose}
-use Rattle.tau_trace.specs.Run.{Run, step_at}
+use Rattle.tau_trace.specs.Run.{Run}
 use Rattle.tau_trace.specs.Numbering.{born, Receives, InFlight}
 use Rattle.tau_trace.specs.Histories.{history, Ended, IsLiving}
 use Rattle.tau_trace.specs.Turns.{IsOpenTurn}

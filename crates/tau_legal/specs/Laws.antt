@@ -1,6 +1,7 @@
 -- Laws of fitting and legal traces, each the contract of a function of the crate.
-use Rattle.std.specs.Prelude.{◌≡◌, ℕ, []}
+use Rattle.std.specs.Prelude.{◌≡◌, ◌↔◌, ℕ, []}
 use Rattle.tau_tree.specs.declared.programs.Program.{Program}
+use Rattle.tau_tree.specs.Sound.{Sound}
 use Rattle.tau_trace.specs.declared.step.Step.{Step}
 use Rattle.tau_trace.specs.Run.{Run, Agree, len, appended}
 use Rattle.tau_trace.specs.Known.{WellFormed, IsKnownAt}
@@ -36,3 +37,8 @@ LegalTracesGrow = (P : Program) (T : Run) (s : Step) → WellFormed T → WellFo
 -- the trace without steps of a program without posts and script entries is complete
 abbrev pub EmptyTracesAreComplete : Type 0
 EmptyTracesAreComplete = (P : Program) → P.posts ≡ [] → P.script ≡ [] → Complete P (record { opening = program_opening P; steps = [] })
+
+-- a legal trace of a sound program is complete exactly where no step is legal after it
+abbrev pub CompleteWhereNoStepIsLegal : Type 0
+CompleteWhereNoStepIsLegal = (P : Program) (T : Run) → Sound P → WellFormed T → Legal P T
+    → Complete P T ↔ ((s : Step) → IsKnownAt T (len T) s → ¬ IsLegal P T (len T) s)

@@ -1,5 +1,5 @@
 //! Laws of fitting and legal traces, each the contract of a function that does nothing.
-ghost use Rattle.tau_legal.specs.Laws.{FittingTracesAreSafe, LegalTracesAreSafe, FittingIsLocal, LegalityIsLocal, FittingTracesGrow, LegalTracesGrow, EmptyTracesAreComplete};
+ghost use Rattle.tau_legal.specs.Laws.{FittingTracesAreSafe, LegalTracesAreSafe, FittingIsLocal, LegalityIsLocal, FittingTracesGrow, LegalTracesGrow, EmptyTracesAreComplete, CompleteWhereNoStepIsLegal};
 
 /// Whatever the program, a trace in which every step fits is safe: no checkpoint's causal past, found from the whole list of
 /// steps, holds a state rolled back anywhere in it (docs/definitions.md, "Fitting and legal steps").
@@ -41,4 +41,10 @@ pub fn legal_traces_grow()
 /// The trace without steps of a program without posts and script entries is complete (docs/definitions.md, "Complete").
 pub fn empty_traces_are_complete()
     ensures { EmptyTracesAreComplete }
+{}
+
+/// A legal trace of a sound program is complete exactly where no step is legal after it, of those that name only what exists
+/// (docs/definitions.md, "Complete").
+pub fn complete_where_no_step_is_legal()
+    ensures { CompleteWhereNoStepIsLegal }
 {}

@@ -5,8 +5,9 @@
 mod laws;
 
 pub use laws::{
-    empty_traces_are_complete, fitting_is_local, fitting_traces_are_safe, fitting_traces_grow,
-    legal_traces_are_safe, legal_traces_grow, legality_is_local,
+    complete_where_no_step_is_legal, empty_traces_are_complete, fitting_is_local,
+    fitting_traces_are_safe, fitting_traces_grow, legal_traces_are_safe, legal_traces_grow,
+    legality_is_local,
 };
 
 #[cfg(test)]

@@ -1,15 +1,16 @@
 -- Steps that stand nowhere in a run, told by counting.
-use Rattle.std.proofs.Common.{◌≡◌, ⊎_elim, ℕ, zero, suc, ◌<◌, Bool, true, false, cond, IsTrue, IsFalse, Some, refl, sym, ◌∙◌, ap, subst, arith}
+use Rattle.std.proofs.Common.{◌≡◌, ◌⊎◌, inl, inr, ⊎_elim, ℕ, zero, suc, ◌+◌, ◌-◌, ◌<◌, ◌≤◌, Bool, true, false, cond, IsTrue, IsFalse, Some, refl, sym, ◌∙◌, ap, subst, arith}
+use Rattle.std.specs.Prelude.{nat_lt}
 use Rattle.std.specs.Option.{option_map_or}
 use Rattle.tau_trace.specs.declared.step.Step.{Step}
 use Rattle.tau_trace.specs.declared.step.Step.TheVariants.{Fall, Rollback, Trap, Fail}
 use Rattle.tau_trace.specs.Steps.{actor}
-use Rattle.tau_trace.specs.Run.{Run, step_at, Does}
+use Rattle.tau_trace.specs.Run.{Run, step_at, starts, Does}
 use Rattle.tau_trace.specs.Places.{count_below}
-use Rattle.tau_trace.specs.Histories.{Falls, by_fall, by_rollback, by_trap, by_fail, IsFallingStep}
+use Rattle.tau_trace.specs.Histories.{IsLiving, Falls, by_fall, by_rollback, by_trap, by_fail, IsFallingStep}
 use Rattle.tau_trace.proofs.Lists.{same_some}
 use Rattle.tau_trace.proofs.Counts.{count-suc}
-use Rattle.tau_trace.proofs.Counted.{falls_falling}
+use Rattle.tau_trace.proofs.Counted.{counted, falls_falling}
 use Rattle.tau_trace.proofs.Sequences.{cases_last}
 
 pub clash : (b : Bool) → IsTrue b → IsFalse b → ⊥
@@ -75,3 +76,25 @@ pub none_falls : (T : Run) (n : ℕ) → count_below (passes_at may_fall T) n �
 none_falls T n e t k lt f =
     let found = falls_as T t k f in
     clash (may_fall found.step) found.passes (no_step may_fall T n e k found.step lt found.stands)
+
+-- no step from place a on passes, of n steps
+pub no_step_from : (test : Step → Bool) (T : Run) (a n : ℕ) → count_below (λ i. passes_at test T (a + i)) n ≡ 0 → (j : ℕ) (s : Step) → a ≤ j → j < a + n → step_at T j ≡ Some s → IsFalse (test s)
+no_step_from test T a n e j s ge lt stands =
+    let there : a + (j - a) ≡ j = omega arith in
+    let found : passes_at test T (a + (j - a)) ≡ test s = ap (passes_at test T) there ∙ ap (λ o. option_map_or test o false) stands in
+    sym found ∙ none_passes (λ i. passes_at test T (a + i)) n e (j - a) (omega arith)
+
+-- where no step passes before place a and none of the n steps after it, a step that passes stands at a
+pub only_place : (test : Step → Bool) (T : Run) (a n : ℕ) → count_below (passes_at test T) a ≡ 0 → count_below (λ i. passes_at test T (suc a + i)) n ≡ 0 → (j : ℕ) (s : Step) → j < suc a + n → step_at T j ≡ Some s → IsTrue (test s) → j ≡ a
+only_place test T a n before after j s lt stands passes = by (cases j a) where
+  cases : (i k : ℕ) → (i < k) ⊎ ((i ≡ k) ⊎ (k < i))
+  cases i k = grind arith
+
+  by : (j < a) ⊎ ((j ≡ a) ⊎ (a < j)) → j ≡ a
+  by (inl l) = absurd (clash (test s) passes (no_step test T a before j s l stands))
+  by (inr (inl e)) = e
+  by (inr (inr g)) = absurd (clash (test s) passes (no_step_from test T (suc a) n after j s (omega arith) lt stands))
+
+-- a start never ends
+pub start_living : (T : Run) (t k : ℕ) → nat_lt t (starts T) ≡ true → IsLiving T t k
+start_living T t k is j lt e = omega (arith, e.at_opening, (counted T t j).interval_is, ap one_if is)

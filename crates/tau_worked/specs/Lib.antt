@@ -1,2 +1,4 @@
 pub mod VolatileSource
 pub mod ForgedCheckpoint
+pub mod Cell
+pub mod RolledBackSource

@@ -1,6 +1,7 @@
 //! Each worked example once.
 use crate::{
-    forged_checkpoint_is_unsafe, unearned_checkpoint_may_be_safe, volatile_source_is_held,
+    cell_is_saved, forged_checkpoint_is_unsafe, rolled_back_source_is_dropped,
+    unearned_checkpoint_may_be_safe, volatile_source_is_held,
 };
 
 #[test]
@@ -8,4 +9,6 @@ fn examples_are_called() {
     volatile_source_is_held();
     unearned_checkpoint_may_be_safe();
     forged_checkpoint_is_unsafe();
+    cell_is_saved();
+    rolled_back_source_is_dropped();
 }
