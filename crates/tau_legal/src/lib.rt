@@ -3,11 +3,13 @@
 #![tactic(auto)]
 
 mod laws;
+mod rules;
 
 pub use laws::{
     empty_traces_are_complete, fitting_is_local, fitting_traces_are_safe, fitting_traces_grow,
     legal_traces_are_safe, legal_traces_grow, legality_is_local,
 };
+pub use rules::fitting_traces_keep_the_rules;
 
 #[cfg(test)]
 mod tests;

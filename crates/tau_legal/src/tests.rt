@@ -1,7 +1,7 @@
 //! Each law once.
 use crate::{
     empty_traces_are_complete, fitting_is_local, fitting_traces_are_safe, fitting_traces_grow,
-    legal_traces_are_safe, legal_traces_grow, legality_is_local,
+    fitting_traces_keep_the_rules, legal_traces_are_safe, legal_traces_grow, legality_is_local,
 };
 
 #[test]
@@ -10,6 +10,7 @@ fn laws_are_called() {
     fitting_is_local();
     fitting_traces_are_safe();
     fitting_traces_grow();
+    fitting_traces_keep_the_rules();
     legal_traces_are_safe();
     legal_traces_grow();
     legality_is_local();
