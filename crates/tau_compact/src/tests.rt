@@ -2,11 +2,11 @@ use crate::PrunedView;
 use std::alloc::{AllocError, Global};
 use std::process::Abort;
 use std::test::Fail;
-use tau_fate::laws::kinds_ignore_trim;
+use tau_fate::laws::{kinds_ignore_trim, named_points_stay};
 use tau_fate::{Freedom, Verdict, free, judge};
 use tau_history::History;
 use tau_points::Point;
-use tau_view::laws::{calls_ignore_trim, decisions_ignore_trim, settled_under_trim};
+use tau_view::laws::{calls_ignore_trim, decisions_ignore_trim, points_stay, settled_under_trim};
 use tau_view::{FullView, View};
 
 /// What has become of a start transactor.
@@ -272,6 +272,8 @@ fn pruned_views_move_roots(rt: HostRuntime) -> Result<(), Fail> {
 fn keeps_the_laws() {
     calls_ignore_trim::<PrunedView>();
     decisions_ignore_trim::<PrunedView>();
+    points_stay::<PrunedView>();
     settled_under_trim::<PrunedView>();
     kinds_ignore_trim::<PrunedView>();
+    named_points_stay::<PrunedView>();
 }

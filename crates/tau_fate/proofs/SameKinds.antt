@@ -9,14 +9,16 @@ use Rattle.tau_view.specs.Held.{Held, Histories, Points, AllPrecede, fate_by, fa
 use Rattle.tau_view.specs.Trim.{EdgeTest, RootTest, unless, trim, DropsSettledEdges, DropsClosedRoots}
 use Rattle.tau_view.specs.Past.{FallenIn, NotFirmIn, SomeFallen, SomeNotFirm, Settled}
 use Rattle.tau_view.specs.Laws.{LosesClosed}
+use Rattle.tau_view.specs.Stays.{IsPartOf}
 use Rattle.tau_view.proofs.Settled.{fallen_ignores_trim, not_firm_ignores_trim}
+use Rattle.tau_view.proofs.Stays.{fallen_stays, not_firm_stays}
 use Rattle.tau_fate.specs.declared.verdict.Verdict.{Verdict}
 use Rattle.tau_fate.specs.declared.verdict.Verdict.TheVariants.{Take, Drop, Fall}
 use Rattle.tau_fate.specs.declared.freedom.Freedom.{Freedom}
 use Rattle.tau_fate.specs.declared.freedom.Freedom.TheVariants.{Free, Bound}
 use Rattle.tau_fate.specs.Least.{IsLeast}
 use Rattle.tau_fate.specs.Decisions.{IsVerdict, IsFreedom}
-use Rattle.tau_fate.specs.DecisionKinds.{SameVerdictKind, both_take, both_drop, both_fall, SameFreedomKind, both_free, both_bound, VerdictKindIgnoresTrim, FreedomKindIgnoresTrim}
+use Rattle.tau_fate.specs.DecisionKinds.{SameVerdictKind, both_take, both_drop, both_fall, SameFreedomKind, both_free, both_bound, VerdictKindIgnoresTrim, FreedomKindIgnoresTrim, VerdictPointStays, FreedomPointStays}
 
 -- a point that is Closed is Closed under later histories
 closed_stays : (hs ks : Histories) (q : Point) → AllPrecede hs ks → fate_in hs q ≡ Closed → fate_in ks q ≡ Closed
@@ -31,6 +33,23 @@ closed_stays hs ks q later e = by_history (hs q.who) refl where
 same_points : (v : Held) (me : Point) → LosesClosed v.history (only me) (only me)
 same_points v me = record { within = λ q h. h; lost = λ q h. inl h }
 
+-- trimmed roots are roots
+roots_left : (drops_edge : EdgeTest) (drops_root : RootTest) (w : Held) → IsPartOf (trim drops_edge drops_root w).root w.root
+roots_left drops_edge drops_root w q h = by_test (drops_root w.history q) h where
+  by_test : (d : Bool) → IsTrue (unless d (w.root q)) → IsTrue (w.root q)
+  by_test true k = cc
+  by_test false k = k
+
+module _ (drops_edge : EdgeTest) (drops_root : RootTest) where
+  pub verdict_point : VerdictPointStays (trim drops_edge drops_root)
+  verdict_point v w me Take a = tt
+  verdict_point v w me (Drop p) a = fallen_stays drops_edge drops_root v w.root (trim drops_edge drops_root w).root p (roots_left drops_edge drops_root w) a.1.holds
+  verdict_point v w me (Fall p) a = fallen_stays drops_edge drops_root v (only me) (only me) p (λ q h. h) a.holds
+
+  pub freedom_point : FreedomPointStays (trim drops_edge drops_root)
+  freedom_point v me Free a = tt
+  freedom_point v me (Bound p) a = not_firm_stays drops_edge drops_root v (only me) (only me) p (λ q h. h) a.holds
+
 module _ (drops_edge : EdgeTest) (drops_root : RootTest) (settled_edges : DropsSettledEdges drops_edge) where
   pub freedom_kind : FreedomKindIgnoresTrim (trim drops_edge drops_root)
   freedom_kind v me Free Free s a b = both_free
@@ -43,13 +62,7 @@ module _ (drops_edge : EdgeTest) (drops_root : RootTest) (settled_edges : DropsS
   module _ (closed_roots : DropsClosedRoots drops_edge drops_root) where
     -- the roots that trimming takes are Closed
     roots_lose : (v w : Held) → AllPrecede w.history v.history → LosesClosed v.history w.root (trim drops_edge drops_root w).root
-    roots_lose v w later = record { within = within; lost = lost } where
-      within : (q : Point) → IsTrue (unless (drops_root w.history q) (w.root q)) → IsTrue (w.root q)
-      within q h = by_test (drops_root w.history q) h where
-        by_test : (d : Bool) → IsTrue (unless d (w.root q)) → IsTrue (w.root q)
-        by_test true k = cc
-        by_test false k = k
-
+    roots_lose v w later = record { within = roots_left drops_edge drops_root w; lost = lost } where
       lost : (q : Point) → IsTrue (w.root q) → IsTrue (unless (drops_root w.history q) (w.root q)) ⊎ (fate_in v.history q ≡ Closed)
       lost q h = by_test (drops_root w.history q) refl where
         by_test : (d : Bool) → drops_root w.history q ≡ d → IsTrue (unless (drops_root w.history q) (w.root q)) ⊎ (fate_in v.history q ≡ Closed)

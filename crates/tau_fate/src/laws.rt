@@ -1,6 +1,6 @@
 //! Laws of decisions on every type of view, each the contract of a function that does nothing.
 ghost use Rattle.tau_view.specs.Trim.{trim};
-ghost use Rattle.tau_fate.specs.DecisionKinds.{VerdictKindIgnoresTrim, FreedomKindIgnoresTrim};
+ghost use Rattle.tau_fate.specs.DecisionKinds.{VerdictKindIgnoresTrim, FreedomKindIgnoresTrim, VerdictPointStays, FreedomPointStays};
 
 use tau_view::View;
 
@@ -9,4 +9,11 @@ use tau_view::View;
 pub fn kinds_ignore_trim<V: View>()
     ensures verdict { VerdictKindIgnoresTrim (trim V.drops_edge V.drops_root) }
     ensures freedom { FreedomKindIgnoresTrim (trim V.drops_edge V.drops_root) }
+{}
+
+/// Whatever the facts, the point that a verdict names on what a type of view keeps is Fallen in the known past by the whole
+/// facts too, and the point that isn't firm on it isn't firm there.
+pub fn named_points_stay<V: View>()
+    ensures verdict { VerdictPointStays (trim V.drops_edge V.drops_root) }
+    ensures freedom { FreedomPointStays (trim V.drops_edge V.drops_root) }
 {}

@@ -1,4 +1,4 @@
-use crate::laws::kinds_ignore_trim;
+use crate::laws::{kinds_ignore_trim, named_points_stay};
 use crate::{Freedom, Verdict, free, free_settled, judge, judge_settled};
 use std::alloc::{AllocError, Global};
 use std::process::Abort;
@@ -37,4 +37,5 @@ fn decides_without_histories(rt: HostRuntime) -> Result<(), Fail> {
 #[test]
 fn keeps_the_laws() {
     kinds_ignore_trim::<FullView>();
+    named_points_stay::<FullView>();
 }

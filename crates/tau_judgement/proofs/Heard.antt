@@ -1,5 +1,5 @@
 -- The views of what was heard as views of closed sets.
-use Rattle.std.proofs.Common.{◌≢◌, inr, ℕ, ◌<◌, max, Some, refl}
+use Rattle.std.proofs.Common.{◌≢◌, inr, ℕ, ◌<◌, max, None, Some, refl}
 use Rattle.tau_history.specs.declared.fate.Fate.TheVariants.{Ahead}
 use Rattle.tau_points.specs.declared.point.Point.{Point}
 use Rattle.tau_view.specs.Held.{Held, fate_in}
@@ -12,9 +12,13 @@ use Rattle.tau_past.specs.Heard.{Heard, HeardBy, HeardTogether}
 use Rattle.tau_past.specs.KnownLaws.{Bound}
 use Rattle.tau_past.proofs.BoundLemmas.{has_bounds, union_bound}
 use Rattle.tau_past.proofs.HeardLemmas.{heard_sets_closed, sent_touched}
-use Rattle.tau_heard.specs.Views.{IsView, IsViewOf}
+use Rattle.tau_heard.specs.Views.{IsView, IsViewOf, IsMessageView}
 use Rattle.tau_judgement.proofs.Fates.{IsViewOfClosed, own_reached}
 use Rattle.tau_judgement.proofs.Pasts.{touched_reached}
+
+-- the view of what message m has heard
+pub message_view : (T : Run) (k : ℕ) → WellFormed T → (m : ℕ) → m < sent T k → (y : Held) → IsMessageView T m y → IsViewOfClosed T (HeardBy T m) None (SentWith T m) y
+message_view T k w m there y view = record { view = view; closed = (heard_sets_closed T).message m; bounds = λ u. (has_bounds T k w).message m u there }
 
 module _ (T : Run) (t k : ℕ) (w : WellFormed T) (exists : t < born T k) where
   -- the view of what t has heard, and t's own point on it

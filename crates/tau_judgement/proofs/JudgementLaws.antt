@@ -17,9 +17,9 @@ use Rattle.tau_past.specs.Decisions.{FallsBy, DropsBy, fall, drop, take}
 use Rattle.tau_past.specs.Safety.{KeepsRules}
 use Rattle.tau_heard.specs.Views.{IsView, IsViewOf}
 use Rattle.tau_heard.proofs.HeardLaws.{merged_views_are_later, merged_is_together}
-use Rattle.tau_judgement.specs.Laws.{AreViewsOf, FallsAlike, DropsAlike, FreeAlike, ViewsAreSettled, MergedViewsAreSettled, VerdictsAgree, FreedomAgrees}
+use Rattle.tau_judgement.specs.Laws.{AreViewsOf, FallsAlike, DropsAlike, FreeAlike, ViewsAreSettled, MessageViewsAreSettled, MergedViewsAreSettled, VerdictsAgree, FreedomAgrees}
 use Rattle.tau_judgement.proofs.Decisions.{one_point, only_reached, some_fallen, all_firm}
-use Rattle.tau_judgement.proofs.Heard.{own_view, own_point, together_view, together_point, sent_reached}
+use Rattle.tau_judgement.proofs.Heard.{own_view, own_point, message_view, together_view, together_point, sent_reached}
 use Rattle.tau_judgement.proofs.Settled.{settled}
 use Rattle.tau_judgement.proofs.Trimmed.{own_fallen, roots_fallen, own_not_firm}
 
@@ -33,8 +33,12 @@ free_alike T t k x w rules exists view =
 pub views_are_settled : ViewsAreSettled
 views_are_settled T t k x w rules exists view = settled (own_view T t k w exists x view) w rules
 
+-- and so is that of what a message has heard
+pub message_views_are_settled : MessageViewsAreSettled
+message_views_are_settled T k m y w rules there view = settled (message_view T k w m there y view) w rules
+
 -- the merged view is that of what t and message m have heard
-merge : (T : Run) (t k m : ℕ) (x y : Held) → WellFormed T → AreViewsOf T t k m x y → IsView T (HeardTogether T t k m) (Some t) (Pending T t k) (merged x y)
+pub merge : (T : Run) (t k m : ℕ) (x y : Held) → WellFormed T → AreViewsOf T t k m x y → IsView T (HeardTogether T t k m) (Some t) (Pending T t k) (merged x y)
 merge T t k m x y w are = merged_is_together T t k m x y w are.exists are.sent are.own are.message
 
 -- on it t falls exactly where it does by what was heard

@@ -5,3 +5,4 @@ pub mod Settled
 pub mod Trimmed
 pub mod Heard
 pub mod JudgementLaws
+pub mod NamedPoints

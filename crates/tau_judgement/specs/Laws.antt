@@ -36,9 +36,12 @@ DropsAlike = (T : Run) (t k m : ℕ) (x y : Held) → WellFormed T → AreViewsO
 abbrev pub FreeAlike : Type 0
 FreeAlike = (T : Run) (t k : ℕ) (x : Held) → WellFormed T → KeepsRules T → t < born T k → IsViewOf T t k x → (¬ SomeNotFirm x (only (point_at T t k))) ↔ Free T t k
 
--- where the rules are kept, views of what was heard are settled, and so is a transactor's merged with a message's
+-- where the rules are kept, views of what was heard are settled: a transactor's, a message's, and the two merged
 abbrev pub ViewsAreSettled : Type 0
 ViewsAreSettled = (T : Run) (t k : ℕ) (x : Held) → WellFormed T → KeepsRules T → t < born T k → IsViewOf T t k x → Settled x
+
+abbrev pub MessageViewsAreSettled : Type 0
+MessageViewsAreSettled = (T : Run) (k m : ℕ) (y : Held) → WellFormed T → KeepsRules T → m < sent T k → IsMessageView T m y → Settled y
 
 abbrev pub MergedViewsAreSettled : Type 0
 MergedViewsAreSettled = (T : Run) (t k m : ℕ) (x y : Held) → WellFormed T → KeepsRules T → AreViewsOf T t k m x y → Settled (merged x y)

@@ -1,5 +1,6 @@
 //! Laws of decisions on views, each the contract of a function that does nothing.
-ghost use Rattle.tau_judgement.specs.Laws.{FallsAlike, DropsAlike, FreeAlike, ViewsAreSettled, MergedViewsAreSettled, VerdictsAgree, FreedomAgrees};
+ghost use Rattle.tau_judgement.specs.Laws.{FallsAlike, DropsAlike, FreeAlike, ViewsAreSettled, MessageViewsAreSettled, MergedViewsAreSettled, VerdictsAgree, FreedomAgrees};
+ghost use Rattle.tau_judgement.specs.NamedPoints.{VerdictsNameFallen, FreedomNamesNotFirm};
 
 use tau_view::View;
 
@@ -14,10 +15,11 @@ pub fn freedom_agrees()
     ensures { FreeAlike }
 {}
 
-/// Where the rules are kept, each point of the known past of a Closed point is firm, on the view of what was heard and on
-/// a transactor's merged with a message's.
+/// Where the rules are kept, each point of the known past of a Closed point is firm, on a transactor's view of what was heard,
+/// on a message's, and on the two merged.
 pub fn views_are_settled()
     ensures own { ViewsAreSettled }
+    ensures message { MessageViewsAreSettled }
     ensures merged { MergedViewsAreSettled }
 {}
 
@@ -25,4 +27,11 @@ pub fn views_are_settled()
 pub fn decisions_agree<V: View>()
     ensures verdict { VerdictsAgree V.drops_edge V.drops_root }
     ensures freedom { FreedomAgrees V.drops_edge V.drops_root }
+{}
+
+/// Whatever a type of view drops, the point that a verdict on its views names is fallen by what was heard, and in the past that
+/// decides; and the point that freedom names isn't firm by what was heard.
+pub fn named_points_are_known<V: View>()
+    ensures verdict { VerdictsNameFallen V.drops_edge V.drops_root }
+    ensures freedom { FreedomNamesNotFirm V.drops_edge V.drops_root }
 {}

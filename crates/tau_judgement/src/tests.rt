@@ -1,5 +1,8 @@
 //! Each law once, the generic one at the full view.
-use crate::{decisions_agree, falls_and_drops_agree, freedom_agrees, views_are_settled};
+use crate::{
+    decisions_agree, falls_and_drops_agree, freedom_agrees, named_points_are_known,
+    views_are_settled,
+};
 use tau_view::FullView;
 
 #[test]
@@ -8,4 +11,5 @@ fn laws_are_called() {
     freedom_agrees();
     views_are_settled();
     decisions_agree::<FullView>();
+    named_points_are_known::<FullView>();
 }

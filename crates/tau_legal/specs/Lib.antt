@@ -2,3 +2,4 @@ pub mod Turns
 pub mod Fits
 pub mod Traces
 pub mod Laws
+pub mod RuleLaws

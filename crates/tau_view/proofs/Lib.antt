@@ -1,6 +1,7 @@
 pub mod Later
 pub mod Trimming
 pub mod Settled
+pub mod Stays
 pub mod Ascending
 pub mod Entries
 pub mod Merging

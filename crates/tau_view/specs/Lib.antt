@@ -3,6 +3,7 @@ pub mod Rules
 pub mod Trim
 pub mod Past
 pub mod Laws
+pub mod Stays
 pub mod Stored
 pub mod Full
 pub mod Entries

@@ -1,6 +1,7 @@
 //! Laws of every type of view, each the contract of a function that does nothing.
 ghost use Rattle.tau_view.specs.Trim.{trim};
 ghost use Rattle.tau_view.specs.Laws.{NoteIgnoresTrim, TouchIgnoresTrim, DependIgnoresTrim, MergeIgnoresTrim, TakingRootsIgnoresTrim, ClearingRootsIgnoresTrim, FallenIgnoresTrim, NotFirmIgnoresTrim, SettledUnderTrim};
+ghost use Rattle.tau_view.specs.Stays.{FallenPointsStay, NotFirmPointsStay};
 
 use crate::view::View;
 
@@ -20,6 +21,13 @@ pub fn calls_ignore_trim<V: View>()
 pub fn decisions_ignore_trim<V: View>()
     ensures fallen { FallenIgnoresTrim (trim V.drops_edge V.drops_root) }
     ensures not_firm { NotFirmIgnoresTrim (trim V.drops_edge V.drops_root) }
+{}
+
+/// Whatever the facts, a Fallen point of the known past that trimmed facts have is one of that of the facts, and so is a point
+/// that isn't firm.
+pub fn points_stay<V: View>()
+    ensures fallen { FallenPointsStay (trim V.drops_edge V.drops_root) }
+    ensures not_firm { NotFirmPointsStay (trim V.drops_edge V.drops_root) }
 {}
 
 /// Settled facts stay settled when they are trimmed.

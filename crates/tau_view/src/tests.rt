@@ -1,4 +1,4 @@
-use crate::laws::{calls_ignore_trim, decisions_ignore_trim, settled_under_trim};
+use crate::laws::{calls_ignore_trim, decisions_ignore_trim, points_stay, settled_under_trim};
 use crate::{FullView, View};
 use std::alloc::{AllocError, Global};
 use std::process::Abort;
@@ -102,5 +102,6 @@ fn finds_the_known_past(rt: HostRuntime) -> Result<(), Fail> {
 fn keeps_the_laws() {
     calls_ignore_trim::<FullView>();
     decisions_ignore_trim::<FullView>();
+    points_stay::<FullView>();
     settled_under_trim::<FullView>();
 }

@@ -1,0 +1,10 @@
+//! What every fitting trace keeps.
+ghost use Rattle.tau_legal.specs.RuleLaws.{FittingTracesKeepTheRules};
+
+/// Whatever the program, a trace in which every step fits keeps the facts from which it is safe, and from which the views of
+/// what was heard are settled: a Rollback and a Set are made by a volatile transactor alone, a Fall has a cause that was heard
+/// of, and a Checkpoint is made by a free transactor (docs/definitions.md, "Fitting and legal steps", "Safe").
+#[tactic(auto, using(crate::proofs::SafetyLemmas::keeps_rules))]
+pub fn fitting_traces_keep_the_rules()
+    ensures { FittingTracesKeepTheRules }
+{}
