@@ -4,6 +4,3 @@
 mod laws;
 
 pub use laws::{decisions_agree, falls_and_drops_agree, freedom_agrees, views_are_settled};
-
-#[cfg(test)]
-mod tests;
