@@ -6,6 +6,3 @@ mod volatile_source;
 
 pub use forged_checkpoint::forged_checkpoint_is_unsafe;
 pub use volatile_source::{unearned_checkpoint_may_be_safe, volatile_source_is_held};
-
-#[cfg(test)]
-mod tests;
