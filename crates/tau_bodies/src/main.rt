@@ -94,7 +94,7 @@ fn put_by_job(alloc: Global, text: &mut Vec<u8>, turn: Turn<'_>) -> Result<(), A
     for number in 0..LIMIT {
         match job.advance() {
             Ok(pending) => {
-                writing::put_effect(alloc, text, pending.effect())?;
+                writing::put_effect(alloc, text, &pending.effect().copy()?)?;
                 match reply_to(pending.effect(), turn.start, number)? {
                     Some(reply) => job = pending.resume(reply),
                     None => return Ok(()),

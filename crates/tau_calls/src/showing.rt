@@ -12,6 +12,7 @@ use tau_points::{Point, Relation};
 use tau_rules::{Standing, System};
 use tau_sexpr::{Forms, print_forms};
 use tau_trace::{Trace, form_of_step};
+use tau_value::Value;
 use tau_view::{FullView, View};
 
 /// A view whose edges can be shown.
@@ -33,8 +34,8 @@ impl Shown for PrunedView {
 }
 
 impl<'p, V: Shown> Run<'p, V> {
-    /// Adds what a call asks for: the standing, history or view of a transactor, whether it is free, the view of a message, or
-    /// the verdict on it.
+    /// Adds what a call asks for: the standing, state, saved state, history or view of a transactor, whether it is free, the view
+    /// of a message, or the verdict on it.
     pub(crate) fn show(
         &self,
         text: &mut String,
@@ -44,6 +45,8 @@ impl<'p, V: Shown> Run<'p, V> {
         let born = self.system.trace().born();
         match verb {
             "standing" => add_standing(text, number, self.system.standing(number)),
+            "state" => add_state(text, verb, number, self.system.state_of(number)),
+            "saved" => add_state(text, verb, number, self.system.saved_of(number)),
             "history" => add_history(text, number, self.system.history_of(number)).and_then(
                 |()| text.push('\n'),
             ),
@@ -91,6 +94,20 @@ fn add_standing(text: &mut String, who: u32, standing: Option<Standing>) -> Resu
         Some(Standing::Idle) => writeln!(text, "(standing {who} idle)"),
         Some(Standing::Busy { turn }) => writeln!(text, "(standing {who} busy {turn})"),
         Some(Standing::Ended { place }) => writeln!(text, "(standing {who} ended {place})"),
+    }
+}
+
+// Adds a state, or a saved one, by its integer.
+fn add_state(
+    text: &mut String,
+    verb: &str,
+    who: u32,
+    state: Option<&Value>,
+) -> Result<(), AllocError> {
+    match state {
+        None => writeln!(text, "({verb} {who} none)"),
+        Some(Value::Int(number)) => writeln!(text, "({verb} {who} {number})"),
+        Some(_) => writeln!(text, "({verb} {who} no integer)"),
     }
 }
 

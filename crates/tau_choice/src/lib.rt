@@ -4,6 +4,3 @@
 mod choices;
 
 pub use choices::{Choice, asks_freedom, chosen};
-
-#[cfg(test)]
-mod tests;

@@ -12,6 +12,3 @@ pub use statuses::{Status, number};
 pub use tau_command::{Command, Line, Words, WordsError, read_words};
 pub use tau_workers::{Gate, OpenGate};
 pub use together::tau;
-
-#[cfg(test)]
-mod tests;

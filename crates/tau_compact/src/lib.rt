@@ -5,6 +5,3 @@ mod pruned;
 mod pruning;
 
 pub use pruned::PrunedView;
-
-#[cfg(test)]
-mod tests;

@@ -19,6 +19,3 @@ mod settings;
 pub use effects::Effect;
 pub use job::{Job, Pending, again, begin};
 pub use laws::effects_are_known;
-
-#[cfg(test)]
-mod tests;

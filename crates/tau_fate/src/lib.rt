@@ -10,6 +10,3 @@ mod verdict;
 pub use decide::{free, free_settled, judge, judge_settled};
 pub use freedom::Freedom;
 pub use verdict::Verdict;
-
-#[cfg(test)]
-mod tests;

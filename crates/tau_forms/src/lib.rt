@@ -21,8 +21,3 @@ pub use faults::ProgramError;
 pub use laws::forms_mean_one_program;
 pub use printing::forms_of;
 pub use reading::program_of;
-
-#[cfg(test)]
-mod printing_tests;
-#[cfg(test)]
-mod reading_tests;

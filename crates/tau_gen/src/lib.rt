@@ -6,6 +6,3 @@ mod generated;
 mod hop;
 
 pub use generated::generate;
-
-#[cfg(test)]
-mod tests;

@@ -8,6 +8,3 @@ pub use laws::{
     posts_have_heard_nothing, starts_open_alone, views_are_comparable, views_are_local,
     views_have_the_own_history, views_step_by_step,
 };
-
-#[cfg(test)]
-mod tests;

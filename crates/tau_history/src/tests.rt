@@ -1,7 +1,7 @@
 ghost use Rattle.std.specs.Prelude.{◌≡◌, ◌∷◌, [], false, IfOk};
 ghost use Rattle.tau_history.specs.Timeline.{Timeline};
 
-use crate::{Fate, History, laws};
+use crate::{Fate, History};
 use std::alloc::{AllocError, Global};
 use std::test::Fail;
 
@@ -107,21 +107,7 @@ fn many_intervals(rt: HostRuntime) -> Result<(), Fail> {
 fn crosses_threads<T: Send + Sync>(_value: &T) {}
 
 #[test]
-fn laws_and_threads(rt: HostRuntime) -> Result<(), Fail> {
-    laws::order_is_reflexive();
-    laws::order_is_transitive();
-    laws::order_is_antisymmetric();
-    laws::predecessors_are_comparable();
-    laws::later_is_preceded();
-    laws::precedence_is_by_parts();
-    laws::fates_are_the_table();
-    laws::reached_stays_reached();
-    laws::closed_stays_closed();
-    laws::fallen_stays_fallen();
-    laws::stable_closes_or_falls();
-    laws::falls_make_fallen();
-    laws::closes_make_closed();
-    laws::stabilizes_make_stable();
+fn a_history_crosses_threads(rt: HostRuntime) -> Result<(), Fail> {
     crosses_threads(&History::newborn(rt.alloc())?);
     Ok(())
 }

@@ -14,6 +14,3 @@ pub use laws::{inputs_are_unique, run_texts_are_read_back};
 pub use parts::RunText;
 pub use printing::program_text;
 pub use reading::{read_printed, read_program, read_run_text};
-
-#[cfg(test)]
-mod tests;

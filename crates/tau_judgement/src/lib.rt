@@ -7,6 +7,3 @@ pub use laws::{
     decisions_agree, falls_and_drops_agree, freedom_agrees, named_points_are_known,
     views_are_settled,
 };
-
-#[cfg(test)]
-mod tests;

@@ -11,6 +11,3 @@ pub use laws::{
     legality_is_local,
 };
 pub use rules::fitting_traces_keep_the_rules;
-
-#[cfg(test)]
-mod tests;

@@ -15,6 +15,3 @@ mod together;
 pub use laws::{output_is_unique, run_texts_are_accepted, run_texts_tell};
 pub use outputs::{End, INPUT_LIMIT, Output, output_of, reads_input};
 pub use together::output_by_workers;
-
-#[cfg(test)]
-mod tests;

@@ -1,10 +1,11 @@
-//! `tau run` where the sink fails in the middle of the text, and where the source fails at once: the status, and what the
-//! sink then holds, on a line of its own.
+//! `tau run` where the sink fails in the middle of the text, where the source fails at once, and where it gives a byte more than
+//! an input may have: the status with its line, and what the sink then holds, on a line of its own. The last line is that of a
+//! want of memory.
 #![tactic(auto)]
 
 use std::alloc::{AllocError, Global};
 use std::process::ExitCode;
-use tau_cli::{Line, Words, number, tau_still};
+use tau_cli::{Line, Status, Words, number, tau_still};
 use tau_io::{
     MemorySink, MemorySource, Sink, Source, StdSink, SteadySink, SteadySource, write_all_of,
 };
@@ -26,11 +27,15 @@ fn text_of(alloc: Global) -> Result<Vec<u8>, AllocError> {
     // Pieces of 16 bytes, of which the third fails.
     let mut sink = MemorySink::new(alloc, 16, numbers(alloc, 2)?);
     let status = run(alloc, &mut SteadySource::new(program(alloc)?), &mut sink)?;
-    add(&mut text, status, sink.bytes())?;
+    add(alloc, &mut text, status, sink.bytes())?;
     let mut source = MemorySource::new(program(alloc)?, 16, numbers(alloc, 0)?);
     let mut held = SteadySink::new(alloc);
     let status = run(alloc, &mut source, &mut held)?;
-    add(&mut text, status, held.bytes())?;
+    add(alloc, &mut text, status, held.bytes())?;
+    let blanks = vec![in alloc; b' '; 16_777_217]?;
+    let status = run(alloc, &mut SteadySource::new(blanks), &mut held)?;
+    add(alloc, &mut text, status, held.bytes())?;
+    add(alloc, &mut text, Status::NoMemory, b"")?;
     Ok(text)
 }
 
@@ -45,17 +50,23 @@ fn numbers(alloc: Global, number: u32) -> Result<Vec<u32>, AllocError> {
     Ok(numbers)
 }
 
-// The number of the status of `tau run`.
-fn run<I: Source, O: Sink>(alloc: Global, input: &mut I, output: &mut O) -> Result<u8, AllocError> {
+// The status of `tau run`.
+fn run<I: Source, O: Sink>(
+    alloc: Global,
+    input: &mut I,
+    output: &mut O,
+) -> Result<Status, AllocError> {
     let mut words = Words::new(alloc);
     if let Err((_line, error)) = words.push(Line::of(alloc, "run")?) {
         return Err(error);
     }
-    Ok(number(&tau_still(alloc, &words, input, output)))
+    Ok(tau_still(alloc, &words, input, output))
 }
 
-fn add(text: &mut Vec<u8>, status: u8, held: &[u8]) -> Result<(), AllocError> {
-    text.push(b'0' + status % 10)?;
+fn add(alloc: Global, text: &mut Vec<u8>, status: Status, held: &[u8]) -> Result<(), AllocError> {
+    text.push(b'0' + number(&status) % 10)?;
+    text.push(b' ')?;
+    text.extend_from_slice(status.to_string(alloc)?.as_bytes())?;
     text.push(b'\n')?;
     text.extend_from_slice(held)?;
     text.push(b'\n')?;

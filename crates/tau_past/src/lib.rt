@@ -32,6 +32,3 @@ pub use laws::{
     without_falls_all_is_taken,
 };
 pub use local_laws::decisions_are_local;
-
-#[cfg(test)]
-mod tests;

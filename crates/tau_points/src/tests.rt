@@ -1,4 +1,4 @@
-ghost use Rattle.std.specs.Prelude.{◌≡◌, ◌==◌, ◌⊎◌, filter, not, suc};
+ghost use Rattle.std.specs.Prelude.{◌≡◌, ◌==◌, ◌⊎◌, filter, not};
 ghost use Rattle.tau_points.specs.Reach.{Leads};
 ghost use Rattle.tau_points.specs.declared.point.Point.{Point};
 
@@ -45,17 +45,6 @@ fn without(set: &mut PointSet, who: u32)
     ensures { set.new ≡ filter (λ p. not (p.who == who)) set.old }
 {
     set.retain(|p| p.who != who);
-}
-
-/// The successors of numbers, and the set of zero.
-struct Numbers;
-
-impl laws::AnyRelation<u32> for Numbers {
-    ghost leads = { λ x y. y ≡ suc x };
-}
-
-impl laws::AnySet<u32> for Numbers {
-    ghost holds = { λ x. x ≡ 0 };
 }
 
 #[test]
@@ -163,18 +152,4 @@ fn a_search_follows_cycles_and_diamonds(rt: HostRuntime) -> Result<(), AllocErro
     };
     assert!(rt; lists(&search(alloc, &longer, &cycle)?, &[a, b, e, f]));
     Ok(())
-}
-
-#[test]
-fn laws_can_be_called() {
-    laws::points_by_members();
-    laws::pairs_by_members();
-    laws::reach_is_closed::<u32, Numbers, Numbers>();
-    laws::reach_is_least::<u32, Numbers, Numbers, Numbers>();
-    laws::reach_is_monotone::<u32, Numbers, Numbers, Numbers, Numbers>();
-    laws::reach_of_union::<u32, Numbers, Numbers, Numbers>();
-    laws::reach_is_nested::<u32, Numbers, Numbers, Numbers>();
-    laws::reach_is_restricted::<u32, Numbers, Numbers, Numbers, Numbers>();
-    laws::reached_by_path::<u32, Numbers, Numbers>();
-    laws::reached_by_simple_path::<u32, Numbers, Numbers>();
 }

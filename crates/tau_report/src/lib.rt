@@ -9,6 +9,3 @@ mod survey;
 mod writing;
 
 pub use writing::{report, report_forms};
-
-#[cfg(test)]
-mod tests;

@@ -15,6 +15,3 @@ mod turns;
 pub use answers::{Acted, Delivered, Standing};
 pub use errors::{ActError, DeliverError, FailError, LoseError};
 pub use system::System;
-
-#[cfg(test)]
-mod tests;

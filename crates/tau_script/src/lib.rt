@@ -10,6 +10,3 @@ mod search;
 pub use cursor::{Cursor, passed};
 pub use openings::opening_of;
 pub use search::due;
-
-#[cfg(test)]
-mod tests;

@@ -6,6 +6,3 @@ mod serial;
 
 pub use laws::serial_run_is_unique;
 pub use serial::{Serial, run};
-
-#[cfg(test)]
-mod tests;

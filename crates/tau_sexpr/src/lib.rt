@@ -18,6 +18,3 @@ pub use reader::read_forms;
 pub use texts::Text;
 pub use trees::{Form, Forms};
 pub use words::Word;
-
-#[cfg(test)]
-mod tests;

@@ -9,6 +9,3 @@ mod states;
 pub use change::{Change, Effect};
 pub use state_record::StateRecord;
 pub use states::States;
-
-#[cfg(test)]
-mod tests;

@@ -10,6 +10,3 @@ mod rows;
 
 pub use errors::StepError;
 pub use reading::steps_of;
-
-#[cfg(test)]
-mod tests;

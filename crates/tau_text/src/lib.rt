@@ -5,6 +5,3 @@ mod forms;
 pub mod laws;
 
 pub use forms::run_text;
-
-#[cfg(test)]
-mod tests;

@@ -20,6 +20,3 @@ pub use opening::Opening;
 pub use step::Step;
 pub use step_forms::form_of_step;
 pub use trace::Trace;
-
-#[cfg(test)]
-mod tests;

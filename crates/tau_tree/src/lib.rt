@@ -10,8 +10,6 @@ mod programs;
 mod scopes;
 mod soundness;
 mod starts;
-#[cfg(test)]
-mod tests;
 
 pub use behaviours::{Behaviour, Behaviours};
 pub use entries::{Entry, Failure, Script};

@@ -14,6 +14,3 @@ pub use number_words::{count_of, integer_of, word_of_count, word_of_integer};
 pub use printing::form_of;
 pub use reading::value_of;
 pub use shared::{Value, Values, in_bounds, levels, names_below, parts};
-
-#[cfg(test)]
-mod tests;

@@ -15,6 +15,3 @@ pub use dropping::Dropping;
 pub use facts::Facts;
 pub use full::FullView;
 pub use view::View;
-
-#[cfg(test)]
-mod tests;

@@ -10,6 +10,3 @@ pub use cell::cell_is_saved;
 pub use forged_checkpoint::forged_checkpoint_is_unsafe;
 pub use rolled_back_source::rolled_back_source_is_dropped;
 pub use volatile_source::{unearned_checkpoint_may_be_safe, volatile_source_is_held};
-
-#[cfg(test)]
-mod tests;

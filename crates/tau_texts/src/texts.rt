@@ -1,0 +1,84 @@
+//! Forms, printed, and words and texts that are built anew.
+use std::alloc::{AllocError, Global};
+use tau_sexpr::{
+    Form, Forms, Text, Word, are_text_bytes, are_word_bytes, is_text_byte, is_word_byte,
+    print_forms, read_forms,
+};
+
+/// Adds the forms of a text, printed from a copy; or its fault.
+pub(crate) fn add_forms(alloc: Global, text: &mut String, spelled: &str) -> Result<(), AllocError> {
+    match read_forms(alloc, spelled.as_bytes()) {
+        Ok(forms) => add_printed(alloc, text, &forms.copy()?),
+        Err(error) => writeln!(text, "{error}"),
+    }
+}
+
+/// Adds the forms of a text, printed with words and texts that were built anew; or its fault.
+pub(crate) fn add_built(alloc: Global, text: &mut String, spelled: &str) -> Result<(), AllocError> {
+    let forms = match read_forms(alloc, spelled.as_bytes()) {
+        Ok(forms) => forms,
+        Err(error) => return writeln!(text, "{error}"),
+    };
+    let mut built = Forms::new(alloc);
+    for form in forms.items() {
+        add_form(&mut built, built_form(alloc, form)?)?;
+    }
+    add_printed(alloc, text, &built)
+}
+
+/// Adds the printed forms.
+pub(crate) fn add_printed(
+    alloc: Global,
+    text: &mut String,
+    forms: &Forms,
+) -> Result<(), AllocError> {
+    let bytes = print_forms(alloc, forms)?;
+    text.push_str(str::from_utf8(&bytes).unwrap_or(""))
+}
+
+/// Adds a form to a list of forms.
+pub(crate) fn add_form(forms: &mut Forms, form: Form) -> Result<(), AllocError> {
+    match forms.push(form) {
+        Ok(()) => Ok(()),
+        Err((_form, failed)) => Err(failed),
+    }
+}
+
+fn built_form(alloc: Global, form: &Form) -> Result<Form, AllocError> {
+    match form {
+        Form::Word(word) => Ok(Form::Word(built_word(alloc, word)?)),
+        Form::Text(text) => Ok(Form::Text(built_text(alloc, text)?)),
+        Form::List(items) => Ok(Form::List(items.copy()?)),
+    }
+}
+
+// The word of the same bytes, the last of which is pushed.
+fn built_word(alloc: Global, word: &Word) -> Result<Word, AllocError> {
+    let Some((last, front)) = word.bytes().split_last() else {
+        return Ok(Word::new(alloc));
+    };
+    if !are_word_bytes(front) || !is_word_byte(*last) {
+        return Ok(Word::new(alloc));
+    }
+    let mut built = Word::of(alloc, front)?;
+    match built.push(*last) {
+        Ok(()) => Ok(built),
+        Err((_byte, failed)) => Err(failed),
+    }
+}
+
+// The text of the same bytes, the last of which is pushed; another text shares the bytes before it.
+fn built_text(alloc: Global, text: &Text) -> Result<Text, AllocError> {
+    let Some((last, front)) = text.bytes().split_last() else {
+        return Ok(Text::new(alloc));
+    };
+    if !are_text_bytes(front) || !is_text_byte(*last) {
+        return Ok(Text::new(alloc));
+    }
+    let shared = Text::of(alloc, front)?;
+    let mut built = shared.copy()?;
+    match built.push(*last) {
+        Ok(()) => Ok(built),
+        Err((_byte, failed)) => Err(failed),
+    }
+}
