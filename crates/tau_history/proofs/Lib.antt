@@ -7,4 +7,3 @@ pub mod Before
 pub mod Precedence
 pub mod Later
 pub mod Moves
-pub mod Sequence
