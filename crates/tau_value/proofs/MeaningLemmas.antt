@@ -2,7 +2,7 @@
 use Rattle.std.proofs.Common.{◌≡◌, ℕ, ◌+◌, ◌*◌, ◌<◌, ◌≤◌, Bool, true, false, cond, ◌&&◌, nat_le, nat_lt, ℤ, List, [], length, Option, Some, None, option_map, option_and_then, is_some, unwrap_or, refl, sym, ap, subst, ◌∙◌, arith, codes}
 use Rattle.std.specs.Option.{option_or, option_map_or}
 use Rattle.std.specs.Str.{bytes_eq}
-use Rattle.std.proofs.lemmas.Bool.{false≢true, ltb-true}
+use Rattle.std.proofs.lemmas.Bool.{false≢true, ltb-true, and_parts}
 use Rattle.std.proofs.lemmas.List.Quantifiers.{position-Some}
 use Rattle.std.proofs.lemmas.Slice.Eq.{bytes_eq-Decides}
 use Rattle.tau_sexpr.specs.Tree.{Tree, Trees, word, text, list, none, more, size_of, size_of_all}
@@ -15,12 +15,8 @@ use Rattle.tau_value.specs.Meaning.{name_word, list_word, word_value, between, n
 use Rattle.tau_value.specs.Reading.{scan, scan_all, later_by}
 use Rattle.tau_value.proofs.ReadingLemmas.{small_word, parts_of-named, scan-no_row}
 
-and_right : (a b : Bool) → (a && b) ≡ true → b ≡ true
-and_right true b h = h
-and_right false b h = cc
-
 -- a form has a node
-size_positive : (t : Tree) → 1 ≤ size_of t
+pub size_positive : (t : Tree) → 1 ≤ size_of t
 size_positive (word w) = omega arith
 size_positive (text t) = omega arith
 size_positive (list ts) = omega arith
@@ -243,13 +239,13 @@ mutual
       agrees-items names bound t ts (scan names bound t) (scan_all names bound ts) (agrees names bound t (omega arith, omega arith)) (agrees-all names bound ts (omega arith, omega arith))
 
 -- the number of a name is below the bound
-between-lt : (low high n k : ℕ) → between low high n ≡ Some k → k < high
+pub between-lt : (low high n k : ℕ) → between low high n ≡ Some k → k < high
 between-lt low high n k e = by (nat_le low n && nat_lt n high) refl e
   where
     by : (b : Bool) → (nat_le low n && nat_lt n high) ≡ b → cond b (Some n) None ≡ Some k → k < high
     by true h f =
         let same : n ≡ k = cc in
-        omega (arith, ltb-true n high (and_right (nat_le low n) (nat_lt n high) h))
+        omega (arith, ltb-true n high (and_parts (nat_le low n) (nat_lt n high) h).1)
     by false h f = cc
 
 number_named-lt : (names : List (List ℕ)) (bound : ℕ) (x : List ℕ) (k : ℕ) → length names ≤ bound → number_named names bound x ≡ Some k → k < bound
