@@ -165,9 +165,12 @@ mutual
   depth_of_all-written names (val.more v vs) = ap₂ max (depth_of-written names v) (depth_of_all-written names vs)
 
 -- no word of the form is empty
-pub nonempty : (w : List ℕ) → 0 < length w → w ≢ []
+nonempty : (w : List ℕ) → 0 < length w → w ≢ []
 nonempty [] h e = omega arith
 nonempty (c ∷ cs) h e = cc
+
+pub decimal_filled : (n : ℕ) → n < 2 ^ 64 → decimal n ≢ []
+decimal_filled n small = nonempty (decimal n) (decimal_nonempty n small)
 
 pub name_nonempty : (w : List ℕ) → IsName w → w ≢ []
 name_nonempty w named e = omega (arith, name_first w named, ap (λ v. get_or v 0 0) e)
@@ -179,10 +182,10 @@ number_nonempty names n are fits = ⊎_elim start other (slice_get_cases names n
     start (w, lt, e, is) = let named : IsName w = subst IsName is (are.named n w lt) in rw e (name_nonempty w named)
 
     other : (length names ≤ n) × (slice_get names n ≡ None) → name_written names n ≢ []
-    other (le, e) = rw e (nonempty (decimal n) (decimal_nonempty n fits))
+    other (le, e) = rw e (decimal_filled n fits)
 
 pub signed_nonempty : (z : ℤ) → in_i64 z ≡ Some z → signed_decimal z ≢ []
-signed_nonempty (pos n) fits = nonempty (decimal n) (decimal_nonempty n (pos_fits n fits))
+signed_nonempty (pos n) fits = decimal_filled n (pos_fits n fits)
 signed_nonempty (negsuc n) fits = λ e. cc
 
 module _ (names : List (List ℕ)) (are : AreNames names) where
