@@ -1,6 +1,7 @@
 -- Views at the opening.
 use Rattle.std.proofs.Common.{◌≡◌, ◌↔◌, ⊎_elim, ℕ, ◌<◌, Bool, true, false, ltb, cond, length, IsTrue, Option, Some, None, refl, sym, ap, ◌∙◌, subst, arith}
 use Rattle.std.proofs.lemmas.Bool.Decides.{nat_tests}
+use Rattle.std.proofs.lemmas.Bool.{cases_eq}
 use Rattle.tau_history.specs.Timeline.{opening, newborn}
 use Rattle.tau_points.specs.declared.point.Point.{Point}
 use Rattle.tau_points.proofs.Reach.{least}
@@ -8,7 +9,6 @@ use Rattle.tau_view.specs.Rules.{nothing, noted, noted_in}
 use Rattle.tau_trace.specs.Run.{Run, starts}
 use Rattle.tau_trace.specs.Histories.{history}
 use Rattle.tau_trace.proofs.Counted.{history-zero}
-use Rattle.tau_trace.proofs.LivingLemmas.{equal_or_not}
 use Rattle.tau_trace.proofs.Lists.{same_some}
 use Rattle.tau_past.specs.Carried.{Pending, SentWith}
 use Rattle.tau_past.specs.KnownLaws.{HasOpenTurn}
@@ -53,7 +53,7 @@ starts_open_alone T t w lt =
       told u = ⊎_elim
           (λ (i : u ≡ t). subst (λ z. Told T (Heard T t 0) (Some t) z (noted_in t opening nothing.history z)) (sym i) own)
           (λ ne. absent (noted-other u t opening nothing.history ne) (λ p. ne (sym (same_some (empty_present T (Heard T t 0) (Some t) u none p)))))
-          (equal_or_not u t) where
+          (cases_eq u t) where
             own : Told T (Heard T t 0) (Some t) t (noted_in t opening nothing.history t)
             own = present {a = 0} (noted-same t opening nothing.history ∙ ap Some (sym (start_history T t lt))) (is_owner refl) (zero_bound T (Heard T t 0) t (λ j h a. none j h))
 

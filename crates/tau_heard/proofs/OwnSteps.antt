@@ -1,6 +1,7 @@
 -- The facts of a set of places that holds the earlier steps of a transactor, with one step of it more.
 use Rattle.std.proofs.Common.{◌≡◌, ◌≢◌, ◌⊎◌, ◌↔◌, inl, inr, ⊎_elim, ℕ, suc, ◌<◌, Bool, true, false, eqb, ltb, cond, not, ◌&&◌, IsTrue, Option, Some, refl, sym, ap, ◌∙◌, subst, eq-eqb, arith}
 use Rattle.std.proofs.lemmas.Bool.Decides.{nat_tests}
+use Rattle.std.proofs.lemmas.Bool.{cases_eq}
 use Rattle.tau_history.specs.Timeline.{Timeline, Move, keep, moved, opening, newborn}
 use Rattle.tau_points.specs.declared.point.Point.{Point}
 use Rattle.tau_view.specs.Edges.{edges_to, both_edges}
@@ -17,7 +18,6 @@ use Rattle.tau_trace.specs.Known.{WellFormed}
 use Rattle.tau_trace.proofs.Agreement.{born-grows}
 use Rattle.tau_trace.proofs.Counted.{history-zero, history-suc}
 use Rattle.tau_trace.proofs.Lists.{same_some}
-use Rattle.tau_trace.proofs.LivingLemmas.{equal_or_not}
 use Rattle.tau_trace.proofs.Quiet.{acts}
 use Rattle.tau_past.specs.Carried.{is_set, Pending, Carried, TakesBy, by_set, by_new, first_point}
 use Rattle.tau_past.specs.KnownLaws.{With, HoldsStepsBefore}
@@ -184,7 +184,7 @@ module _ (T : Run) (H : ℕ → Type 0) (t k : ℕ) (at : ActsAt T t k) (before 
   noted_told hs none told h e u = ⊎_elim
       (λ (i : u ≡ t). subst (λ v. Told T (With H k) (Some t) v (noted_in t h hs v)) (sym i) (told_next (noted_in t h hs t) (noted-same t h hs ∙ ap Some e)))
       (λ ne. told_as T (With H k) (Some t) u (noted_in t h hs u) (hs u) (noted-other u t h hs ne) (told_other u (hs u) ne (λ by. none by u) (told u)))
-      (equal_or_not u t)
+      (cases_eq u t)
 
   -- the own history before a step that keeps it is that after it
   kept_own : (hs : Histories) → move_at T t k ≡ keep → ((u : ℕ) → Told T H (Some t) u (hs u)) → hs t ≡ Some (history T t (suc k))
@@ -194,19 +194,19 @@ module _ (T : Run) (H : ℕ → Type 0) (t k : ℕ) (at : ActsAt T t k) (before 
   kept_told hs none move told u = ⊎_elim
       (λ (i : u ≡ t). subst (λ v. Told T (With H k) (Some t) v (hs v)) (sym i) (told_next (hs t) (kept_own hs move told)))
       (λ ne. told_other u (hs u) ne (λ by. none by u) (told u))
-      (equal_or_not u t)
+      (cases_eq u t)
 
   -- histories after a New
   pub newborn_told : (hs : Histories) (v : ℕ) → WellFormed T → ((j : ℕ) → H j → j < k) → IsNew T k t v → move_at T t k ≡ keep → ((u : ℕ) → Told T H (Some t) u (hs u)) → (u : ℕ) → Told T (With H k) (Some t) u (noted_in v newborn hs u)
   newborn_told hs v w below n move told u = ⊎_elim
       (λ (i : u ≡ v). subst (λ z. Told T (With H k) (Some t) z (noted_in v newborn hs z)) (sym i) (told_newborn v t (noted_in v newborn hs v) w below n (noted-same v newborn hs)))
       (λ not_new. told_as T (With H k) (Some t) u (noted_in v newborn hs u) (hs u) (noted-other u v newborn hs not_new) (old not_new))
-      (equal_or_not u v) where
+      (cases_eq u v) where
         old : u ≢ v → Told T (With H k) (Some t) u (hs u)
         old not_new = ⊎_elim
             (λ (i : u ≡ t). subst (λ z. Told T (With H k) (Some t) z (hs z)) (sym i) (told_next (hs t) (kept_own hs move told)))
             (λ ne. told_other u (hs u) ne (λ by m. not_new (new_same T k by t u v m n)) (told u))
-            (equal_or_not u t)
+            (cases_eq u t)
 
   -- all facts after a plain step that keeps the own history, and after one that changes it
   pub kept_step : (hs : Histories) (es : Edges) → Does is_plain T t k → move_at T t k ≡ keep → Knows T H (Some t) hs es → Knows T (With H k) (Some t) hs es

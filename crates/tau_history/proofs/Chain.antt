@@ -72,18 +72,6 @@ closed_front {a} {b} p = by_parts (below_of p) where
   by_parts (same_point e l s) = whole e
   by_parts (later_interval n r e l) = sym (take-append_seam a.closed (n ∷ r)) ∙ ap (take (interval a)) (sym e)
 
--- and of all its numbers
-pub numbers_front : {a b : Timeline} → Precedes a b → a.closed ≡ take (interval a) (numbers b)
-numbers_front {a} {b} p = by_parts (below_of p) where
-  whole : a.closed ≡ b.closed → a.closed ≡ take (interval a) (numbers b)
-  whole e = sym (take-append_seam a.closed (b.last ∷ [])) ∙ ap (λ xs. take (interval a) (xs ++ b.last ∷ [])) e
-
-  by_parts : IsBelow a b → a.closed ≡ take (interval a) (numbers b)
-  by_parts (fallen e l) = whole e
-  by_parts (same_point e l s) = whole e
-  by_parts (later_interval n r e l) =
-      sym (take-append_seam a.closed (n ∷ (r ++ b.last ∷ []))) ∙ ap (take (interval a)) (sym (append_assoc a.closed (n ∷ r) (b.last ∷ [])) ∙ ap (λ xs. xs ++ b.last ∷ []) (sym e))
-
 -- the number of a closed interval stays
 pub number_stays : {a b : Timeline} → Precedes a b → (i : ℕ) → i < interval a → slice_get (numbers b) i ≡ slice_get (numbers a) i
 number_stays {a} {b} p i h = by_parts (below_of p) where
@@ -111,11 +99,3 @@ own_number_grows {a} {b} p = by_parts (below_of p) where
   by_parts (same_point e l s) = (b.last, at_end e, omega arith)
   by_parts (later_interval n r e l) =
       (n, ap (λ xs. slice_get xs (interval a)) (ap (λ xs. xs ++ b.last ∷ []) e ∙ append_assoc a.closed (n ∷ r) (b.last ∷ [])) ∙ slice_get-seam a.closed n (r ++ b.last ∷ []), l)
-
--- the incarnation only grows within an interval
-pub last_grows : {a b : Timeline} → Precedes a b → interval a ≡ interval b → a.last ≤ b.last
-last_grows {a} {b} p k = by_parts (below_of p) where
-  by_parts : IsBelow a b → a.last ≤ b.last
-  by_parts (fallen e l) = omega arith
-  by_parts (same_point e l s) = omega arith
-  by_parts (later_interval n r e l) = absurd (omega (arith, ap length e, length-append a.closed (n ∷ r)))

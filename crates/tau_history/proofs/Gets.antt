@@ -9,23 +9,9 @@ slice_get-append [] ys i h = absurd (omega arith)
 slice_get-append (x ∷ xs) ys zero h = refl
 slice_get-append (x ∷ xs) ys (suc i) h = slice_get-append xs ys i (omega arith)
 
-pub slice_get-append_right : (xs ys : List ℕ) (i : ℕ) → length xs ≤ i → slice_get (xs ++ ys) i ≡ slice_get ys (i - length xs)
-slice_get-append_right [] ys i h = ap (slice_get ys) (omega arith)
-slice_get-append_right (x ∷ xs) ys zero h = absurd (omega arith)
-slice_get-append_right (x ∷ xs) ys (suc i) h = slice_get-append_right xs ys i (omega arith) ∙ ap (slice_get ys) (omega arith)
-
 pub slice_get-seam : (xs : List ℕ) (n : ℕ) (ys : List ℕ) → slice_get (xs ++ n ∷ ys) (length xs) ≡ Some n
 slice_get-seam [] n ys = refl
 slice_get-seam (x ∷ xs) n ys = slice_get-seam xs n ys
-
-pub slice_get-take : (n : ℕ) (xs : List ℕ) (i : ℕ) → i < n → slice_get (take n xs) i ≡ slice_get xs i
-slice_get-take zero xs i h = absurd (omega arith)
-slice_get-take (suc n) [] i h = refl
-slice_get-take (suc n) (x ∷ xs) zero h = refl
-slice_get-take (suc n) (x ∷ xs) (suc i) h = slice_get-take n xs i (omega arith)
-
-pub slice_get-front : (xs ys : List ℕ) (i : ℕ) → IsFront xs ys → i < length xs → slice_get xs i ≡ slice_get ys i
-slice_get-front xs ys i f h = ap (λ zs. slice_get zs i) f.is ∙ slice_get-take (length xs) ys i h
 
 -- equal lists fall apart into equal parts
 pub parts_of : (xs ys us vs : List ℕ) → length us ≡ length vs → xs ++ us ≡ ys ++ vs → (xs ≡ ys) × (us ≡ vs)

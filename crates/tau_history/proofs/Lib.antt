@@ -7,5 +7,4 @@ pub mod Before
 pub mod Precedence
 pub mod Later
 pub mod Moves
-pub mod Sequence
 pub mod Parts

@@ -1,14 +1,14 @@
 -- What one move does to fates, also a close while volatile.
-use Rattle.std.proofs.Common.{◌≡◌, ◌≢◌, ℕ, ◌+◌, ◌<◌, ◌≤◌, ◌⊎◌, ◌↔◌, inl, inr, ⊎_elim, [], ◌∷◌, refl, sym, ◌∙◌, arith}
+use Rattle.std.proofs.Common.{◌≡◌, ℕ, ◌+◌, ◌<◌, ◌≤◌, ◌⊎◌, ◌↔◌, inl, inr, ⊎_elim, [], ◌∷◌, refl, sym, ◌∙◌, arith}
 use Rattle.std.specs.Prelude.{slice_index}
 use Rattle.std.proofs.Math.ListN.{get_or-append}
 use Rattle.std.proofs.lemmas.Bool.{cases_lt}
 use Rattle.tau_history.specs.Timeline.{Timeline, Move, keep, stabilize, close, fall, moved, numbers, interval}
 use Rattle.tau_history.specs.Order.{Precedes}
 use Rattle.tau_history.specs.Fates.{fate, IsOwn, IsClosed, IsFallen, IsStable}
-use Rattle.tau_history.specs.declared.fate.Fate.TheVariants.{Ahead, Stable, Closed, Fallen}
+use Rattle.tau_history.specs.declared.fate.Fate.TheVariants.{Stable, Closed, Fallen}
 use Rattle.tau_history.proofs.Order.{same_point, below_moved, precedes_of}
-use Rattle.tau_history.proofs.Table.{length-numbers, own_number, has_row, fate-closed, fate-fallen, fate-stable, HasReached, reached_of, not_ahead}
+use Rattle.tau_history.proofs.Table.{length-numbers, own_number, has_row, fate-closed, fate-fallen, fate-stable}
 use Rattle.tau_history.proofs.Later.{closed_stays, fallen_stays}
 
 -- a history precedes what a move makes of it; a close while volatile is a stabilize and a close
@@ -91,30 +91,3 @@ closed_after m h i n = (
 -- a point is Stable after a move only where it was before, or the move is a stabilize made at it
 pub stable_after : (m : Move) (h : Timeline) (i n : ℕ) → fate (moved m h) i n ≡ Stable → (fate h i n ≡ Stable) ⊎ ((m ≡ stabilize) × IsOwn h i n)
 stable_after m h i n e = ⊎_elim (λ r. inl (fate-stable h i n r)) (λ p. inr p) (stable_before m h i n (has_row (moved m h) i n Stable e))
-
--- a stabilize makes its point Stable
-pub own_stabilized : (h : Timeline) (i n : ℕ) → IsOwn h i n → fate (moved stabilize h) i n ≡ Stable
-own_stabilized h i n o = fate-stable (moved stabilize h) i n (record { own = record { interval_is = o.interval_is; incarnation_is = o.incarnation_is }; mode = refl })
-
-reached_before : (m : Move) (h : Timeline) (i n : ℕ) → HasReached (moved m h) i n → HasReached h i n ⊎ IsOwn (moved m h) i n
-reached_before keep h i n r = inl r
-reached_before stabilize h i n r = inl (record { within = r.within; not_above = r.not_above })
-reached_before fall h i n r = ⊎_elim
-    (λ lt. inl (record { within = r.within; not_above = omega (arith, r.not_above, fall_below h i lt) }))
-    (λ ge.
-    let here : i ≡ interval h = omega (arith, r.within) in
-    let up = own_number (moved fall h) i here in
-    ⊎_elim (λ lt. inr (record { interval_is = here; incarnation_is = omega (arith, up, r.not_above) }))
-    (λ le. inl (record { within = r.within; not_above = omega (arith, own_number h i here) }))
-    (cases_lt h.last n))
-    (cases_lt i (interval h))
-reached_before close h i n r = ⊎_elim
-    (λ lt.
-    let here : i ≡ interval h + 1 = omega (arith, r.within, length-numbers h) in
-    inr (record { interval_is = here ∙ sym (length-numbers h); incarnation_is = omega (arith, r.not_above, close_own h i here) }))
-    (λ le. inl (record { within = le; not_above = omega (arith, r.not_above, close_within h i le) }))
-    (cases_lt (interval h) i)
-
--- a point that is not Ahead after a move was not Ahead before, or is the new own point
-pub reached_after : (m : Move) (h : Timeline) (i n : ℕ) → fate (moved m h) i n ≢ Ahead → (fate h i n ≢ Ahead) ⊎ IsOwn (moved m h) i n
-reached_after m h i n e = ⊎_elim (λ r. inl (not_ahead h i n r)) (λ o. inr o) (reached_before m h i n (reached_of (moved m h) i n e))

@@ -1,30 +1,30 @@
 -- What is heard, carried and decided at a place reads the opening and the steps before it alone.
-use Rattle.std.proofs.Common.{◌≡◌, ◌≢◌, ◌⊎◌, ◌↔◌, inl, inr, ⊎_elim, ℕ, zero, suc, ◌+◌, ◌<◌, ◌≤◌, Bool, Option, Some, None, List, length, refl, sym, ap, ◌∙◌, subst, arith}
-use Rattle.std.specs.Prelude.{slice_get, option_and_then}
+use Rattle.std.proofs.Common.{◌≡◌, ◌⊎◌, inl, inr, ⊎_elim, ℕ, suc, ◌<◌, ◌≤◌, List, length, sym, ap, ◌∙◌, subst, arith}
+use Rattle.std.specs.Prelude.{option_and_then}
+use Rattle.std.proofs.lemmas.Bool.{cases_lt}
 use Rattle.tau_value.specs.declared.shared.Value.{Value}
 use Rattle.tau_history.specs.Timeline.{interval}
 use Rattle.tau_points.specs.declared.point.Point.{Point}
-use Rattle.tau_points.specs.Reach.{Reach, start, next, IsClosed}
+use Rattle.tau_points.specs.Reach.{Reach, start, next}
 use Rattle.tau_points.proofs.Reach.{least, monotone}
-use Rattle.tau_trace.specs.declared.step.Step.{Step}
-use Rattle.tau_trace.specs.declared.step.Step.TheVariants.{Take, Checkpoint}
+use Rattle.tau_trace.specs.declared.step.Step.TheVariants.{Take}
 use Rattle.tau_trace.specs.Steps.{actor}
-use Rattle.tau_trace.specs.Run.{Run, Agree, step_at, starts, ActsAt, Does}
-use Rattle.tau_trace.specs.Numbering.{born, sent, IsNew, IsOrigin}
-use Rattle.tau_trace.specs.Histories.{history, Falls, Closes}
-use Rattle.tau_trace.specs.Points.{point_at, Stabilizes, IsOpeningPoint, IsUpTo}
+use Rattle.tau_trace.specs.Run.{Run, Agree, step_at, starts, ActsAt}
+use Rattle.tau_trace.specs.Numbering.{born, sent}
+use Rattle.tau_trace.specs.Histories.{history, Closes}
+use Rattle.tau_trace.specs.Points.{point_at, IsOpeningPoint}
 use Rattle.tau_trace.specs.Turns.{Turn}
 use Rattle.tau_trace.specs.Known.{WellFormed}
-use Rattle.tau_trace.proofs.Agreement.{agree_sym, agree_below, born-same, sent-same, history-same, move_at-same, is_new-same, is_origin-same, does-same, origin_before, new_before, same_at, born-grows, sent-grows}
+use Rattle.tau_trace.proofs.Agreement.{agree_sym, agree_below, born-same, sent-same, history-same, move_at-same, is_new-same, is_origin-same, does-same, origin_before, new_before, same_at}
 use Rattle.tau_trace.proofs.PointLemmas.{points_grow}
-use Rattle.tau_past.specs.Carried.{Pending, touched, came, Carried, SentWith, TakesBy, by_set, by_new, is_set, touches, first_point}
+use Rattle.tau_past.specs.Carried.{Pending, touched, came, Carried, SentWith, TakesBy, by_set, by_new, is_set, touches}
 use Rattle.tau_past.specs.Heard.{heard_by, Needs, earlier, message, birth, Own, own_step, own_birth, OriginOf, Heard, HeardBy, HeardTogether}
 use Rattle.tau_past.specs.Pasts.{ClosesAt, checkpoint, opening as at_opening, Link, takes as by_takes, closing, PastIn, Is, FallenIn, StabilizedIn, FirmIn}
-use Rattle.tau_past.specs.Decisions.{HasFallen, FallsBy, DropsBy, Judgement, takes, drops, falls, Verdict, fall, drop, take, Free}
+use Rattle.tau_past.specs.Decisions.{HasFallen, FallsBy, DropsBy, Judgement, takes, falls, Verdict, fall, drop, take, Free}
 use Rattle.tau_past.specs.States as states
 use Rattle.tau_past.specs.States.{NoSet, StateAt, SavedWith}
-use Rattle.tau_past.specs.LocalLaws.{SameDecisionsAt, DecisionsAreLocal}
-use Rattle.tau_past.proofs.Known.{acts_known, hears_known, needs_before, heard_before, heard_by_before}
+use Rattle.tau_past.specs.LocalLaws.{DecisionsAreLocal}
+use Rattle.tau_past.proofs.Known.{acts_known, hears_known, needs_before}
 
 -- both sets of places stand below k and have the same members
 record AlikeBelow (H G : ℕ → Type 0) (k : ℕ) : Type 0 where
@@ -44,10 +44,7 @@ taken T t k place m w u = (w.known place (Take t m) u.takes).1
 
 -- an interval that is closed by place k was closed before it
 closed_before : (T : Run) (t i j k : ℕ) → Closes T t j → (point_at T t j).interval ≡ i → suc i ≤ interval (history T t k) → j < k
-closed_before T t i j k c e le = ⊎_elim (λ lt. lt) (λ ge. absurd (late ge)) (cases j k) where
-  cases : (a b : ℕ) → (a < b) ⊎ (b ≤ a)
-  cases a b = grind arith
-
+closed_before T t i j k c e le = ⊎_elim (λ lt. lt) (λ ge. absurd (late ge)) (cases_lt j k) where
   late : k ≤ j → ⊥
   late ge = ⊎_elim (λ x. omega (arith, x, e, le)) (λ x. omega (arith, x.0, e, le)) ((points_grow T t j).grows k ge)
 

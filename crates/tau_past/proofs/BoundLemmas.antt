@@ -2,6 +2,7 @@
 use Rattle.std.proofs.Common.{◌≡◌, ◌≢◌, ◌⊎◌, ◌↔◌, inl, inr, ⊎_elim, ℕ, zero, suc, ◌+◌, ◌<◌, ◌≤◌, max, false, cond, Option, Some, None, refl, sym, ap, ◌∙◌, subst, arith}
 use Rattle.std.specs.Prelude.{option_and_then}
 use Rattle.std.specs.Option.{option_map_or}
+use Rattle.std.proofs.lemmas.Bool.{cases_eq}
 use Rattle.tau_history.specs.Timeline.{keep, moved}
 use Rattle.tau_points.specs.Reach.{start}
 use Rattle.tau_trace.specs.declared.step.Step.{Step}
@@ -14,7 +15,6 @@ use Rattle.tau_trace.specs.Known.{WellFormed}
 use Rattle.tau_trace.proofs.Counted.{history-suc}
 use Rattle.tau_trace.proofs.Counts.{count-suc}
 use Rattle.tau_trace.proofs.Lists.{same_some}
-use Rattle.tau_trace.proofs.LivingLemmas.{equal_or_not}
 use Rattle.tau_trace.proofs.Moves.{move_by-other}
 use Rattle.tau_trace.proofs.Quiet.{acts}
 use Rattle.tau_trace.proofs.Sequences.{cases_last}
@@ -22,6 +22,7 @@ use Rattle.tau_past.specs.Heard.{heard_by, earlier, IsClosed, own_step, Heard, H
 use Rattle.tau_past.specs.KnownLaws.{HearsOf, HearsOfNone, IsSame, Union, With, HoldsStepsBefore, Bound, BoundsWithStep, HasBounds}
 use Rattle.tau_past.proofs.Known.{acts_known, hears_known, heard_before, heard_by_before}
 use Rattle.tau_past.proofs.HeardLemmas.{origin_acts, new_acts, heard_after_step, heard_with_sender}
+use Rattle.tau_value.proofs.NameLemmas.{last_or_below}
 
 equal_or_less : (i n : ℕ) → i ≤ n → (i ≡ n) ⊎ (i < n)
 equal_or_less i n l = grind arith
@@ -93,7 +94,7 @@ bound_with : (T : Run) (H : ℕ → Type 0) (t k u : ℕ) → ActsAt T t k → H
 bound_with T H t k u at before x = ⊎_elim
     (λ (e : u ≡ t). subst (λ w. (a : ℕ) × Bound T (With H k) w a) (sym e) (suc k, own_bound H T t k at before))
     (λ ne. (x.0, other_bound H T t k u x.0 at ne x.1))
-    (equal_or_not u t)
+    (cases_eq u t)
 
 -- where u makes no step from place a on and before n, its history stays
 quiet_from : (T : Run) (u a n : ℕ) → a ≤ n → ((j : ℕ) → a ≤ j → j < n → ¬ ActsAt T u j) → history T u a ≡ history T u n
@@ -115,16 +116,13 @@ acts_or_not : (T : Run) (t k : ℕ) → ActsAt T t k ⊎ ¬ ActsAt T t k
 acts_or_not T t k = by (option_and_then actor (step_at T k)) where
   by : (o : Option ℕ) → (o ≡ Some t) ⊎ ¬ (o ≡ Some t)
   by None = inr (λ (e : None ≡ Some t). cc)
-  by (Some u) = ⊎_elim (λ e. inl (ap Some e)) (λ ne. inr (λ e. ne (same_some e))) (equal_or_not u t)
+  by (Some u) = ⊎_elim (λ e. inl (ap Some e)) (λ ne. inr (λ e. ne (same_some e))) (cases_eq u t)
 
 hears_or_not : (T : Run) (k : ℕ) → HearsOfNone T k ⊎ ((m : ℕ) × HearsOf T k m)
 hears_or_not T k = by (option_and_then heard_by (step_at T k)) where
   by : (o : Option ℕ) → (o ≡ None) ⊎ ((m : ℕ) × (o ≡ Some m))
   by None = inl refl
   by (Some m) = inr (m, refl)
-
-last_or_less : (t n : ℕ) → t < n + 1 → (t < n) ⊎ (t ≡ n)
-last_or_less t n l = grind arith
 
 -- who exists after a step existed before it or is made by it
 born_or_new : (T : Run) (t k : ℕ) → t < born T (suc k) → (t < born T k) ⊎ ((by : ℕ) × IsNew T k by t)
@@ -140,7 +138,7 @@ born_or_new T t k lt = by_step (step_at T k) refl where
   by_step (Some (New u b n v)) e = ⊎_elim
       (λ l. inl l)
       (λ same. inr (u, record { behaviour = b; node = n; state = v; stands = e; made = same }))
-      (last_or_less t (born T k) (fits (Some (New u b n v)) e))
+      (last_or_below t (born T k) (fits (Some (New u b n v)) e))
   by_step (Some s) e = inl (omega (arith, fits (Some s) e))
 
 sent_or_origin : (T : Run) (m k : ℕ) → m < sent T (suc k) → (m < sent T k) ⊎ ((by : ℕ) × IsOrigin T k by m)
@@ -156,7 +154,7 @@ sent_or_origin T m k lt = by_step (step_at T k) refl where
   by_step (Some (Send u w v)) e = ⊎_elim
       (λ l. inl l)
       (λ same. inr (u, record { to = w; value = v; stands = e; made = same }))
-      (last_or_less m (sent T k) (fits (Some (Send u w v)) e))
+      (last_or_below m (sent T k) (fits (Some (Send u w v)) e))
   by_step (Some s) e = inl (omega (arith, fits (Some s) e))
 
 -- a set without places has the bound 0

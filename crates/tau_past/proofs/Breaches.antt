@@ -1,23 +1,22 @@
 -- What an audit keeps and finds.
-use Rattle.std.proofs.Common.{◌≡◌, ◌⊎◌, ◌↔◌, inl, inr, ⊎_elim, ℕ, ◌+◌, ◌<◌, ◌≤◌, Bool, true, false, ◌&&◌, IsTrue, List, [], ◌++◌, Option, Some, None, length, get_or, take, drop, append-nil, refl, sym, ap, ◌∙◌, subst, arith}
+use Rattle.std.proofs.Common.{◌≡◌, ◌⊎◌, ◌↔◌, inl, inr, ⊎_elim, ℕ, ◌+◌, ◌<◌, ◌≤◌, Bool, true, false, List, ◌++◌, Option, Some, None, length, get_or, take, drop, append-nil, refl, sym, ap, ◌∙◌, subst, arith}
 use Rattle.std.specs.Prelude.{option_and_then, Contains}
-use Rattle.std.specs.Bool.{OnTrue, OnFalse, Decides, then_some}
+use Rattle.std.specs.Bool.{OnTrue, OnFalse, then_some}
 use Rattle.std.specs.Option.{option_map_or}
 use Rattle.std.specs.declared.cmp.Ordering.TheVariants.{Less}
-use Rattle.std.proofs.lemmas.Bool.{and_parts, cases_lt}
+use Rattle.std.proofs.lemmas.Bool.{cases_lt}
 use Rattle.std.proofs.lemmas.List.{get_or_default, take_all}
 use Rattle.std.proofs.Math.ListN.{drop_of_length-le}
 use Rattle.std.proofs.lemmas.Map.Keys.{Less-from_sorted}
 use Rattle.std.proofs.lemmas.Option.{slice_get_within}
 use Rattle.tau_points.specs.declared.point.Point.{Point}
 use Rattle.tau_points.specs.Order.{point_cmp, IsAscending}
-use Rattle.tau_points.proofs.Membership.{Contains-none}
 use Rattle.tau_trace.specs.declared.step.Step.{Step}
 use Rattle.tau_trace.specs.declared.step.Step.TheVariants.{Checkpoint}
 use Rattle.tau_trace.specs.Steps.{actor, is_checkpoint}
 use Rattle.tau_trace.specs.Run.{Run, len, step_at, ActsAt}
 use Rattle.tau_trace.specs.Places.{IsFirst}
-use Rattle.tau_trace.specs.Histories.{Falls, Closes}
+use Rattle.tau_trace.specs.Histories.{Closes}
 use Rattle.tau_trace.specs.Points.{point_at}
 use Rattle.tau_trace.proofs.Lists.{same_some}
 use Rattle.tau_trace.proofs.Quiet.{acts}
@@ -31,7 +30,7 @@ use Rattle.tau_past.specs.Safety.{RolledBack, Safe}
 use Rattle.tau_past.specs.Tables.{TellsMade}
 use Rattle.tau_past.specs.TableSteps.{checked_point}
 use Rattle.tau_past.specs.Searching.{AddsPast, PastHasFallen, FoundNoFallen}
-use Rattle.tau_past.specs.Audits.{ChecksAt, Breaks, IsBrokenAt, IsNotAfter, RollsBackAt, IsBroken, IsUnsafe, IsAudit, IsFirstBreach, AddsSafely, Checked, IsLeastFallen}
+use Rattle.tau_past.specs.Audits.{ChecksAt, Breaks, IsBrokenAt, IsNotAfter, RollsBackAt, IsBroken, IsAudit, IsFirstBreach, AddsSafely, Checked, IsLeastFallen}
 use Rattle.tau_past.proofs.Endings.{falls_within}
 
 -- the point of a Checkpoint
@@ -97,12 +96,6 @@ pub record Checking (T : Run) (k : ℕ) (found : List Point) : Type 0 where
   pub covered : (j : ℕ) (p q : Point) → j < k → ChecksAt T j p → Past T p q → Contains found q
   pub safe : (q : Point) → Contains found q → ¬ RolledBack T q
 
-pub checking_start : (T : Run) (found : List Point) → found ≡ [] → Checking T 0 found
-checking_start T found e = record {
-  covered = λ j p q l c h. absurd (omega (arith, l));
-  safe = λ q h. absurd (Contains-none q (subst (λ (l : List Point). Contains l q) e h));
-}
-
 pub checking_on : (T : Run) (k : ℕ) (found0 found : List Point) → AddsSafely T k found0 found → Checking T k found0 → Checking T (k + 1) found
 checking_on T k found0 found a c = record {
   covered = λ j p q l x h. ⊎_elim (λ (e : j ≡ k). a.covered p q (subst (λ i. ChecksAt T i p) e x) h) (λ b. a.kept q (c.covered j p q b x h)) (cases_last j k (omega (arith, l)));
@@ -131,36 +124,7 @@ least_found T points i p up lt is back none = ((i, lt, sym is), back, least) whe
       (cases_lt i c.0))
       (cases_lt c.0 i)
 
-pub least_none : (T : Run) (points : List Point) (i : ℕ) → length points ≤ i → ((k : ℕ) (d : Point) → k < i → ¬ RolledBack T (get_or points k d)) → IsLeastFallen T points None
-least_none T points i le none = λ q c r. none c.0 q (omega (arith, c.1, le)) (subst (RolledBack T) (sym c.2) r)
-
-pub none_more : (T : Run) (points : List Point) (i : ℕ) (d0 : Point) → i < length points → ¬ RolledBack T (get_or points i d0) → ((k : ℕ) (d : Point) → k < i → ¬ RolledBack T (get_or points k d)) → (k : ℕ) (d : Point) → k < i + 1 → ¬ RolledBack T (get_or points k d)
-none_more T points i d0 lt here none k d l r = ⊎_elim
-    (λ (e : k ≡ i). here (subst (RolledBack T) (ap (λ n. get_or points n d) e ∙ get_or_default points i d d0 lt) r))
-    (λ b. none k d b r)
-    (cases_last k i (omega (arith, l)))
-
 -- falls
-
-pub rolls_back_told : (T : Run) (p : Point) (k : ℕ) (m : Made) (b : Bool) → TellsMade T k (Some m) → (same : Bool) → b ≡ m.falls && same → Decides same (m.point ≡ p) → IsTrue b ↔ RollsBackAt T p k
-rolls_back_told T p k m b t same is test = (forth, back) where
-  forth : IsTrue b → RollsBackAt T p k
-  forth h =
-      let parts = and_parts m.falls same (sym is ∙ h) in
-      let at : m.point ≡ p = test.0 parts.1 in
-      (subst (λ (x : Point). Falls T x.who k) at (t.2.0 parts.0), sym at ∙ t.1 ∙ ap (λ (x : Point). point_at T x.who k) at)
-
-  back : RollsBackAt T p k → IsTrue b
-  back r =
-      let who : p.who ≡ m.point.who = same_some (sym (falls_within T p.who k r.0).1 ∙ t.0) in
-      let at : m.point ≡ p = t.1 ∙ ap (λ u. point_at T u k) (sym who) ∙ sym r.1 in
-      is ∙ ap (λ x. x && same) (t.2.1 (subst (λ u. Falls T u k) who r.0)) ∙ test.1 at
-
-pub rolls_back_nobody : (T : Run) (p : Point) (k : ℕ) → TellsMade T k None → IsTrue false ↔ RollsBackAt T p k
-rolls_back_nobody T p k t = (λ h. absurd (cc), λ r. absurd (t p.who (falls_within T p.who k r.0).1))
-
-pub fall_found : (T : Run) (p : Point) (k : ℕ) → k < len T → RollsBackAt T p k → ((j : ℕ) → j < k → ¬ RollsBackAt T p j) → IsFirst (RollsBackAt T p) (len T) (Some k)
-fall_found T p k lt r none = (lt, r, none)
 
 pub fall_exists : (T : Run) (p : Point) → RolledBack T p → IsFirst (RollsBackAt T p) (len T) None → ⊥
 fall_exists T p r none = none r.place (falls_within T p.who r.place r.falls).0 (r.falls, r.at_point)
@@ -194,10 +158,6 @@ not_safe T c q f b safe =
 pub safe_iff : (T : Run) (a : Audit) → IsAudit T a → (a ≡ audits.Safe) ↔ Safe T
 safe_iff T audits.Safe s = (λ e. s, λ h. refl)
 safe_iff T (audits.Broken c q f) b = (λ e. absurd (cc), λ s. absurd (not_safe T c q f b s))
-
-pub audit_of : (T : Run) (a : Audit) → IsUnsafe T a → IsAudit T a
-audit_of T audits.Safe h = absurd h
-audit_of T (audits.Broken c q f) b = b
 
 -- a vector after a call that wrote to the slice of its items
 pub slice_back : (xs ys : List Bool) (n : ℕ) → n ≡ length ys → length xs ≡ length ys → take n (xs ++ drop (length xs) ys) ≡ xs

@@ -1,17 +1,16 @@
 -- What is kept while points are listed.
-use Rattle.std.proofs.Common.{◌≡◌, ◌≢◌, ◌⊎◌, ◌↔◌, inl, inr, ⊎_elim, ℕ, suc, ◌<◌, ◌≤◌, Bool, true, false, List, [], Option, Some, None, length, get_or, set, refl, sym, ap, ◌∙◌, subst, arith}
+use Rattle.std.proofs.Common.{◌≡◌, ◌≢◌, ◌⊎◌, ◌↔◌, inl, inr, ⊎_elim, ℕ, suc, ◌<◌, ◌≤◌, Bool, true, false, List, Option, Some, None, length, get_or, set, refl, sym, ◌∙◌, subst, arith}
 use Rattle.std.specs.Prelude.{Contains}
 use Rattle.std.proofs.lemmas.Option.{slice_get_within, slice_get_read}
 use Rattle.std.proofs.lemmas.List.{get_or_default}
 use Rattle.std.specs.Option.{option_map_or}
+use Rattle.std.proofs.lemmas.Bool.{cases_lt, cases_eq}
 use Rattle.tau_points.specs.declared.point.Point.{Point}
 use Rattle.tau_points.specs.Members.{AddsAll}
-use Rattle.tau_points.proofs.Membership.{Contains-none}
 use Rattle.tau_points.proofs.PointOrder.{point_eq, point_eq-Decides}
 use Rattle.tau_trace.specs.declared.step.Step.TheVariants.{New}
-use Rattle.tau_trace.specs.Run.{Run, len, step_at}
+use Rattle.tau_trace.specs.Run.{Run, len}
 use Rattle.tau_trace.proofs.Lists.{slice_get-set_same, slice_get-set_other}
-use Rattle.tau_trace.proofs.LivingLemmas.{equal_or_not}
 use Rattle.tau_past.specs.declared.carrying.Carrying.{Carrying}
 use Rattle.tau_past.specs.Carried.{Carried, TakesBy, by_set, by_new}
 use Rattle.tau_past.specs.Pasts.{Link, takes, closing, Everywhere}
@@ -23,26 +22,11 @@ use Rattle.tau_past.specs.Searching.{IsPassed, IsListed, Adds, AddsCarried, Take
 abbrev pub IsWithin : Run → Option ℕ → Type 0
 IsWithin T next = (j : ℕ) → next ≡ Some j → j < len T
 
-carried_within : (T : Run) (k : ℕ) (q : Point) → Carried T k q → k < len T
-carried_within T k q c = by (step_at T k) refl where
-  by : (o : Option _) → step_at T k ≡ o → k < len T
-  by None e = let x = c.acts in absurd (let y = ap (Rattle.std.specs.Prelude.option_and_then Rattle.tau_trace.specs.Steps.actor) e in cc)
-  by (Some s) e = slice_get_within T.steps k s e
-
-pub not_carried : (T : Run) (k : ℕ) (q : Point) → len T ≤ k → ¬ Carried T k q
-not_carried T k q le c = omega (arith, carried_within T k q c, le)
-
 -- a list of what a step carries, up to the next place of its chain
 
 pub record Walks (T : Run) (place : ℕ) (points : List Point) (next : Option ℕ) : Type 0 where
   pub all : (q : Point) → Carried T place q ↔ (Contains points q ⊎ CarriedFrom T next q)
   pub within : IsWithin T next
-
-pub walks_start : (T : Run) (place : ℕ) (points : List Point) → points ≡ [] → place < len T → Walks T place points (Some place)
-walks_start T place points e lt = subst (λ ps. Walks T place ps (Some place)) (sym e) (record {
-  all = λ q. (λ c. inr c, λ s. ⊎_elim (λ h. absurd (Contains-none q h)) (λ c. c) s);
-  within = λ j f. let same : place ≡ j = cc in omega (arith, same, lt);
-})
 
 pub walks_on : (T : Run) (place at : ℕ) (c : Carrying) (old new : List Point) → TellsCarried T at c → AddsAll (λ q. c.touched ≡ Some q) old new → Walks T place old (Some at) → Walks T place new c.rest
 walks_on T place at c old new told adds w = record {
@@ -71,18 +55,6 @@ pub record Passes (T : Run) (place : ℕ) (passed0 passed : List Bool) (points0 
   pub marks : IsPassed passed place ⊎ (next ≡ Some place)
   pub within : IsWithin T next
 
-pub passes_start : (T : Run) (place : ℕ) (passed : List Bool) (points : List Point) → place < len T → Passes T place passed passed points points (Some place)
-passes_start T place passed points lt = record {
-  kept = λ q h. h;
-  allowed = λ q h. inl h;
-  passed_kept = λ k h. h;
-  listed = λ q h. inr (inl h);
-  later = λ k j h e. inl h;
-  rest = λ q c. c;
-  marks = inr refl;
-  within = λ j f. let same : place ≡ j = cc in omega (arith, same, lt);
-}
-
 module _ (passed : List Bool) (at : ℕ) (lt : at < length passed) where
   passed_here : IsPassed (set passed at true) at
   passed_here = slice_get-set_same passed at true lt
@@ -91,10 +63,10 @@ module _ (passed : List Bool) (at : ℕ) (lt : at < length passed) where
   passed_more k h = ⊎_elim
       (λ (e : k ≡ at). subst (IsPassed (set passed at true)) (sym e) passed_here)
       (λ ne. slice_get-set_other passed at k true ne ∙ h)
-      (equal_or_not k at)
+      (cases_eq k at)
 
   passed_before : (k : ℕ) → IsPassed (set passed at true) k → (k ≡ at) ⊎ IsPassed passed k
-  passed_before k h = ⊎_elim (λ e. inl e) (λ ne. inr (sym (slice_get-set_other passed at k true ne) ∙ h)) (equal_or_not k at)
+  passed_before k h = ⊎_elim (λ e. inl e) (λ ne. inr (sym (slice_get-set_other passed at k true ne) ∙ h)) (cases_eq k at)
 
 pub passes_on : (T : Run) (place at : ℕ) (c : Carrying) (passed0 passed new_passed : List Bool) (points0 old new : List Point) → at < length passed → new_passed ≡ set passed at true → TellsCarried T at c → AddsAll (λ q. c.touched ≡ Some q) old new
     → Passes T place passed0 passed points0 old (Some at) → Passes T place passed0 new_passed points0 new c.rest
@@ -174,9 +146,7 @@ takes_within T p j (tables.by_new {by = t} n e) = slice_get_within T.steps j (Ne
 
 last_or_before : (P : ℕ → Type 0) (n : ℕ) (o : Option ℕ) → IsLast P n o → (j : ℕ) → j < n → P j → (m : ℕ) × (o ≡ Some m) × (j ≤ m)
 last_or_before P n None l j lt p = absurd (l j lt p)
-last_or_before P n (Some m) l j lt p = (m, refl, ⊎_elim (λ b. absurd (l.2 j b lt p)) (λ b. b) (cases m j)) where
-  cases : (a b : ℕ) → (a < b) ⊎ (b ≤ a)
-  cases a b = grind arith
+last_or_before P n (Some m) l j lt p = (m, refl, ⊎_elim (λ b. absurd (l.2 j b lt p)) (λ b. b) (cases_lt m j))
 
 last_holds : (P : ℕ → Type 0) (n : ℕ) (o : Option ℕ) → IsLast P n o → (m : ℕ) → o ≡ Some m → P m × (m < n)
 last_holds P n None l m e = absurd (cc)
@@ -208,7 +178,7 @@ taking_on T p place passed0 passed1 passed2 points0 points1 points2 next a told 
   same_some f = cc
 
   below : (j : ℕ) → TakesAt T p j → {n : ℕ} → place ≡ n → j ≤ n → IsPassed passed2 j ⊎ ((m : ℕ) × (next ≡ Some m) × (j ≤ m))
-  below j x {n} e le = ⊎_elim (λ (same : j ≡ place). inl (subst (IsPassed passed2) (sym same) a.passes)) (λ ne. inr (last_or_before (TakesAt T p) place next earlier j (omega (arith, le, e, ne)) x)) (equal_or_not j place)
+  below j x {n} e le = ⊎_elim (λ (same : j ≡ place). inl (subst (IsPassed passed2) (sym same) a.passes)) (λ ne. inr (last_or_before (TakesAt T p) place next earlier j (omega (arith, le, e, ne)) x)) (cases_eq j place)
 
 pub taking_end : (T : Run) (p : Point) (passed0 passed : List Bool) (points0 points : List Point) (next : Option ℕ) → next ≡ None → Taking T p passed0 passed points0 points next → AddsTaken T p passed0 passed points0 points
 taking_end T p passed0 passed points0 points next e t = record {

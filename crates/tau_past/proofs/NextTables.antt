@@ -2,8 +2,8 @@
 use Rattle.std.proofs.Common.{◌≡◌, ◌≢◌, ◌⊎◌, ◌↔◌, ⊎_elim, ℕ, zero, suc, ◌+◌, ◌-◌, ◌<◌, ◌≤◌, ◌^◌, Bool, true, false, cond, IsTrue, List, [], ◌∷◌, ◌++◌, Option, Some, None, length, get_or, set, refl, sym, ap, ◌∙◌, subst, arith, length-append, leb-true}
 use Rattle.std.specs.Prelude.{option_and_then, slice_get, nat_le}
 use Rattle.std.proofs.Math.ListN.{length-set}
-use Rattle.std.proofs.lemmas.Option.{slice_get_read, slice_get_cases}
-use Rattle.std.proofs.lemmas.Bool.{leb-false}
+use Rattle.std.proofs.lemmas.Option.{slice_get_read}
+use Rattle.std.proofs.lemmas.Bool.{leb-false, cases_eq}
 use Rattle.std.specs.Option.{option_map_or}
 use Rattle.tau_history.specs.Stored.{Stored}
 use Rattle.tau_history.specs.Timeline.{Timeline, interval, Move, keep, stabilize, close, fall, moved, opening, newborn}
@@ -21,7 +21,6 @@ use Rattle.tau_trace.proofs.Counts.{count-suc, count-zero}
 use Rattle.tau_trace.proofs.Counted.{history-zero, history-suc, move_at-own}
 use Rattle.tau_trace.proofs.Indexing.{sent-next}
 use Rattle.tau_trace.proofs.Lists.{same_some, slice_get-set_same, slice_get-set_other, slice_get-push_cases}
-use Rattle.tau_trace.proofs.LivingLemmas.{equal_or_not}
 use Rattle.tau_trace.proofs.Moves.{move_by-other}
 use Rattle.tau_trace.proofs.Quiet.{acts}
 use Rattle.tau_past.specs.declared.carrying.Carrying.{Carrying}
@@ -30,6 +29,7 @@ use Rattle.tau_trace.specs.declared.step.Step.TheVariants.{Set, New}
 use Rattle.tau_trace.specs.Steps.{is_new}
 use Rattle.tau_trace.specs.Numbering.{IsNew}
 use Rattle.tau_trace.proofs.Sequences.{cases_last}
+use Rattle.tau_trace.proofs.Reading.{past_end}
 use Rattle.tau_points.proofs.PointOrder.{point_eq-Decides}
 use Rattle.tau_past.specs.Carried.{is_set, first_point}
 use Rattle.tau_past.specs.TableSteps.{taker, latest_for, latest_after, opening_history}
@@ -43,9 +43,6 @@ pub next_place : (F : ℕ → Type 0) (k : ℕ) → F (suc k) → F (k + 1)
 next_place F k x = let e : suc k ≡ k + 1 = omega arith in subst F e x
 
 module _ {A : Type 0} where
-  pub slice_get_none : (xs : List A) (i : ℕ) → slice_get xs i ≡ None → length xs ≤ i
-  slice_get_none xs i e = ⊎_elim (λ f. let x = sym f.2 ∙ e in absurd (cc)) (λ f. f.0) (slice_get_cases xs i).1
-
   pub lists_push : (n : ℕ) (P : ℕ → A → Type 0) (xs ys : List A) (x : A) → ys ≡ xs ++ x ∷ [] → P n x → Lists n P xs → Lists (n + 1) P ys
   lists_push n P xs ys x e p l = subst (Lists (n + 1) P) (sym e) (record { count = omega (arith, length-append xs (x ∷ []), l.count); each = each }) where
     each : (k : ℕ) (y : A) → slice_get (xs ++ x ∷ []) k ≡ Some y → P k y
@@ -63,7 +60,7 @@ module _ {A : Type 0} where
         let is : x ≡ y = same_some (sym at ∙ ap (slice_get (set xs i x)) (sym same) ∙ f) in
         subst (λ (z : A). Q k z) is (subst (λ j. Q j x) (sym same) here))
         (λ other. others k y other (l.each k y (sym (slice_get-set_other xs i k x other) ∙ f)))
-        (equal_or_not k i)
+        (cases_eq k i)
 
   pub lists_all : (n : ℕ) (P Q : ℕ → A → Type 0) (xs : List A) → ((k : ℕ) (y : A) → P k y → Q k y) → Lists n P xs → Lists n Q xs
   lists_all n P Q xs f l = record { count = l.count; each = λ k y e. f k y (l.each k y e) }
@@ -130,7 +127,7 @@ pub nobody : (T : Run) (k : ℕ) (s : Step) → step_at T k ≡ Some s → actor
 nobody T k s e none t a = let x = ap (option_and_then actor) e in cc
 
 pub missing : (T : Run) (k : ℕ) → k < len T → None ≡ step_at T k → ⊥
-missing T k lt e = let x = slice_get_none T.steps k (sym e) in omega (arith, lt, x)
+missing T k lt e = let x = past_end T.steps k (sym e) in omega (arith, lt, x)
 
 -- turns
 
@@ -141,7 +138,7 @@ origin_told T k m sends lt l = by (nat_le (length T.opening.targets) m) refl whe
   posts = length T.opening.targets
 
   at : (o : Option ℕ) → posts ≤ m → slice_get sends (m - posts) ≡ o → TellsOrigin T m o
-  at None le e = λ j by x. let none = slice_get_none sends (m - posts) e in omega (arith, le, lt, l.count, none)
+  at None le e = λ j by x. let none = past_end sends (m - posts) e in omega (arith, le, lt, l.count, none)
   at (Some j) le e =
       let same : m - posts + posts ≡ m = omega (arith, le) in
       subst (λ n. TellsOrigin T n (Some j)) same (l.each (m - posts) j e)
@@ -177,7 +174,7 @@ carried_told : (T : Run) (k : ℕ) (turns : List (Option Carrying)) (who : Optio
 carried_told T k turns None w lt e l = tells_nobody T k (λ t a. let x = sym e ∙ a in cc)
 carried_told T k turns (Some t) w lt e l = by (slice_get turns t) refl where
   by : (o : Option (Option Carrying)) → slice_get turns t ≡ o → TellsCarried T k (carrying_of o)
-  by None f = let none = slice_get_none turns t f in absurd (omega (arith, none, l.count, acts_known T t k w e, born-grows T k (len T) (omega (arith, lt))))
+  by None f = let none = past_end turns t f in absurd (omega (arith, none, l.count, acts_known T t k w e, born-grows T k (len T) (omega (arith, lt))))
   by (Some o) f = tells_carried T k t o e (l.each t o f)
 
 pub carried_next : (T : Run) (k : ℕ) (xs ys : List Carrying) (turns : List (Option Carrying)) (c : Carrying) (who : Option ℕ) → WellFormed T → k < len T → who ≡ option_and_then actor (step_at T k) → c ≡ carried_by turns who → ys ≡ xs ++ c ∷ [] → Lists (all_born T) (TellsTurn T k) turns → Lists k (TellsCarried T) xs → Lists (k + 1) (TellsCarried T) ys

@@ -1,5 +1,5 @@
 -- What a search for pasts keeps.
-use Rattle.std.proofs.Common.{◌≡◌, ◌⊎◌, ◌↔◌, inl, inr, ⊎_elim, ℕ, ◌+◌, ◌<◌, Bool, true, false, List, [], ◌∷◌, ◌++◌, length, refl, sym, ap, subst, arith, not, ◌-◌, ◌*◌, ◌^◌, length-append, Result}
+use Rattle.std.proofs.Common.{◌≡◌, ◌⊎◌, ◌↔◌, inl, inr, ⊎_elim, ◌+◌, Bool, true, false, List, [], ◌∷◌, ◌++◌, length, refl, sym, subst, not, ◌-◌, Result}
 use Rattle.std.specs.Prelude.{Contains, ◌||◌}
 use Rattle.std.specs.Bool.{OnTrue, OnFalse}
 use Rattle.std.proofs.lemmas.List.Elements.{Contains-append_left, Contains-push, Contains-push_cases}
@@ -16,7 +16,7 @@ use Rattle.std.specs.Result.{IfOk}
 use Rattle.tau_trace.specs.Run.{Run}
 use Rattle.tau_past.specs.Pasts.{Link, Past, Is, Everywhere}
 use Rattle.tau_past.specs.Safety.{RolledBack}
-use Rattle.tau_past.specs.Searching.{IsPassed, IsListed, AddsFollowing, IsComplete, AddsPast, PastHasFallen, FoundNoFallen, Visits, known, fresh}
+use Rattle.tau_past.specs.Searching.{IsListed, AddsFollowing, IsComplete, AddsPast, PastHasFallen, FoundNoFallen, Visits, known, fresh}
 
 -- found holds the points that were visited, left those that are to be
 pub record Searched (T : Run) (p : Point) (found0 found : List Point) (passed : List Bool) (left : List Point) : Type 0 where
@@ -112,12 +112,6 @@ module _ (T : Run) (p x : Point) (found0 found1 found2 : List Point) (passed1 pa
     by (known i e f g) = λ q j r. h q (subst (λ (l : List Point). Contains l q) e j) r
     by (fresh not adds more f) = λ q j r. ⊎_elim (λ i. h q i r) (λ (e : q ≡ x). absurd (not (n (subst (RolledBack T) e r)))) ((adds q).0 j)
 
-pub complete_none : (T : Run) (found : List Point) (passed : List Bool) → found ≡ [] → ((k : ℕ) → ¬ IsPassed passed k) → IsComplete T found passed
-complete_none T found passed e none = record {
-  follows = λ x y h l. absurd (Contains-none x (subst (λ (l : List Point). Contains l x) e h));
-  listed = λ q l. absurd (none l.0 l.1);
-}
-
 -- as the calls have them
 
 fresh-cases : (ks : List Point) (x : Point) (b c : Bool) → has ks x ≡ c → b ≡ not c → OnTrue b (¬ Contains ks x)
@@ -135,14 +129,6 @@ visits_fresh T p found0 found passed0 passed left0 left false e not adds more f 
 pub visits_known : (T : Run) (p : Point) (found0 found : List Point) (passed : List Bool) (left : List Point) (added : Bool) → added ≡ false → OnFalse added (Contains found0 p) → OnFalse added (found ≡ found0) → Visits T p found0 found passed passed left left
 visits_known T p found0 found passed left false e h same = known h same refl refl
 visits_known T p found0 found passed left true e h same = absurd (cc)
-
--- the measure of the search falls
-pub visits_smaller : (T : Run) (p : Point) (found0 found : List Point) (passed0 passed : List Bool) (left0 left1 left2 : List Point) → Visits T p found0 found passed0 passed left1 left2 → length found < 2 ^ 63 → length left2 < 2 ^ 64 → left0 ≡ left1 ++ p ∷ []
-    → (2 ^ 63 - length found) * 2 ^ 64 + length left2 < (2 ^ 63 - length found0) * 2 ^ 64 + length left0
-visits_smaller T p found0 found passed0 passed left0 left1 left2 (known h e f g) small fits popped =
-    omega (arith, ap length e, ap length g, ap length popped, length-append left1 (p ∷ []))
-visits_smaller T p found0 found passed0 passed left0 left1 left2 (fresh not adds more f) small fits popped =
-    omega (arith, more, small, fits, ap length popped, length-append left1 (p ∷ []))
 
 pub set_of : {E : Type 0} (r : Result (List Point) E) (points items : List Point) (P : Point → Type 0) → IfOk r (members.SameMembers points) → points ≡ items → ((q : Point) → Contains items q ↔ P q) → IfOk r (λ set. (q : Point) → Contains set q ↔ P q)
 set_of r points items P same e all =

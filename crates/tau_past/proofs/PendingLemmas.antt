@@ -12,12 +12,9 @@ use Rattle.tau_trace.specs.Turns.{Turn}
 use Rattle.tau_trace.proofs.Lists.{same_some}
 use Rattle.tau_trace.proofs.Quiet.{acts}
 use Rattle.tau_trace.proofs.Sequences.{cases_last}
+use Rattle.tau_trace.proofs.TrackingLemmas.{bounds, turn-on}
 use Rattle.tau_past.specs.Carried.{touches, Pending, touched, came, SentWith}
 use Rattle.tau_past.specs.KnownLaws.{HasOpenTurn, KeepsTurns, KeepsPending, keeps_pending, TurnsAfterStep, PendingAfterStep}
-
--- the kinds that begin or end a turn
-abbrev bounds : Step → Bool
-bounds s = ends_turn s || is_take s
 
 touching_bounds_none : (s : Step) → IsTrue (touches s) → IsFalse (bounds s)
 touching_bounds_none (Get t) h = refl
@@ -51,14 +48,7 @@ idle : (T : Run) (t k : ℕ) (test : Step → Bool) → ¬ ActsAt T t k → ¬ D
 idle T t k test none d = none (acts T t k d.step d.stands d.by)
 
 -- after a step that begins and ends no turn
-turn_on : (T : Run) (t k place m : ℕ) → ¬ Does bounds T t k → Turn T t k place m → Turn T t (suc k) place m
-turn_on T t k place m none u = record {
-  before = omega (arith, u.before);
-  takes = u.takes;
-  goes_on = λ j l b d. ⊎_elim (λ e. none (subst (Does bounds T t) e d)) (λ c. u.goes_on j l c d) (cases_last j k b);
-}
-
-turn_back : (T : Run) (t k place m : ℕ) → ¬ Does bounds T t k → Turn T t (suc k) place m → Turn T t k place m
+pub turn_back : (T : Run) (t k place m : ℕ) → ¬ Does bounds T t k → Turn T t (suc k) place m → Turn T t k place m
 turn_back T t k place m none u = record { before = earlier; takes = u.takes; goes_on = λ j a b d. u.goes_on j a (omega arith) d } where
   earlier : place < k
   earlier = ⊎_elim
@@ -67,11 +57,11 @@ turn_back T t k place m none u = record { before = earlier; takes = u.takes; goe
       (cases_last place k u.before)
 
 keeps_turns : (T : Run) (t k : ℕ) → ¬ Does bounds T t k → KeepsTurns T t k
-keeps_turns T t k none place m = (turn_back T t k place m none, turn_on T t k place m none)
+keeps_turns T t k none place m = (turn_back T t k place m none, turn-on T t k place m none)
 
 -- after a Take
-taken : (T : Run) (t k m place n : ℕ) → step_at T k ≡ Some (Take t m) → Turn T t (suc k) place n → (place ≡ k) × (n ≡ m)
-taken T t k m place n e u = ⊎_elim
+pub only_turn : (T : Run) (t k m place n : ℕ) → step_at T k ≡ Some (Take t m) → Turn T t (suc k) place n → (place ≡ k) × (n ≡ m)
+only_turn T t k m place n e u = ⊎_elim
     (λ (at : place ≡ k). (at, same_message (same_some (sym u.takes ∙ ap (step_at T) at ∙ e))))
     (λ less. absurd (u.goes_on k less (omega arith) (record { step = Take t m; stands = e; by = refl; passes = refl })))
     (cases_last place k u.before) where
@@ -91,7 +81,7 @@ ended T t k place n d u = ⊎_elim
 pub turns_after_step : (T : Run) (t k : ℕ) → TurnsAfterStep T t k
 turns_after_step T t k = record {
   other = λ none. keeps_turns T t k (idle T t k bounds none);
-  take = λ m e place n. (taken T t k m place n e, λ is. subst (λ i. Turn T t (suc k) i n) (sym is.0) (subst (Turn T t (suc k) k) (sym is.1) (begun T t k m e)));
+  take = λ m e place n. (only_turn T t k m place n e, λ is. subst (λ i. Turn T t (suc k) i n) (sym is.0) (subst (Turn T t (suc k) k) (sym is.1) (begun T t k m e)));
   ending = λ d place n. ended T t k place n d;
   touching = λ d. keeps_turns T t k (does_not T t k touches bounds touching_bounds_none d);
   keeping = λ d. keeps_turns T t k (does_not T t k keeps_pending bounds keeping_bounds_none d);
@@ -102,9 +92,9 @@ pub pending_turn : (T : Run) (t k : ℕ) (q : Point) → Pending T t k q → Has
 pending_turn T t k q (touched {take = b} {m = m} u l h d e) = (b, (m, u))
 pending_turn T t k q (came {take = b} {m = m} u o p) = (b, (m, u))
 
-pending_on : (T : Run) (t k : ℕ) (q : Point) → ¬ Does bounds T t k → Pending T t k q → Pending T t (suc k) q
-pending_on T t k q none (touched {take = b} {m = m} u l h d e) = touched (turn_on T t k b m none u) l (omega arith) d e
-pending_on T t k q none (came {take = b} {m = m} u o p) = came (turn_on T t k b m none u) o p
+pub pending_on : (T : Run) (t k : ℕ) (q : Point) → ¬ Does bounds T t k → Pending T t k q → Pending T t (suc k) q
+pending_on T t k q none (touched {take = b} {m = m} u l h d e) = touched (turn-on T t k b m none u) l (omega arith) d e
+pending_on T t k q none (came {take = b} {m = m} u o p) = came (turn-on T t k b m none u) o p
 
 -- what is pending after a step that begins and ends no turn was pending, or is the point of a touching step in a turn
 pending_back : (T : Run) (t k : ℕ) (q : Point) → ¬ Does bounds T t k → Pending T t (suc k) q → Pending T t k q ⊎ (Does touches T t k × HasOpenTurn T t k × (q ≡ point_at T t k))
@@ -120,18 +110,18 @@ kept_pending T t k none quiet q = (λ p. ⊎_elim (λ r. r) (λ d. absurd (quiet
 pending_touching : (T : Run) (t k : ℕ) (q : Point) → ¬ Does bounds T t k → Does touches T t k → Pending T t (suc k) q ↔ (Pending T t k q ⊎ (HasOpenTurn T t k × (q ≡ point_at T t k)))
 pending_touching T t k q none d = (
   λ p. ⊎_elim (λ r. inl r) (λ c. inr (c.1, c.2)) (pending_back T t k q none p),
-  λ s. ⊎_elim (pending_on T t k q none) (λ c. touched (turn_on T t k c.0.0 c.0.1.0 none c.0.1.1) c.0.1.1.before (omega arith) d c.1) s,
+  λ s. ⊎_elim (pending_on T t k q none) (λ c. touched (turn-on T t k c.0.0 c.0.1.0 none c.0.1.1) c.0.1.1.before (omega arith) d c.1) s,
 )
 
-pending_taken : (T : Run) (t k m : ℕ) (q : Point) → step_at T k ≡ Some (Take t m) → Pending T t (suc k) q ↔ SentWith T m q
+pub pending_taken : (T : Run) (t k m : ℕ) (q : Point) → step_at T k ≡ Some (Take t m) → Pending T t (suc k) q ↔ SentWith T m q
 pending_taken T t k m q e = (forth, back) where
   sender_acts : (j by n : ℕ) → IsOrigin T j by n → ActsAt T by j
   sender_acts j by n o = acts T by j (Send by o.to o.value) o.stands refl
 
   forth : Pending T t (suc k) q → SentWith T m q
-  forth (touched {take = b} {m = n} {j = j} u l h d f) = absurd (omega (arith, (taken T t k m b n e u).0, l, h))
+  forth (touched {take = b} {m = n} {j = j} u l h d f) = absurd (omega (arith, (only_turn T t k m b n e u).0, l, h))
   forth (came {take = b} {m = n} {j = j} {by = by} u o p) =
-      record { place = j; by = by; origin = subst (IsOrigin T j by) (taken T t k m b n e u).1 o; carried = record { by = by; acts = sender_acts j by n o; pending = p } }
+      record { place = j; by = by; origin = subst (IsOrigin T j by) (only_turn T t k m b n e u).1 o; carried = record { by = by; acts = sender_acts j by n o; pending = p } }
 
   back : SentWith T m q → Pending T t (suc k) q
   back s =

@@ -1,5 +1,6 @@
 -- Each trace that keeps the rules is safe.
 use Rattle.std.proofs.Common.{◌≡◌, ◌⊎◌, ℕ, zero, suc, ◌<◌, ◌≤◌, Bool, IsTrue, IsFalse, Some, arith, refl, sym, ◌∙◌, ap, subst, ⊎_elim}
+use Rattle.std.proofs.lemmas.Bool.{cases_order}
 use Rattle.tau_history.specs.Timeline.{interval, opening}
 use Rattle.tau_points.specs.declared.point.Point.{Point}
 use Rattle.tau_points.specs.Reach.{start, next}
@@ -22,9 +23,6 @@ use Rattle.tau_past.proofs.Known.{acts_known, hears_known, heard_before, heard_b
 
 clash : (b : Bool) → IsTrue b → IsFalse b → ⊥
 clash b t f = cc
-
-cases : (a b : ℕ) → (a < b) ⊎ ((a ≡ b) ⊎ (b < a))
-cases a b = grind arith
 
 -- a start is at interval 1 or more at every place
 start_interval : (T : Run) (t k : ℕ) → t < starts T → 1 ≤ interval (history T t k)
@@ -51,7 +49,7 @@ no_link T p q o (takes {j = j} h (by_new {by = by} {u = u} n e c ne)) =
 
 -- no Set follows a Stabilize at the same point
 set_before : (T : Run) → KeepsRules T → (t j s : ℕ) → Does is_set T t j → Stabilizes T t s → point_at T t j ≡ point_at T t s → j < s
-set_before T rules t j s d z e = ⊎_elim (λ lt. lt) (λ x. ⊎_elim same after x) (cases j s) where
+set_before T rules t j s d z e = ⊎_elim same (λ x. ⊎_elim (λ lt. lt) after x) (cases_order j s) where
   same : j ≡ s → j < s
   same k = absurd (set_is_none d.step (d.stands) (ap (λ i. step_at T i) k ∙ z) d.passes) where
     set_is_none : (x : Step) → step_at T j ≡ Some x → step_at T j ≡ Some (Stabilize t) → IsTrue (is_set x) → ⊥
@@ -96,7 +94,7 @@ brings_closing T H c q r i st e (checkpoint {j = j} h k a b) =
       at_close = sym (ap (λ x. x.interval) a) ∙ b
 
       before : j < st.place
-      before = ⊎_elim (λ lt. lt) (λ x. absurd (⊎_elim equal later x)) (cases j st.place) where
+      before = ⊎_elim (λ s. absurd (equal s)) (λ x. ⊎_elim (λ lt. lt) (λ lt. absurd (later lt)) x) (cases_order j st.place) where
         equal : j ≡ st.place → ⊥
         equal s = omega (arith, at_place, at_close, ap (λ n. interval (history T q.who n)) s)
 

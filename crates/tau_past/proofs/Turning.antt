@@ -3,25 +3,23 @@ use Rattle.std.proofs.Common.{◌≡◌, ◌⊎◌, ◌↔◌, inl, inr, ⊎_eli
 use Rattle.std.specs.Prelude.{◌||◌, option_map}
 use Rattle.tau_points.specs.declared.point.Point.{Point}
 use Rattle.tau_trace.specs.declared.step.Step.{Step}
-use Rattle.tau_trace.specs.declared.step.Step.TheVariants.{Take, Send}
+use Rattle.tau_trace.specs.declared.step.Step.TheVariants.{Take}
 use Rattle.tau_trace.specs.Steps.{actor, ends_turn, is_take}
 use Rattle.tau_trace.specs.Run.{Run, step_at, ActsAt, Does}
-use Rattle.tau_trace.specs.Numbering.{sent, IsOrigin}
+use Rattle.tau_trace.specs.Numbering.{sent}
 use Rattle.tau_trace.specs.Points.{point_at}
-use Rattle.tau_trace.specs.Turns.{Turn, IsOpenTurn}
+use Rattle.tau_trace.specs.Turns.{IsOpenTurn}
 use Rattle.tau_trace.proofs.Agreement.{origin_before}
 use Rattle.tau_trace.proofs.Lists.{same_some}
 use Rattle.tau_trace.proofs.Once.{origin_once}
 use Rattle.tau_trace.proofs.Quiet.{acts}
 use Rattle.tau_trace.proofs.Sequences.{cases_last}
-use Rattle.tau_trace.proofs.TrackingLemmas.{turn_same, turn_begins, turn_ends}
+use Rattle.tau_trace.proofs.TrackingLemmas.{turn_same, turn_begins, turn_ends, bounds, turn-on}
 use Rattle.tau_past.specs.declared.carrying.Carrying.{Carrying}
 use Rattle.tau_past.specs.Carried.{touches, Pending, touched, came, Carried, SentWith}
 use Rattle.tau_past.specs.Tables.{CarriedFrom, Tells, nothing, HasTurn, TellsTurn, TellsOrigin}
 use Rattle.tau_past.specs.TableSteps.{turn_after, carrying_of}
-
-abbrev bounds : Step → Bool
-bounds s = ends_turn s || is_take s
+use Rattle.tau_past.proofs.PendingLemmas.{turn_back, pending_on, pending_taken}
 
 pub does_not : (test : Step → Bool) (T : Run) (t k : ℕ) (s : Step) → step_at T k ≡ Some s → test s ≡ false → ¬ Does test T t k
 does_not test T t k s e fails d =
@@ -32,38 +30,18 @@ does_not test T t k s e fails d =
 pub does : (test : Step → Bool) (T : Run) (t k : ℕ) (s : Step) → step_at T k ≡ Some s → actor s ≡ Some t → test s ≡ true → Does test T t k
 does test T t k s e by passes = record { step = s; stands = e; by = by; passes = passes }
 
--- a turn that is open at k, at the next place
-turn-on : (T : Run) (t k place m : ℕ) → ¬ Does bounds T t k → Turn T t k place m → Turn T t (suc k) place m
-turn-on T t k place m none u = record {
-  before = omega (arith, u.before);
-  takes = u.takes;
-  goes_on = λ j l b d. ⊎_elim (λ e. none (subst (Does bounds T t) e d)) (λ c. u.goes_on j l c d) (cases_last j k b);
-}
-
-turn-back : (T : Run) (t k place m : ℕ) → ¬ Does bounds T t k → Turn T t (suc k) place m → Turn T t k place m
-turn-back T t k place m none u = record { before = earlier; takes = u.takes; goes_on = λ j a b d. u.goes_on j a (omega arith) d } where
-  earlier : place < k
-  earlier = ⊎_elim
-      (λ (e : place ≡ k). absurd (none (record { step = Take t m; stands = subst (λ j. step_at T j ≡ Some (Take t m)) e u.takes; by = refl; passes = refl })))
-      (λ l. l)
-      (cases_last place k u.before)
-
 touch-cases : (T : Run) (t k : ℕ) (q : Point) → ¬ Does bounds T t k → Pending T t (suc k) q → ((Does touches T t k) × (q ≡ point_at T t k)) ⊎ Pending T t k q
 touch-cases T t k q none (touched {take = b} {m = m} {j = j} u l h d e) = ⊎_elim
     (λ (at : j ≡ k). inl (subst (Does touches T t) at d, e ∙ ap (point_at T t) at))
-    (λ (less : j < k). inr (touched (turn-back T t k b m none u) l less d e))
+    (λ (less : j < k). inr (touched (turn_back T t k b m none u) l less d e))
     (cases_last j k h)
-touch-cases T t k q none (came {take = b} {m = m} u o p) = inr (came (turn-back T t k b m none u) o p)
-
-pending-on : (T : Run) (t k : ℕ) (q : Point) → ¬ Does bounds T t k → Pending T t k q → Pending T t (suc k) q
-pending-on T t k q none (touched {take = b} {m = m} u l h d e) = touched (turn-on T t k b m none u) l (omega arith) d e
-pending-on T t k q none (came {take = b} {m = m} u o p) = came (turn-on T t k b m none u) o p
+touch-cases T t k q none (came {take = b} {m = m} u o p) = inr (came (turn_back T t k b m none u) o p)
 
 -- after a step that bounds no turn and touches nothing
 pub pending_plain : (T : Run) (t k : ℕ) (q : Point) → ¬ Does bounds T t k → ¬ Does touches T t k → Pending T t (suc k) q ↔ Pending T t k q
 pending_plain T t k q none quiet = (
   λ p. ⊎_elim (λ d. absurd (quiet d.0)) (λ r. r) (touch-cases T t k q none p),
-  λ p. pending-on T t k q none p,
+  λ p. pending_on T t k q none p,
 )
 
 -- after a touching step of a turn
@@ -72,38 +50,8 @@ pending_touched T t k q none d turn = (
   λ p. ⊎_elim (λ c. inl c.1) (λ r. inr r) (touch-cases T t k q none p),
   λ c. ⊎_elim
       (λ e. touched (turn-on T t k turn.0 turn.1.0 none turn.1.1) turn.1.1.before (omega arith) d e)
-      (λ p. pending-on T t k q none p) c,
+      (λ p. pending_on T t k q none p) c,
 )
-
--- the turn that is open right after a Take is the one that it opens
-only-turn : (T : Run) (t k m place n : ℕ) → step_at T k ≡ Some (Take t m) → Turn T t (suc k) place n → (place ≡ k) × (n ≡ m)
-only-turn T t k m place n e u = ⊎_elim
-    (λ (at : place ≡ k). (at, same_message (same_some (sym u.takes ∙ ap (step_at T) at ∙ e))))
-    (λ less. absurd (u.goes_on k less (omega arith) (record { step = Take t m; stands = e; by = refl; passes = refl })))
-    (cases_last place k u.before) where
-      same_message : Take t n ≡ Take t m → n ≡ m
-      same_message h = cc
-
--- after a Take
-pub pending_taken : (T : Run) (t k m : ℕ) (q : Point) → step_at T k ≡ Some (Take t m) → Pending T t (suc k) q ↔ SentWith T m q
-pending_taken T t k m q e = (forth, back) where
-  forth : Pending T t (suc k) q → SentWith T m q
-  forth (touched {take = b} {m = n} {j = j} u l h d f) =
-      absurd (omega (arith, (only-turn T t k m b n e u).0, l, h))
-  forth (came {take = b} {m = n} {j = j} {by = by} u o p) =
-      let same : n ≡ m = (only-turn T t k m b n e u).1 in
-      let origin : IsOrigin T j by m = subst (IsOrigin T j by) same o in
-      record { place = j; by = by; origin = origin; carried = record { by = by; acts = acts T by j (Send by origin.to origin.value) origin.stands refl; pending = p } }
-
-  back : SentWith T m q → Pending T t (suc k) q
-  back s =
-      let turn = turn_begins T t k m e in
-      came {m = turn.0} (turn.1) (subst (IsOrigin T s.place s.by) (sym (only-turn T t k m k turn.0 e turn.1).1) s.origin) by_sender where
-        by_sender : Pending T s.by s.place q
-        by_sender =
-            let sender : ActsAt T s.by s.place = acts T s.by s.place (Send s.by s.origin.to s.origin.value) s.origin.stands refl in
-            let same : s.carried.by ≡ s.by = same_some (sym s.carried.acts ∙ sender) in
-            subst (λ u. Pending T u s.place q) same s.carried.pending
 
 -- what a step of t at k carries is what one would carry
 pub carried_pending : (T : Run) (t k : ℕ) (q : Point) → ActsAt T t k → Carried T k q ↔ Pending T t k q
@@ -136,9 +84,6 @@ tells-plain T k t (Some c) none quiet h = (
 -- after a step of another transactor, or of nobody
 pub tells_other : (T : Run) (k t : ℕ) (o : Option Carrying) → ¬ ActsAt T t k → TellsTurn T k t o → TellsTurn T (suc k) t o
 tells_other T k t o not h = tells-plain T k t o (λ d. not (acts T t k d.step d.stands d.by)) (λ d. not (acts T t k d.step d.stands d.by)) h
-
-touched-here : Point → ℕ → Carrying
-touched-here own k = record { touched = Some own; rest = Some k }
 
 tells-touched : (T : Run) (k t : ℕ) (own : Point) (o : Option Carrying) → ¬ Does bounds T t k → Does touches T t k → own ≡ point_at T t k → TellsTurn T k t o → TellsTurn T (suc k) t (option_map (λ c. record { touched = Some own; rest = Some k }) o)
 tells-touched T k t own None none d e h = turn_same T t k None none h

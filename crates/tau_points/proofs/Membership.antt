@@ -35,10 +35,6 @@ module _ {A : Type 0} where
     pub all_at : (xs : List A) (x : A) → AllByRecursion P xs → Contains xs x → P x
     all_at xs x all c = All-contains P xs x (All-from_recursion P xs all) c
 
-    pub all_from_each : (xs : List A) → ((x : A) → Contains xs x → P x) → AllByRecursion P xs
-    all_from_each [] each = tt
-    all_from_each (x ∷ xs) each = (each x (Contains-head x xs), all_from_each xs (λ q c. each q (Contains-later x xs q c)))
-
     pub all_append : (xs ys : List A) → AllByRecursion P xs → AllByRecursion P ys → AllByRecursion P (xs ++ ys)
     all_append [] ys a b = b
     all_append (x ∷ xs) ys a b = (a.0, all_append xs ys a.1 b)

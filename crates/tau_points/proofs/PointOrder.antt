@@ -7,7 +7,7 @@ use Rattle.std.specs.List.Sorted.{IsPartitionedBy, IsPartitionPoint}
 use Rattle.std.specs.Ordering.{is_lt, is_le, is_gt, ordering_then}
 use Rattle.std.specs.declared.cmp.Ordering.{Ordering}
 use Rattle.std.specs.declared.cmp.Ordering.TheVariants.{Less, Equal, Greater}
-use Rattle.std.proofs.lemmas.Bool.{eqb-true, eq-eqb, and_parts}
+use Rattle.std.proofs.lemmas.Bool.{eqb-true, eq-eqb, and_parts, not-false}
 use Rattle.std.proofs.lemmas.Cmp.{then_total, on_total, nat_cmp_total, upto, and_equiv, on_equiv, nat_eq_equiv}
 use Rattle.tau_points.proofs.SortedLists.{flips}
 use Rattle.std.proofs.lemmas.Map.Keys.{Less-from_sorted}
@@ -35,10 +35,6 @@ point_eq-Decides p q = (
       λ i. record { who = who i; interval = interval i; incarnation = incarnation i },
   λ e. rw (eq-eqb p.who q.who (ap (λ (r : Point). r.who) e), eq-eqb p.interval q.interval (ap (λ (r : Point). r.interval) e), eq-eqb p.incarnation q.incarnation (ap (λ (r : Point). r.incarnation) e)),
 )
-
-not_false : (b : Bool) → not b ≡ false → b ≡ true
-not_false true e = refl
-not_false false e = cc
 
 not_true : (b : Bool) → not b ≡ true → b ≡ true → ⊥
 not_true true e f = cc
@@ -191,7 +187,7 @@ first_not_before q us inside xs i e f first = (subst (λ (l : List (Point × Poi
 
 -- what `!=` says of two points
 pub same_from_ne : (p q : Point) (r : Bool) → r ≡ not (point_eq p q) → r ≡ false → p ≡ q
-same_from_ne p q r e f = (point_eq-Decides p q).0 (not_false (point_eq p q) (sym e ∙ f))
+same_from_ne p q r e f = (point_eq-Decides p q).0 (not-false (point_eq p q) (sym e ∙ f))
 
 pub other_from_ne : (p q : Point) (r : Bool) → r ≡ not (point_eq p q) → r ≡ true → p ≡ q → ⊥
 other_from_ne p q r e f same = not_true (point_eq p q) (sym e ∙ f) ((point_eq-Decides p q).1 same)

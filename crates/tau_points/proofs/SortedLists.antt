@@ -35,10 +35,6 @@ module _ {K : Type 0} (R : K → K → Ordering) where
   unfolding IsStrictlySortedBy
   sorted_rest x xs s = s.1
 
-  pub sorted_back : (xs ys : List K) → IsStrictlySortedBy R (xs ++ ys) → IsStrictlySortedBy R ys
-  sorted_back [] ys s = s
-  sorted_back (x ∷ xs) ys s = sorted_back xs ys (sorted_rest x (xs ++ ys) s)
-
 module _ {K : Type 0} {R : K → K → Ordering} (o : IsTotalOrder R) where
   pub not_below_itself : (x : K) → R x x ≡ Less → ⊥
   not_below_itself x e = cc (tied_itself o x)
@@ -102,12 +98,6 @@ module _ {K : Type 0} {R : K → K → Ordering} (o : IsTotalOrder R) where
       let parts = found (searchable_from_sorted o (λ y. y) xs x (sorted_weakly xs s)) in
       record { before = parts.0; after = λ k d low high. flips (get_or xs k d) x (parts.1 k d low high) }
 
-  pub absent_at_place : (x : K) (xs : List K) (i : ℕ) → IsPlace R x xs i → Contains xs x → ⊥
-  absent_at_place x xs i p c =
-      ⊎_elim (λ (low : c.0 < i). not_below_itself x (subst (λ y. R y x ≡ Less) c.2 (p.before c.0 x (omega arith) low)))
-      (λ (high : i ≤ c.0). not_below_itself x (subst (λ y. R x y ≡ Less) c.2 (p.after c.0 x high c.1)))
-      (Rattle.std.proofs.lemmas.Bool.cases_lt c.0 i)
-
 pub Adds-place : {K : Type 0} (x : K) (xs : List K) (i : ℕ) → Adds xs (take i xs ++ x ∷ drop i xs) x
 Adds-place x xs i q = (
   λ c. ⊎_elim (λ front. inl (Contains-take i xs q front))
@@ -118,10 +108,6 @@ Adds-place x xs i q = (
       (Contains-split i xs q old))
       (λ (e : q ≡ x). Contains-append_right (take i xs) (x ∷ drop i xs) q (subst (λ z. Contains (x ∷ drop i xs) z) (sym e) (Contains-head x (drop i xs)))) c,
 )
-
--- an item that is there already
-pub Adds-known : {K : Type 0} (x : K) (xs : List K) → Contains xs x → Adds xs xs x
-Adds-known x xs here q = (λ c. inl c, λ c. ⊎_elim (λ old. old) (λ (e : q ≡ x). subst (λ z. Contains xs z) (sym e) here) c)
 
 module _ {K : Type 0} {R : K → K → Ordering} where
   pub OnOk-found : CmpEqualImpliesEq R → (x : K) (xs : List K) (r : Result ℕ ℕ) → IsSearchInRange r (length xs) → IsBinarySearchResult (λ y. R y x) xs r → OnOk r (Contains xs x)

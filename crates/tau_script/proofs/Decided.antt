@@ -1,6 +1,7 @@
 -- What a script asks of a place is so or not: the messages in flight, and the least living transactor of a node.
-use Rattle.std.proofs.Common.{◌≡◌, ◌⊎◌, inl, inr, ⊎_elim, ℕ, zero, suc, ◌+◌, ◌<◌, ◌≤◌, List, Option, Some, None, refl, sym, ap, subst, ◌∙◌, arith}
+use Rattle.std.proofs.Common.{◌≡◌, ◌⊎◌, inl, inr, ⊎_elim, ℕ, zero, suc, ◌<◌, ◌≤◌, Option, Some, None, refl, sym, ap, subst, ◌∙◌, arith}
 use Rattle.std.specs.Prelude.{slice_get, option_and_then}
+use Rattle.std.proofs.lemmas.Bool.{cases_eq}
 use Rattle.tau_history.specs.Timeline.{interval, Move, keep, stabilize, close, fall}
 use Rattle.tau_trace.specs.declared.step.Step.{Step}
 use Rattle.tau_trace.specs.declared.step.Step.TheVariants.{New}
@@ -12,6 +13,7 @@ use Rattle.tau_trace.specs.Histories.{history, move_at, EndsAt, IsLiving}
 use Rattle.tau_trace.specs.Nodes.{LivesAt, IsNextLiving}
 use Rattle.tau_trace.proofs.Lists.{same_some}
 use Rattle.tau_trace.proofs.Agreement.{new_before}
+use Rattle.tau_trace.proofs.Sequences.{cases_last}
 
 -- the fact holds, or it does not
 abbrev pub Decided : Type 0 → Type 0
@@ -20,25 +22,15 @@ Decided P = P ⊎ (¬ P)
 pub le_or_above : (m n : ℕ) → (m ≤ n) ⊎ (n < m)
 le_or_above m n = grind arith
 
-order : (m n : ℕ) → (m < n) ⊎ ((m ≡ n) ⊎ (n < m))
-order m n = grind arith
-
-equal_or_not : (m n : ℕ) → Decided (m ≡ n)
-equal_or_not m n =
-    ⊎_elim (λ l. inr (λ e. omega arith)) (λ r. ⊎_elim (λ e. inl e) (λ g. inr (λ e. omega arith)) r) (order m n)
-
 some_or_not : (o : Option ℕ) (m : ℕ) → Decided (o ≡ Some m)
 some_or_not None m = inr (λ e. absurd (cc))
-some_or_not (Some n) m = ⊎_elim (λ e. inl (ap Some e)) (λ d. inr (λ e. d (same_some e))) (equal_or_not n m)
+some_or_not (Some n) m = ⊎_elim (λ e. inl (ap Some e)) (λ d. inr (λ e. d (same_some e))) (cases_eq n m)
 
 fall_or_not : (m : Move) → Decided (m ≡ fall)
 fall_or_not keep = inr (λ e. absurd (cc))
 fall_or_not stabilize = inr (λ e. absurd (cc))
 fall_or_not close = inr (λ e. absurd (cc))
 fall_or_not fall = inl refl
-
-below_or_last : (j k : ℕ) → j < suc k → (j < k) ⊎ (j ≡ k)
-below_or_last j k l = grind arith
 
 -- a place below k at which P holds
 abbrev SomeBelow : (ℕ → Type 0) → ℕ → Type 0
@@ -48,7 +40,7 @@ abbrev NoneBelow : (ℕ → Type 0) → ℕ → Type 0
 NoneBelow P k = (j : ℕ) → j < k → ¬ P j
 
 none_more : (P : ℕ → Type 0) (k : ℕ) → NoneBelow P k → ¬ P k → NoneBelow P (suc k)
-none_more P k h n = λ j l p. ⊎_elim (λ b. h j b p) (λ e. n (subst P e p)) (below_or_last j k l)
+none_more P k h n = λ j l p. ⊎_elim (λ e. n (subst P e p)) (λ b. h j b p) (cases_last j k l)
 
 some_below : (P : ℕ → Type 0) → ((j : ℕ) → Decided (P j)) → (k : ℕ) → SomeBelow P k ⊎ NoneBelow P k
 some_below P d zero = inr (λ j l p. omega arith)
@@ -74,7 +66,7 @@ ends T t k =
     (λ f. ⊎_elim
     (λ e. inl (record { falls = f; at_opening = e }))
     (λ n. inr (λ x. n x.at_opening))
-    (equal_or_not (interval (history T t k)) 0))
+    (cases_eq (interval (history T t k)) 0))
     (λ n. inr (λ x. n x.falls))
     (fall_or_not (move_at T t k))
 
@@ -94,9 +86,9 @@ made_or_not T t n j (Some (New by b node v)) e =
     (λ made. ⊎_elim
     (λ same. inl (record { by = by; birth = record { behaviour = b; node = node; state = v; stands = e; made = made }; node_is = same }))
     (λ d. inr (λ x. d (let f = sym e ∙ x.birth.stands in let g : node ≡ x.birth.node = cc in g ∙ x.node_is)))
-    (equal_or_not node n))
+    (cases_eq node n))
     (λ d. inr (λ x. d x.birth.made))
-    (equal_or_not t (born T j))
+    (cases_eq t (born T j))
 made_or_not T t n j (Some s) e = inr (λ x. let f = sym e ∙ x.birth.stands in absurd (cc))
 
 not_home : (T : Run) (t n k : ℕ) → t < born T k → ¬ (slice_get T.opening.homes t ≡ Some n) → NoneBelow (MadeAtNode T t n) k → IsHome T t n → ⊥
@@ -131,7 +123,7 @@ least_more P a k (inl p) None h =
     (λ g. (None, λ j f l q. omega arith))
     (le_or_above a k)
 least_more P a k (inr n) None h =
-    (None, λ j f l q. ⊎_elim (λ b. h j f b q) (λ e. n (subst P e q)) (below_or_last j k l))
+    (None, λ j f l q. ⊎_elim (λ e. n (subst P e q)) (λ b. h j f b q) (cases_last j k l))
 
 least : (P : ℕ → Type 0) → ((j : ℕ) → Decided (P j)) → (a k : ℕ) → (r : Option ℕ) × IsLeastFrom a P k r
 least P d a zero = (None, λ j f l p. omega arith)

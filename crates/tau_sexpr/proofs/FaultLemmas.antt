@@ -96,9 +96,6 @@ judge_comment : (b at : ℕ) (s : Stack) → length s.lists ≤ 200 → (t : Boo
 judge_comment b at s le true is = (ap (λ t. lexical (if t then faults.outside else in_comment) (length s.lists)) (sym is), omega arith, le, fine_inside in_comment (length s.lists) b (λ h. cc) (λ h. h))
 judge_comment b at s le false is = (ap (λ t. lexical (if t then faults.outside else in_comment) (length s.lists)) (sym is), omega arith, le, fine_inside in_comment (length s.lists) b (λ h. cc) (λ h. h))
 
-quoted_by : Bool → Bool → Part
-quoted_by x y = if x then faults.outside else if y then after_backslash else in_quotes
-
 judge_text : (b at : ℕ) (t : List ℕ) (s : Stack) → length s.lists ≤ 200 → (x y z : Bool) → (b == 34) ≡ x → (b == 92) ≡ y → is_plain b ≡ z
     → Judges in_quotes (length s.lists) b at (if x then Ok (reader (at + 1) outside (with_form s (text t))) else if y then Ok (reader (at + 1) (in_pair t) s) else if z then Ok (reader (at + 1) (in_text (t ++ b ∷ [])) s) else Err (BadText at))
 judge_text b at t s le true y z ex ey ez = (

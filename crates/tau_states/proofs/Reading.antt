@@ -1,19 +1,15 @@
 -- What the readers of a table find in its records.
-use Rattle.std.proofs.Common.{◌≡◌, ℕ, zero, suc, ◌<◌, ◌≤◌, true, false, List, [], ◌∷◌, length, Some, None, refl, sym, ◌∙◌, subst, arith}
+use Rattle.std.proofs.Common.{◌≡◌, ℕ, zero, suc, ◌<◌, true, false, List, Some, None, refl, sym, ◌∙◌, subst, arith}
 use Rattle.std.specs.Prelude.{slice_get}
 use Rattle.std.proofs.lemmas.Option.{slice_get_within}
 use Rattle.tau_value.specs.declared.shared.Value.{Value}
 use Rattle.tau_trace.specs.Run.{Run, len}
 use Rattle.tau_trace.specs.Numbering.{born}
 use Rattle.tau_trace.specs.Histories.{history, IsLiving}
+use Rattle.tau_trace.proofs.Reading.{past_end}
 use Rattle.tau_states.specs.declared.state_record.StateRecord.{StateRecord}
 use Rattle.tau_states.specs.Table.{IsBase, Holds}
 use Rattle.tau_states.specs.Answers.{IsPresent, HasClosed, IsStateAfter, IsSavedAfter, IsIntervalAfter}
-
-past_end : {A : Type 0} (xs : List A) (i : ℕ) → slice_get xs i ≡ None → length xs ≤ i
-past_end [] i e = omega arith
-past_end (x ∷ xs) zero e = absurd (cc)
-past_end (x ∷ xs) (suc i) e = omega (arith, past_end xs i e)
 
 module _ (T : Run) (opening : List Value) (rs : List StateRecord) (h : Holds T opening rs) (t : ℕ) where
   pub absent : None ≡ slice_get rs t → ¬ (t < born T (len T))
@@ -21,12 +17,6 @@ module _ (T : Run) (opening : List Value) (rs : List StateRecord) (h : Holds T o
 
   pub exists : (r : StateRecord) → Some r ≡ slice_get rs t → t < born T (len T)
   exists r e = omega (arith, slice_get_within rs t r (sym e), h.count)
-
-  pub no_state : None ≡ slice_get rs t → ¬ IsPresent T t
-  no_state e p = absent e p.exists
-
-  pub no_saved : None ≡ slice_get rs t → ¬ HasClosed T t
-  no_saved e p = absent e p.exists
 
   pub interval_is : (r : StateRecord) → Some r ≡ slice_get rs t → IsIntervalAfter T t (Some r.interval)
   interval_is r e = (exists r e, (h.each t r (sym e)).interval)

@@ -4,6 +4,7 @@ use Rattle.std.specs.Prelude.{slice_get, option_and_then}
 use Rattle.std.specs.Option.{option_map, option_map_or}
 use Rattle.std.proofs.lemmas.Option.{slice_get_within, slice_get-map}
 use Rattle.std.proofs.lemmas.List.{length-map}
+use Rattle.std.proofs.lemmas.Bool.{cases_eq}
 use Rattle.tau_value.specs.declared.shared.Value.{Value}
 use Rattle.tau_tree.specs.declared.starts.Start.{Start}
 use Rattle.tau_history.specs.Timeline.{Timeline, interval, opening, newborn}
@@ -19,7 +20,6 @@ use Rattle.tau_trace.specs.Known.{MayFollow, WellFormed}
 use Rattle.tau_trace.proofs.Counts.{count-zero, count-le}
 use Rattle.tau_trace.proofs.Counted.{history-zero, counted}
 use Rattle.tau_trace.proofs.Lists.{same_some, slice_get-set_same, slice_get-set_other, slice_get-push_cases}
-use Rattle.tau_trace.proofs.LivingLemmas.{equal_or_not}
 use Rattle.tau_trace.proofs.Sequences.{cases_last}
 use Rattle.tau_trace.proofs.Quiet.{IsQuiet, quiet_history, quiet_end, known_actor, unborn_quiet, acts}
 use Rattle.tau_trace.proofs.Agreement.{agree_appended, step_at-appended, born-same}
@@ -36,7 +36,7 @@ use Rattle.tau_states.proofs.Stepping.{describes_own, describes_other}
 abbrev one_if : Bool → ℕ
 one_if b = cond b 1 0
 
-one_at_most : (b : Bool) → one_if b ≤ 1
+pub one_at_most : (b : Bool) → one_if b ≤ 1
 one_at_most true = omega arith
 one_at_most false = omega arith
 
@@ -80,7 +80,7 @@ noted-cases s rs (Some u) t r e = by (slice_get rs u) refl e where
   by (Some q) f g = ⊎_elim
       (λ (x : t ≡ u). own (ap Some (sym x)) q (ap (slice_get rs) x ∙ f) (same_some (sym (slice_get-set_same rs u (record_after s q) (slice_get_within rs u q f)) ∙ ap (slice_get (set rs u (record_after s q))) (sym x) ∙ g)))
       (λ ne. other (λ x. ne (sym (same_some x))) (sym (slice_get-set_other rs u t (record_after s q) ne) ∙ g))
-      (equal_or_not t u)
+      (cases_eq t u)
 
 length-noted : (s : Step) (rs : List StateRecord) (o : Option ℕ) → length (noted_of s rs o) ≡ length rs
 length-noted s rs None = refl
@@ -167,7 +167,7 @@ holds_new T opening rs u b n v w may h = record {
   old t r e = ⊎_elim
       (λ (x : t ≡ u). own_after T (New u b n v) opening rs may h t r e (ap Some (sym x)))
       (λ ne. other_after T (New u b n v) opening rs may h t r e (λ x. ne (sym (same_some x))))
-      (equal_or_not t u)
+      (cases_eq t u)
 
   new : (t : ℕ) (r : StateRecord) → (t ≡ length rs) × (created v v ≡ r) → Describes (appended T (New u b n v)) opening t (suc (len T)) r
   new t r p =

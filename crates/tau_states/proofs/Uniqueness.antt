@@ -1,5 +1,6 @@
 -- A transactor has one state at a point, and saved one value with an interval.
 use Rattle.std.proofs.Common.{◌≡◌, ◌⊎◌, inl, inr, ⊎_elim, ℕ, suc, ◌<◌, ◌≤◌, Bool, cond, List, [], ◌∷◌, length-append, lt-ltb, Some, refl, sym, ap, ◌∙◌, subst, arith}
+use Rattle.std.proofs.lemmas.Bool.{cases_order}
 use Rattle.tau_value.specs.declared.shared.Value.{Value}
 use Rattle.tau_history.specs.Timeline.{interval, close, moved}
 use Rattle.tau_points.specs.declared.point.Point.{Point}
@@ -13,9 +14,6 @@ use Rattle.tau_trace.proofs.Lists.{same_some}
 use Rattle.tau_trace.proofs.Once.{new_once}
 use Rattle.tau_past.specs.Carried.{is_set}
 use Rattle.tau_past.specs.States.{StateAt, SavedWith, by_set, by_new, by_save, at_opening, at_checkpoint}
-
-three_cases : (i j : ℕ) → (i < j) ⊎ ((i ≡ j) ⊎ (j < i))
-three_cases i j = grind arith
 
 -- the Set at place j, as a step of t
 the_set : (T : Run) (t j : ℕ) (v : Value) → step_at T j ≡ Some (Set t v) → Does is_set T t j
@@ -46,19 +44,19 @@ start_above T t j i l z e = omega (arith, (counted T t j).interval_is, ap one_if
 
 -- one Checkpoint ends an interval
 close_once : (T : Run) (t j l : ℕ) → Closes T t j → Closes T t l → (point_at T t j).interval ≡ (point_at T t l).interval → j ≡ l
-close_once T t j l c d e = ⊎_elim (λ b. absurd (not_after j l c b e)) (λ r. ⊎_elim (λ x. x) (λ b. absurd (not_after l j d b (sym e))) r) (three_cases j l) where
+close_once T t j l c d e = ⊎_elim (λ x. x) (λ r. ⊎_elim (λ b. absurd (not_after j l c b e)) (λ b. absurd (not_after l j d b (sym e))) r) (cases_order j l) where
   not_after : (a b : ℕ) → Closes T t a → a < b → ¬ ((point_at T t a).interval ≡ (point_at T t b).interval)
   not_after a b c lt e = omega (arith, closes_later T t a c, up_to_interval (point_at T t (suc a)) (point_at T t b) ((points_grow T t b).grows (suc a) lt))
 
 mutual
   pub state_once : (T : Run) (opening : List Value) (q : Point) (k : ℕ) (v w : Value) → StateAt T opening q k v → StateAt T opening q k w → v ≡ w
   state_once T opening q k v w (by_set {j = i} e at b none) (by_set {j = j} f to c nor) = ⊎_elim
-      (λ l. absurd (none j l c (the_set T q.who j w f) to))
-      (λ r. ⊎_elim
       (λ (s : i ≡ j). same_value q.who q.who v w (same_some (sym e ∙ ap (step_at T) s ∙ f)))
+      (λ r. ⊎_elim
+      (λ l. absurd (none j l c (the_set T q.who j w f) to))
       (λ l. absurd (nor i l b (the_set T q.who i v e) at))
       r)
-      (three_cases i j)
+      (cases_order i j)
   state_once T opening q k v w (by_set {j = i} e at b none) (by_new birth is first nor) = absurd (nor i (omega arith) b (the_set T q.who i v e) at)
   state_once T opening q k v w (by_set {j = i} e at b none) (by_save is saved nor) = absurd (nor i (omega arith) b (the_set T q.who i v e) at)
   state_once T opening q k v w (by_new birth is first none) (by_set {j = j} f to c nor) = absurd (none j (omega arith) c (the_set T q.who j w f) to)

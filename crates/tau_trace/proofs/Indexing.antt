@@ -1,21 +1,22 @@
 -- What a trace keeps beside its run, at the opening and after a step.
-use Rattle.std.proofs.Common.{◌≡◌, ◌≢◌, ◌⊎◌, inl, inr, ⊎_elim, ℕ, zero, suc, ◌+◌, ◌^◌, ◌<◌, ◌≤◌, Bool, true, false, cond, eqb, ltb, List, [], ◌∷◌, ◌++◌, length, map, set, All, get_or, Option, Some, None, refl, sym, ap, ◌∙◌, subst, arith, length-append, length-set, ltb-true, lt-ltb}
+use Rattle.std.proofs.Common.{◌≡◌, ◌⊎◌, inl, inr, ⊎_elim, ℕ, suc, ◌+◌, ◌^◌, ◌<◌, ◌≤◌, Bool, true, false, cond, eqb, ltb, List, [], ◌∷◌, ◌++◌, length, map, set, Option, Some, None, refl, sym, ap, ◌∙◌, subst, arith, length-append, length-set, ltb-true, lt-ltb}
 use Rattle.std.specs.Prelude.{slice_get, option_and_then}
 use Rattle.std.specs.Option.{option_map_or, option_or, option_map}
-use Rattle.std.proofs.lemmas.Option.{slice_get_within, slice_get-map, slice_get-get_or}
+use Rattle.std.proofs.lemmas.Option.{slice_get_within, slice_get-map}
 use Rattle.std.proofs.lemmas.List.{length-map}
+use Rattle.std.proofs.lemmas.Bool.{cases_eq}
 use Rattle.tau_value.specs.declared.shared.Value.{Value}
-use Rattle.tau_history.specs.Timeline.{Timeline, interval, opening, newborn}
+use Rattle.tau_history.specs.Timeline.{interval, opening, newborn}
 use Rattle.tau_trace.specs.declared.opening.Opening.{Opening}
 use Rattle.tau_trace.specs.declared.step.Step.{Step}
-use Rattle.tau_trace.specs.declared.step.Step.TheVariants.{Take, Drop, Fall, Void, Get, Set, Skip, Send, New, Stabilize, Ask, Checkpoint, Hold, Rollback, Stay, Done, Trap, Fail, Lose}
+use Rattle.tau_trace.specs.declared.step.Step.TheVariants.{Send, New}
 use Rattle.tau_trace.specs.declared.transactor.Transactor.{Transactor}
 use Rattle.tau_trace.specs.declared.message.Message.{Message}
 use Rattle.tau_trace.specs.Steps.{actor, removed_by, is_new, is_send}
-use Rattle.tau_trace.specs.Run.{Run, len, step_at, starts, appended, Agree, ActsAt}
-use Rattle.tau_trace.specs.Places.{count_below, IsFirst}
-use Rattle.tau_trace.specs.Numbering.{born, sent, IsNew, IsOrigin, Receives, post, message, IsHome, start, created, Removes}
-use Rattle.tau_trace.specs.Histories.{history, opened, EndsAt}
+use Rattle.tau_trace.specs.Run.{Run, len, step_at, starts, appended, Agree}
+use Rattle.tau_trace.specs.Places.{IsFirst}
+use Rattle.tau_trace.specs.Numbering.{born, sent, post, message, start, created, Removes}
+use Rattle.tau_trace.specs.Histories.{history, EndsAt}
 use Rattle.tau_trace.specs.Turns.{IsOpenTurn}
 use Rattle.tau_trace.specs.Known.{IsSound, IsKnown, IsKnownAt, MayFollow, WellFormed}
 use Rattle.tau_trace.specs.Tracking.{Tracks, TracksAll, transactor_after, opened_at, created_at}
@@ -24,10 +25,9 @@ use Rattle.tau_trace.specs.Stored.{noted_at, noted_of, with_new, transactors_aft
 use Rattle.tau_trace.proofs.Lists.{same_some, slice_get-set_same, slice_get-set_other, slice_get-front, slice_get-last, slice_get-push_cases}
 use Rattle.tau_trace.proofs.Counts.{count-suc, count-zero, count-le}
 use Rattle.tau_trace.proofs.Counted.{history-zero}
-use Rattle.tau_trace.proofs.Agreement.{agree_appended, agree_below, agree_sym, step_at-appended, born-same, sent-same, history-same, ends-same, removes-same, does-same, home-same, receives-same, same_at}
+use Rattle.tau_trace.proofs.Agreement.{agree_appended, agree_below, agree_sym, step_at-appended, born-same, sent-same, ends-same, removes-same, home-same, receives-same, same_at}
 use Rattle.tau_trace.proofs.TrackingLemmas.{tracks_own, tracks_other, first-not, first-here, first-later}
-use Rattle.tau_trace.proofs.Quiet.{IsQuiet, quiet_history, quiet_turn, quiet_end, known_actor, known_removed, unborn_quiet, unsent_kept, acts_born, removes_sent}
-use Rattle.tau_trace.proofs.LivingLemmas.{equal_or_not}
+use Rattle.tau_trace.proofs.Quiet.{IsQuiet, quiet_history, quiet_turn, quiet_end, known_actor, known_removed, unborn_quiet, unsent_kept}
 use Rattle.tau_trace.proofs.Sequences.{cases_last}
 
 abbrev one_if : Bool → ℕ
@@ -146,7 +146,7 @@ noted-cases s k ts (Some u) t r e = by (slice_get ts u) refl e where
   by (Some q) f g = ⊎_elim
       (λ (x : t ≡ u). own (ap Some (sym x)) q (ap (slice_get ts) x ∙ f) (same_some (sym (slice_get-set_same ts u (transactor_after s k q) (slice_get_within ts u q f)) ∙ ap (slice_get (set ts u (transactor_after s k q))) (sym x) ∙ g)))
       (λ ne. other (λ x. ne (sym (same_some x))) (sym (slice_get-set_other ts u t (transactor_after s k q) ne) ∙ g))
-      (equal_or_not t u)
+      (cases_eq t u)
 
 not_below : (a b : ℕ) → ¬ (a < b) → ltb a b ≡ false
 not_below a b n = by (ltb a b) refl where
@@ -241,7 +241,7 @@ removed-cases k ms (Some u) m r e = by (slice_get ms u) refl e where
   by (Some q) f g = ⊎_elim
       (λ (x : m ≡ u). own_message (ap Some (sym x)) q (ap (slice_get ms) x ∙ f) (same_some (sym (slice_get-set_same ms u (removed_at k q) (slice_get_within ms u q f)) ∙ ap (slice_get (set ms u (removed_at k q))) (sym x) ∙ g)))
       (λ ne. other_message (λ x. ne (sym (same_some x))) (sym (slice_get-set_other ms u m (removed_at k q) ne) ∙ g))
-      (equal_or_not m u)
+      (cases_eq m u)
 
 -- the record of a message after a step that takes it out of flight
 removed_own : (T : Run) (k m : ℕ) (q : Message) → Removes T m k → TracksMessage T k m q → TracksMessage T (suc k) m (removed_at k q)

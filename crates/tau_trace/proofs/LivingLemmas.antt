@@ -1,9 +1,10 @@
 -- The lists of living transactors, beside the records of all.
-use Rattle.std.proofs.Common.{◌≡◌, ◌≢◌, ◌↔◌, ◌⊎◌, inl, inr, ⊎_elim, ℕ, zero, suc, ◌+◌, ◌<◌, ◌≤◌, Bool, true, false, List, [], ◌∷◌, ◌++◌, length, set, get_or, All, Contains, Option, Some, None, refl, sym, ap, ◌∙◌, subst, arith, length-append, length-set}
+use Rattle.std.proofs.Common.{◌≡◌, ◌≢◌, ◌↔◌, ◌⊎◌, ⊎_elim, ℕ, ◌+◌, ◌<◌, ◌≤◌, Bool, true, false, List, [], ◌∷◌, ◌++◌, length, set, get_or, All, Contains, Option, Some, None, refl, sym, ap, ◌∙◌, subst, arith, length-set}
 use Rattle.std.specs.Prelude.{slice_get, is_none, is_some, ◌&&◌}
-use Rattle.std.proofs.lemmas.List.{get_or-set_same, get_or-set_other, get_or_default, get_or_past}
+use Rattle.std.proofs.lemmas.List.{get_or-set_same, get_or-set_other, get_or_default}
 use Rattle.std.proofs.lemmas.List.Elements.{Contains-append_left, Contains-push, Contains-push_cases}
 use Rattle.std.proofs.lemmas.Option.{slice_get_within}
+use Rattle.std.proofs.lemmas.Bool.{cases_eq}
 use Rattle.tau_history.specs.Timeline.{Move, keep, stabilize, close, fall}
 use Rattle.tau_trace.specs.declared.step.Step.{Step}
 use Rattle.tau_trace.specs.Histories.{move_of}
@@ -12,9 +13,6 @@ use Rattle.tau_trace.specs.declared.transactor.Transactor.{Transactor}
 use Rattle.tau_trace.specs.Ascending.{WithRoom, IsLeastMember}
 use Rattle.tau_trace.specs.Living.{ChangesAt, Keeps, Gains, Loses, no_list, Stands, Lives, IsLivingIndex, IsLeastLiving}
 use Rattle.tau_trace.proofs.Lists.{same_some, slice_get-set_same, slice_get-set_other, slice_get-front, slice_get-last, slice_get-push_cases}
-
-pub equal_or_not : (a b : ℕ) → (a ≡ b) ⊎ (a ≢ b)
-equal_or_not a b = grind arith
 
 abbrev list_at : List WithRoom → ℕ → WithRoom
 list_at lists n = get_or lists n no_list
@@ -44,20 +42,20 @@ index_kept ts old new full i l c x = record {
   numbers n = ⊎_elim
       (λ e. ap (λ k. (list_at new k).numbers) e ∙ ap (λ a. a.numbers) (changed i old new l c) ∙ (c.related no_list).0 ∙ ap (λ k. (list_at old k).numbers) (sym e))
       (λ ne. ap (λ a. a.numbers) (unchanged i n old new ne c))
-      (equal_or_not n i)
+      (cases_eq n i)
 
   rooms : (n : ℕ) → (list_at old n).room ≤ (list_at new n).room
   rooms n = ⊎_elim
       (λ e. omega (arith, ap (λ k. (list_at new k).room) e, ap (λ a. a.room) (changed i old new l c), (c.related no_list).1, ap (λ k. (list_at old k).room) e))
       (λ ne. omega (arith, ap (λ a. a.room) (unchanged i n old new ne c)))
-      (equal_or_not n i)
+      (cases_eq n i)
 
 -- where the full list has room again, all have
 pub index_ready : (ts : List Transactor) (lists : List WithRoom) (i : ℕ) → 1 ≤ (list_at lists i).room → IsLivingIndex ts lists (Some i) → IsLivingIndex ts lists None
 index_ready ts lists i r x = record {
   members = x.members;
   homes = x.homes;
-  room = λ n h ne. ⊎_elim (λ (e : n ≡ i). omega (arith, r, ap (λ k. (list_at lists k).room) e)) (λ other. x.room n h (λ e. other (sym (same_some e)))) (equal_or_not n i);
+  room = λ n h ne. ⊎_elim (λ (e : n ≡ i). omega (arith, r, ap (λ k. (list_at lists k).room) e)) (λ other. x.room n h (λ e. other (sym (same_some e)))) (cases_eq n i);
   full_within = λ n e. absurd (cc);
 }
 
@@ -76,7 +74,7 @@ pub index_added : (ts : List Transactor) (old new : List WithRoom) (r : Transact
 index_added ts old new r l living c x = record {
   members = λ n t. (to n t, from n t);
   homes = λ t q e. ⊎_elim (λ f. omega (arith, x.homes t q f, same_length r.home old new c)) (λ f. omega (arith, l, ap (λ a. a.home) f.1, same_length r.home old new c)) (slice_get-push_cases ts r q t e);
-  room = λ n h ne. ⊎_elim (λ e. absurd (ne (ap Some (sym e)))) (λ other. omega (arith, x.room n (omega (arith, h, same_length r.home old new c)) (λ e. cc), ap (λ a. a.room) (unchanged r.home n old new other c))) (equal_or_not n r.home);
+  room = λ n h ne. ⊎_elim (λ e. absurd (ne (ap Some (sym e)))) (λ other. omega (arith, x.room n (omega (arith, h, same_length r.home old new c)) (λ e. cc), ap (λ a. a.room) (unchanged r.home n old new other c))) (cases_eq n r.home);
   full_within = λ n e. omega (arith, l, same_some e, same_length r.home old new c);
 } where
   here : (list_at new r.home).numbers ≡ (list_at old r.home).numbers ++ length ts ∷ []
@@ -91,7 +89,7 @@ index_added ts old new r l living c x = record {
   }
 
   to : (n t : ℕ) → Stands new n t → Lives (ts ++ r ∷ []) n t
-  to n t s = ⊎_elim at other (equal_or_not n r.home) where
+  to n t s = ⊎_elim at other (cases_eq n r.home) where
     other : n ≢ r.home → Lives (ts ++ r ∷ []) n t
     other ne = lifted n t ((x.members n t).0 (along _ _ t (ap (λ a. a.numbers) (unchanged r.home n old new ne c)) s))
 
@@ -109,7 +107,7 @@ index_added ts old new r l living c x = record {
         ⊎_elim
         (λ (f : n ≡ r.home). along _ _ t (sym (ap (λ k. (list_at new k).numbers) f ∙ here)) (Contains-append_left (list_at old r.home).numbers (length ts ∷ []) t (along _ _ t (ap (λ k. (list_at old k).numbers) f) stood)))
         (λ ne. along _ _ t (sym (ap (λ a. a.numbers) (unchanged r.home n old new ne c))) stood)
-        (equal_or_not n r.home)
+        (cases_eq n r.home)
 
     new_one : (t ≡ length ts) × (r ≡ v.transactor) → Stands new n t
     new_one p =
@@ -127,7 +125,7 @@ homes_set : (ts : List Transactor) (who : ℕ) (r q : Transactor) (m : ℕ) → 
 homes_set ts who r q m e f h t a g = ⊎_elim
     (λ (i : t ≡ who). let is : q ≡ a = same_some (sym (slice_get-set_same ts who q (slice_get_within ts who r e)) ∙ ap (slice_get (set ts who q)) (sym i) ∙ g) in omega (arith, h who r e, f, ap (λ b. b.home) is))
     (λ ne. h t a (sym (slice_get-set_other ts who t q ne) ∙ g))
-    (equal_or_not t who)
+    (cases_eq t who)
 
 -- the index after a step that didn't end its transactor
 pub index_same : (ts : List Transactor) (lists : List WithRoom) (full : Option ℕ) (who : ℕ) (r q : Transactor) → slice_get ts who ≡ Some r → q.home ≡ r.home → ((r.end ≡ None) ↔ (q.end ≡ None)) → IsLivingIndex ts lists full → IsLivingIndex (set ts who q) lists full
@@ -150,7 +148,7 @@ index_same ts lists full who r q e home same x = record {
   lives n t = ⊎_elim
       (λ (i : t ≡ who). subst (λ k. Lives ts n k ↔ Lives (set ts who q) n k) (sym i) (at_who n))
       (λ ne. lives_other ts who n t q ne)
-      (equal_or_not t who)
+      (cases_eq t who)
 
 -- the index after a step that ended its transactor
 pub index_ended : (ts : List Transactor) (old new : List WithRoom) (full : Option ℕ) (who : ℕ) (r q : Transactor) → slice_get ts who ≡ Some r → q.home ≡ r.home → q.end ≢ None → ChangesAt r.home (Loses who) old new → IsLivingIndex ts old full → IsLivingIndex (set ts who q) new full
@@ -170,13 +168,13 @@ index_ended ts old new full who r q e home ended c x = record {
   rooms n = ⊎_elim
       (λ f. omega (arith, ap (λ k. (list_at new k).room) f, ap (λ a. a.room) at_home, (c.related no_list).1, ap (λ k. (list_at old k).room) f))
       (λ ne. omega (arith, ap (λ a. a.room) (unchanged r.home n old new ne c)))
-      (equal_or_not n r.home)
+      (cases_eq n r.home)
 
   gone : (n : ℕ) → ¬ Lives (set ts who q) n who
   gone n v = ended (ap (λ a. a.end) (sym (same_some (sym v.stands ∙ written))) ∙ v.end_is)
 
   to : (n t : ℕ) → Stands new n t → Lives (set ts who q) n t
-  to n t s = ⊎_elim at other (equal_or_not n r.home) where
+  to n t s = ⊎_elim at other (cases_eq n r.home) where
     at : n ≡ r.home → Lives (set ts who q) n t
     at f =
         let stood = ((c.related no_list).0 t).0 (along _ _ t (ap (λ k. (list_at new k).numbers) f ∙ ap (λ a. a.numbers) at_home) s) in
@@ -195,25 +193,7 @@ index_ended ts old new full who r q e home ended c x = record {
       ⊎_elim
       (λ (f : n ≡ r.home). along _ _ t (sym (ap (λ k. (list_at new k).numbers) f ∙ ap (λ a. a.numbers) at_home)) (((c.related no_list).0 t).1 (along _ _ t (ap (λ k. (list_at old k).numbers) f) stood, not_who)))
       (λ ne. along _ _ t (sym (ap (λ a. a.numbers) (unchanged r.home n old new ne c))) stood)
-      (equal_or_not n r.home)
-
--- no transactors, at nodes with room for one
-pub index_empty : (lists : List WithRoom) → All (λ a. (a.numbers ≡ []) × (a.room ≡ 1)) lists → IsLivingIndex [] lists None
-index_empty lists h = record {
-  members = λ n t. (λ s. absurd (none n t s), λ v. absurd (let e = v.stands in cc));
-  homes = λ t r e. absurd (cc);
-  room = λ n l ne. omega (arith, (h n no_list l).1);
-  full_within = λ n e. absurd (cc);
-} where
-  empty : (n : ℕ) → (n < length lists) ⊎ (length lists ≤ n) → (list_at lists n).numbers ≡ []
-  empty n (inl l) = (h n no_list l).0
-  empty n (inr g) = ap (λ a. a.numbers) (get_or_past lists n no_list g)
-
-  cases : (n : ℕ) → (n < length lists) ⊎ (length lists ≤ n)
-  cases n = grind arith
-
-  none : (n t : ℕ) → ¬ Stands lists n t
-  none n t s = omega (arith, s.1, ap length (empty n (cases n)))
+      (cases_eq n r.home)
 
 -- the least of a node's list is the least that lives there
 pub least_living : (ts : List Transactor) (lists : List WithRoom) (full : Option ℕ) (n from : ℕ) (o : Option ℕ) → IsLivingIndex ts lists full → IsLeastMember from (list_at lists n).numbers o → IsLeastLiving ts n from o

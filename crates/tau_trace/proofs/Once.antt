@@ -1,19 +1,15 @@
 -- Each number is made once: a transactor has one node, a message one receiver.
-use Rattle.std.proofs.Common.{◌≡◌, ◌⊎◌, inl, inr, ⊎_elim, ℕ, zero, suc, ◌+◌, ◌<◌, ◌≤◌, length, Option, Some, None, refl, sym, ap, ◌∙◌, subst, arith}
-use Rattle.std.specs.Prelude.{slice_get}
+use Rattle.std.proofs.Common.{◌≡◌, ◌⊎◌, ⊎_elim, ℕ, suc, ◌+◌, sym, ap, ◌∙◌, arith}
 use Rattle.std.proofs.lemmas.Option.{slice_get_within}
+use Rattle.std.proofs.lemmas.Bool.{cases_order}
 use Rattle.tau_value.specs.declared.shared.Value.{Value}
-use Rattle.tau_trace.specs.declared.step.Step.{Step}
 use Rattle.tau_trace.specs.declared.step.Step.TheVariants.{Send, New}
-use Rattle.tau_trace.specs.Run.{Run, step_at, len, starts}
+use Rattle.tau_trace.specs.Run.{Run, step_at}
 use Rattle.tau_trace.specs.Numbering.{born, sent, IsNew, IsOrigin, Receives, post, message, IsHome, start, created}
 use Rattle.tau_trace.specs.Known.{IsSound}
 use Rattle.tau_trace.proofs.Lists.{same_some}
 use Rattle.tau_trace.proofs.Agreement.{born-grows, sent-grows}
 use Rattle.tau_trace.proofs.Indexing.{born-next, sent-next}
-
-cases : (i j : ℕ) → (i < j) ⊎ ((i ≡ j) ⊎ (j < i))
-cases i j = grind arith
 
 pub new-rises : (T : Run) (j by u : ℕ) → IsNew T j by u → born T (suc j) ≡ born T j + 1
 new-rises T j by u n = born-next T j (New by n.behaviour n.node n.state) n.stands
@@ -24,16 +20,16 @@ origin-rises T j by m o = sent-next T j (Send by o.to o.value) o.stands
 -- one New makes a transactor
 pub new_once : (T : Run) (i j by other u : ℕ) → IsNew T i by u → IsNew T j other u → i ≡ j
 new_once T i j by other u a b = ⊎_elim
-    (λ l. absurd (omega (arith, a.made, b.made, new-rises T i by u a, born-grows T (suc i) j l)))
-    (λ r. ⊎_elim (λ e. e) (λ l. absurd (omega (arith, a.made, b.made, new-rises T j other u b, born-grows T (suc j) i l))) r)
-    (cases i j)
+    (λ e. e)
+    (λ r. ⊎_elim (λ l. absurd (omega (arith, a.made, b.made, new-rises T i by u a, born-grows T (suc i) j l))) (λ l. absurd (omega (arith, a.made, b.made, new-rises T j other u b, born-grows T (suc j) i l))) r)
+    (cases_order i j)
 
 -- one Send makes a message
 pub origin_once : (T : Run) (i j by other m : ℕ) → IsOrigin T i by m → IsOrigin T j other m → i ≡ j
 origin_once T i j by other m a b = ⊎_elim
-    (λ l. absurd (omega (arith, a.made, b.made, origin-rises T i by m a, sent-grows T (suc i) j l)))
-    (λ r. ⊎_elim (λ e. e) (λ l. absurd (omega (arith, a.made, b.made, origin-rises T j other m b, sent-grows T (suc j) i l))) r)
-    (cases i j)
+    (λ e. e)
+    (λ r. ⊎_elim (λ l. absurd (omega (arith, a.made, b.made, origin-rises T i by m a, sent-grows T (suc i) j l))) (λ l. absurd (omega (arith, a.made, b.made, origin-rises T j other m b, sent-grows T (suc j) i l))) r)
+    (cases_order i j)
 
 same_node : (a b c d : ℕ) (v w : Value) (x y : ℕ) → New x a b v ≡ New y c d w → b ≡ d
 same_node a b c d v w x y e = cc

@@ -1,28 +1,27 @@
 -- What the readers of a trace find in its records.
-use Rattle.std.proofs.Common.{◌≡◌, ◌↔◌, ◌⊎◌, inl, inr, ⊎_elim, ℕ, zero, suc, ◌+◌, ◌<◌, ◌≤◌, List, [], ◌∷◌, length, Option, Some, None, refl, sym, ap, ◌∙◌, subst, arith}
+use Rattle.std.proofs.Common.{◌≡◌, ℕ, zero, suc, ◌<◌, ◌≤◌, List, [], ◌∷◌, length, Option, Some, None, refl, subst, arith}
 use Rattle.std.specs.Prelude.{slice_get}
 use Rattle.std.proofs.lemmas.Option.{slice_get_within}
 use Rattle.tau_trace.specs.declared.transactor.Transactor.{Transactor}
 use Rattle.tau_trace.specs.declared.message.Message.{Message}
 use Rattle.tau_trace.specs.Run.{Run, len}
 use Rattle.tau_trace.specs.Places.{IsFirst}
-use Rattle.tau_trace.specs.Numbering.{born, sent, IsHome, Receives, Removes}
+use Rattle.tau_trace.specs.Numbering.{born, sent, IsHome, Removes}
 use Rattle.tau_trace.specs.Histories.{EndsAt}
 use Rattle.tau_trace.specs.Turns.{IsOpenTurn}
-use Rattle.tau_trace.specs.Known.{WellFormed}
-use Rattle.tau_trace.specs.Tracking.{Tracks, TracksAll}
+use Rattle.tau_trace.specs.Tracking.{Tracks}
 use Rattle.tau_trace.specs.Living.{Tracked, Lives, IsLeastLiving}
 use Rattle.tau_trace.specs.Nodes.{LivesAt, IsNextLiving}
 use Rattle.tau_trace.specs.Stored.{IsIndexed, TracksMessage}
 use Rattle.tau_trace.proofs.Quiet.{quiet_turn, quiet_end, unborn_quiet, unsent_kept}
 use Rattle.tau_trace.proofs.Once.{home_once}
 
-past_end : {A : Type 0} (xs : List A) (i : ℕ) → slice_get xs i ≡ None → length xs ≤ i
+pub past_end : {A : Type 0} (xs : List A) (i : ℕ) → slice_get xs i ≡ None → length xs ≤ i
 past_end [] i e = omega arith
 past_end (x ∷ xs) zero e = absurd (cc)
 past_end (x ∷ xs) (suc i) e = omega (arith, past_end xs i e)
 
-element : {A : Type 0} (xs : List A) (i : ℕ) → i < length xs → (x : A) × (slice_get xs i ≡ Some x)
+pub element : {A : Type 0} (xs : List A) (i : ℕ) → i < length xs → (x : A) × (slice_get xs i ≡ Some x)
 element [] i l = absurd (omega arith)
 element (x ∷ xs) zero l = (x, refl)
 element (x ∷ xs) (suc i) l = element xs i (omega arith)
@@ -45,9 +44,6 @@ module _ (T : Run) (made : List ℕ) (tracked : Tracked) (records : List Message
 
   pub tracks_message : (m : ℕ) (r : Message) → slice_get records m ≡ Some r → TracksMessage T (len T) m r
   tracks_message = x.messages.each
-
-  pub message_exists : (m : ℕ) (r : Message) → slice_get records m ≡ Some r → m < sent T (len T)
-  message_exists m r e = omega (arith, slice_get_within records m r e, x.messages.count)
 
   pub message_absent : (m : ℕ) → slice_get records m ≡ None → sent T (len T) ≤ m
   message_absent m e = omega (arith, past_end records m e, x.messages.count)

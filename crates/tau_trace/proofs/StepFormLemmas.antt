@@ -1,34 +1,31 @@
 -- The forms of steps: how deep they are, and that they tell the steps.
-use Rattle.std.proofs.Common.{◌≡◌, ◌≢◌, ◌⊎◌, inl, inr, ⊎_elim, ℕ, zero, suc, ◌+◌, ◌^◌, ◌<◌, ◌≤◌, Bool, true, false, List, [], ◌∷◌, ◌++◌, length, get_or, All, Option, Some, None, option_map, refl, sym, ap, ◌∙◌, subst, arith, codes, unwrap_or, slice_get, max, if◌then◌else◌}
-use Rattle.std.specs.Fmt.{decimal}
+use Rattle.std.proofs.Common.{◌≡◌, ◌≢◌, ◌⊎◌, ⊎_elim, ℕ, zero, suc, ◌^◌, ◌<◌, ◌≤◌, Bool, true, false, List, [], ◌∷◌, length, Option, Some, None, option_map, refl, sym, ap, ◌∙◌, subst, arith, codes, unwrap_or, slice_get, if◌then◌else◌}
 use Rattle.std.specs.Str.{bytes_eq}
-use Rattle.std.proofs.lemmas.Fmt.{decimal_nonempty}
-use Rattle.std.proofs.lemmas.Option.{slice_get_cases, slice_get_within}
+use Rattle.std.proofs.lemmas.Option.{slice_get_within}
 use Rattle.std.specs.Prelude.{Result, Ok, Err, IfOk, OnOk}
 use Rattle.std.specs.declared.alloc.AllocError.{AllocError}
 use Rattle.tau_sexpr.specs.Form.{tree_of}
 use Rattle.tau_sexpr.specs.declared.trees.Form.{Form}
-use Rattle.tau_sexpr.specs.Tree.{Tree, Trees, word, text, list, none, more, inside, depth_of, depth_of_all, HasWords, AllHaveWords}
+use Rattle.tau_sexpr.specs.Tree.{Tree, Trees, word, text, list, none, more, inside, depth_of, HasWords, AllHaveWords}
 use Rattle.tau_value.specs.Val as val
-use Rattle.tau_value.specs.Val.{Val, Vals, items_of, items_of-inside}
-use Rattle.tau_value.specs.Value.{val_of}
-use Rattle.tau_value.specs.Names.{IsName, AreNames}
+use Rattle.tau_value.specs.Val.{Val}
+use Rattle.tau_value.specs.Names.{AreNames}
 use Rattle.tau_value.specs.Numbers.{count_in}
-use Rattle.tau_value.specs.Sizes.{IsInBounds, NamesBelow, levels_of}
+use Rattle.tau_value.specs.Sizes.{IsInBounds}
 use Rattle.tau_value.specs.Meaning.{counted, named}
-use Rattle.tau_value.specs.Written.{name_written, written, ReadsBack}
+use Rattle.tau_value.specs.Written.{name_written}
 use Rattle.tau_value.specs.declared.shared.Value.{Value}
-use Rattle.tau_value.specs.declared.shared.Value.TheVariants as values
 use Rattle.tau_value.proofs.NumberLemmas.{count_in-decimal}
-use Rattle.tau_value.proofs.WrittenLemmas.{reads_back}
+use Rattle.tau_value.proofs.WrittenLemmas.{reads_back, number_nonempty, decimal_filled}
+use Rattle.tau_value.proofs.ValueLemmas.{value_at, value_at-val_of}
 use Rattle.tau_trace.specs.declared.opening.Opening.{Opening}
 use Rattle.tau_trace.specs.declared.step.Step.{Step}
 use Rattle.tau_trace.specs.declared.step.Step.TheVariants.{Take, Drop, Fall, Void, Get, Set, Skip, Send, New, Stabilize, Ask, Checkpoint, Hold, Rollback, Stay, Done, Trap, Fail, Lose}
-use Rattle.tau_trace.specs.Run.{Run, Agree, len, step_at}
+use Rattle.tau_trace.specs.Run.{Run, step_at}
 use Rattle.tau_trace.specs.Numbering.{born, sent}
 use Rattle.tau_trace.specs.Known.{IsSound, IsKnown, IsKnownValue, WellFormed}
 use Rattle.tau_trace.specs.Stored.{number_made}
-use Rattle.tau_trace.specs.StepForms.{kind_word, who_form, count_form, truth_form, behaviour_form, value_form, item_forms, step_form, step_form_at, IsWritten, ValueIsWritten, IsWrittenAt}
+use Rattle.tau_trace.specs.StepForms.{kind_word, who_form, count_form, truth_form, value_form, item_forms, step_form, step_form_at, IsWritten, ValueIsWritten, IsWrittenAt}
 use Rattle.tau_trace.proofs.Agreement.{born-same}
 use Rattle.tau_trace.proofs.Indexing.{born-le, sent-le}
 use Rattle.tau_trace.proofs.Lists.{same_some}
@@ -52,14 +49,6 @@ count_at t = unwrap_or (count_in (word_in t)) 0
 
 truth_in : Tree → Bool
 truth_in t = bytes_eq (word_in t) (codes "true")
-
-value_at : Val → Value
-value_at val.unit = values.Unit
-value_at (val.truth b) = values.Truth b
-value_at (val.int z) = values.Int z
-value_at (val.text t) = values.Text t
-value_at (val.name n) = values.Name n
-value_at (val.list vs) = values.List (items_of vs)
 
 value_in : Opening → ℕ → Tree → Value
 value_in o bound t = value_at (counted o.names bound t)
@@ -111,15 +100,6 @@ unfolding truth_in word_in
 truth_back true = refl
 truth_back false = refl
 
-value_at-val_of : (v : Value) → value_at (val_of v) ≡ v
-unfolding value_at
-value_at-val_of values.Unit = refl
-value_at-val_of (values.Truth b) = refl
-value_at-val_of (values.Int z) = refl
-value_at-val_of (values.Text t) = refl
-value_at-val_of (values.Name n) = refl
-value_at-val_of (values.List vs) = ap values.List (items_of-inside vs)
-
 value_back : (o : Opening) (bound : ℕ) (v : Value) → IsKnownValue bound v → IsWritten o.names v → value_in o bound (value_form o v) ≡ v
 unfolding value_in
 value_back o bound v known is = ap value_at (is.read_back bound known.in_bounds known.names).value ∙ value_at-val_of v
@@ -147,7 +127,7 @@ read_back o b m made (Trap t c) sound fb fm h w = λ i. Trap (name_back o.names 
 read_back o b m made (Fail t) sound fb fm h w = λ i. Fail (name_back o.names b t sound.names h fb i)
 read_back o b m made (Lose x) sound fb fm h w = λ i. Lose (count_back x (omega (arith, h, fm)) i)
 
-same_elements : {A : Type 0} (xs ys : List A) → ((k : ℕ) → slice_get xs k ≡ slice_get ys k) → xs ≡ ys
+pub same_elements : {A : Type 0} (xs ys : List A) → ((k : ℕ) → slice_get xs k ≡ slice_get ys k) → xs ≡ ys
 same_elements [] [] e = refl
 same_elements [] (y ∷ ys) e = absurd (let h = e 0 in cc)
 same_elements (x ∷ xs) [] e = absurd (let h = e 0 in cc)
@@ -209,20 +189,6 @@ no_mark o made (Fail t) w e = cc
 no_mark o made (Lose m) w e = cc
 
 -- the words of a form
-name_nonempty : (w : List ℕ) → IsName w → w ≢ []
-name_nonempty w named e = let h = subst IsName e named in cc
-
-decimal_word : (n : ℕ) → n < 2 ^ 32 → decimal n ≢ []
-decimal_word n small e = omega (arith, decimal_nonempty n (omega arith), ap length e)
-
-name_word : (names : List (List ℕ)) (n : ℕ) → AreNames names → n < 2 ^ 32 → name_written names n ≢ []
-name_word names n are small = ⊎_elim start other (slice_get_cases names n).1 where
-  start : (w : List ℕ) × (n < length names) × (slice_get names n ≡ Some w) × (get_or names n w ≡ w) → name_written names n ≢ []
-  start (w, lt, e, is) f = name_nonempty w (subst IsName is (are.named n w lt)) (ap (λ o. unwrap_or o (decimal n)) (sym e) ∙ f)
-
-  other : (length names ≤ n) × (slice_get names n ≡ None) → name_written names n ≢ []
-  other (le, e) f = decimal_word n small (ap (λ o. unwrap_or o (decimal n)) (sym e) ∙ f)
-
 truth_word : (a : Bool) → HasWords (truth_form a)
 truth_word true e = cc
 truth_word false e = cc
@@ -251,18 +217,18 @@ kind_nonempty (Lose m) e = cc
 pub step_form-words : (o : Opening) (b m made : ℕ) (s : Step) → IsSound o → b < 2 ^ 32 → m < 2 ^ 32 → made < 2 ^ 32 → IsKnown o b m s → ValueIsWritten o s → HasWords (step_form o made s)
 step_form-words o b m made s sound fb fm fn h w = (kind_nonempty s, items s h w) where
   who : (t : ℕ) → t < b → HasWords (who_form o t)
-  who t l = name_word o.names t sound.names (omega arith)
+  who t l = number_nonempty o.names t sound.names (omega arith)
 
   items : (s : Step) → IsKnown o b m s → ValueIsWritten o s → AllHaveWords (inside (item_forms o made s))
-  items (Take t x) h w = (who t h.0, (decimal_word x (omega (arith, h.1)), tt))
-  items (Drop t x) h w = (who t h.0, (decimal_word x (omega (arith, h.1)), tt))
-  items (Fall t x) h w = (who t h.0, (decimal_word x (omega (arith, h.1)), tt))
-  items (Void t x) h w = (who t h.0, (decimal_word x (omega (arith, h.1)), tt))
+  items (Take t x) h w = (who t h.0, (decimal_filled x (omega (arith, h.1)), tt))
+  items (Drop t x) h w = (who t h.0, (decimal_filled x (omega (arith, h.1)), tt))
+  items (Fall t x) h w = (who t h.0, (decimal_filled x (omega (arith, h.1)), tt))
+  items (Void t x) h w = (who t h.0, (decimal_filled x (omega (arith, h.1)), tt))
   items (Get t) h w = (who t h, tt)
   items (Set t v) h w = (who t h.0, (w.words, tt))
   items (Skip t) h w = (who t h, tt)
-  items (Send t u v) h w = (who t h.0, (decimal_word made fn, (who u h.1, (w.words, tt))))
-  items (New t c n v) h w = (who t h.0, (decimal_word made fn, (name_word o.behaviours c sound.behaviours (omega (arith, h.1, sound.few_behaviours)), (decimal_word n (omega (arith, h.2, sound.few_nodes)), (w.words, tt)))))
+  items (Send t u v) h w = (who t h.0, (decimal_filled made (omega arith), (who u h.1, (w.words, tt))))
+  items (New t c n v) h w = (who t h.0, (decimal_filled made (omega arith), (number_nonempty o.behaviours c sound.behaviours (omega (arith, h.1, sound.few_behaviours)), (decimal_filled n (omega (arith, h.2, sound.few_nodes)), (w.words, tt)))))
   items (Stabilize t) h w = (who t h, tt)
   items (Ask t a) h w = (who t h, (truth_word a, tt))
   items (Checkpoint t) h w = (who t h, tt)
@@ -270,9 +236,9 @@ step_form-words o b m made s sound fb fm fn h w = (kind_nonempty s, items s h w)
   items (Rollback t) h w = (who t h, tt)
   items (Stay t) h w = (who t h, tt)
   items (Done t) h w = (who t h, tt)
-  items (Trap t c) h w = (who t h.0, (decimal_word c (omega (arith, h.2)), tt))
+  items (Trap t c) h w = (who t h.0, (decimal_filled c (omega (arith, h.2)), tt))
   items (Fail t) h w = (who t h, tt)
-  items (Lose x) h w = (decimal_word x (omega (arith, h)), tt)
+  items (Lose x) h w = (decimal_filled x (omega (arith, h)), tt)
 
 value_depth : (o : Opening) (b : ℕ) (v : Value) → IsKnownValue b v → IsWritten o.names v → depth_of (value_form o v) ≤ 64
 value_depth o b v known is = omega (arith, is.depth, known.in_bounds.1)

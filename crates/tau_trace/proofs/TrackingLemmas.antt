@@ -1,17 +1,17 @@
 -- What a trace keeps of a transactor, before and after a step.
-use Rattle.std.proofs.Common.{◌≡◌, ◌⊎◌, inl, inr, ⊎_elim, ℕ, zero, suc, ◌+◌, ◌<◌, ◌≤◌, Bool, true, false, ◌&&◌, cond, eqb, ltb, List, [], ◌∷◌, ◌++◌, length, length-append, Option, Some, None, refl, sym, ap, ◌∙◌, subst, arith, eqb-true, eq-eqb, is_none}
-use Rattle.std.specs.Prelude.{slice_get, ◌||◌, ◌==◌}
-use Rattle.tau_history.specs.Timeline.{Timeline, interval, Move, keep, stabilize, close, fall, moved, opening, newborn}
+use Rattle.std.proofs.Common.{◌≡◌, ◌⊎◌, ⊎_elim, ℕ, suc, ◌<◌, ◌≤◌, Bool, true, false, cond, eqb, [], ◌∷◌, length-append, Option, Some, None, refl, sym, ap, ◌∙◌, subst, arith, eqb-true, eq-eqb}
+use Rattle.std.specs.Prelude.{◌||◌}
+use Rattle.tau_history.specs.Timeline.{Timeline, interval, Move, keep, stabilize, close, fall, moved}
 use Rattle.tau_trace.specs.declared.step.Step.{Step}
-use Rattle.tau_trace.specs.declared.step.Step.TheVariants.{Take, Drop, Fall, Void, Get, Set, Skip, Send, New, Stabilize, Ask, Checkpoint, Hold, Rollback, Stay, Done, Trap, Fail, Lose}
+use Rattle.tau_trace.specs.declared.step.Step.TheVariants.{Take}
 use Rattle.tau_trace.specs.declared.transactor.Transactor.{Transactor}
 use Rattle.tau_trace.specs.Steps.{actor, ends_turn, is_take}
-use Rattle.tau_trace.specs.Run.{Run, step_at, starts, Does}
+use Rattle.tau_trace.specs.Run.{Run, step_at, Does}
 use Rattle.tau_trace.specs.Places.{IsFirst}
-use Rattle.tau_trace.specs.Histories.{history, opened, move_at, move_of, move_by, Falls, EndsAt}
+use Rattle.tau_trace.specs.Histories.{history, move_at, move_of, EndsAt}
 use Rattle.tau_trace.specs.Turns.{Turn, IsOpenTurn}
-use Rattle.tau_trace.specs.Tracking.{Tracks, transactor_after, turn_after, end_after, stable_after, at_opening_after, opened_at, created_at}
-use Rattle.tau_trace.proofs.Counted.{history-suc, history-zero, move_at-own, opened-stable}
+use Rattle.tau_trace.specs.Tracking.{Tracks, transactor_after, turn_after, end_after, stable_after, at_opening_after}
+use Rattle.tau_trace.proofs.Counted.{history-suc, move_at-own}
 use Rattle.tau_trace.proofs.Moves.{move_by-other}
 use Rattle.tau_trace.proofs.Sequences.{cases_last}
 use Rattle.tau_trace.proofs.Lists.{same_some}
@@ -27,11 +27,12 @@ first-here P n p f = (omega arith, p, f)
 pub first-later : (P : ℕ → Type 0) (n k : ℕ) → IsFirst P n (Some k) → IsFirst P (suc n) (Some k)
 first-later P n k f = (omega (arith, f.0), f.1, f.2)
 
-abbrev bounds : Step → Bool
+-- the kinds that begin or end a turn
+abbrev pub bounds : Step → Bool
 bounds s = ends_turn s || is_take s
 
 -- a turn that is open at k, at the next place
-turn-on : (T : Run) (t k place m : ℕ) → ¬ Does bounds T t k → Turn T t k place m → Turn T t (suc k) place m
+pub turn-on : (T : Run) (t k place m : ℕ) → ¬ Does bounds T t k → Turn T t k place m → Turn T t (suc k) place m
 turn-on T t k place m none u = record {
   before = omega (arith, u.before);
   takes = u.takes;

@@ -1,8 +1,8 @@
 -- The first fault that the reader finds is the first by the definition, and a form without one means what it counts as.
-use Rattle.std.proofs.Common.{◌≡◌, ℕ, ◌+◌, ◌*◌, ◌<◌, ◌≤◌, Bool, true, false, cond, ◌&&◌, nat_le, nat_lt, ℤ, List, [], length, Option, Some, None, option_map, option_and_then, is_some, unwrap_or, refl, sym, ap, subst, ◌∙◌, arith, codes}
+use Rattle.std.proofs.Common.{◌≡◌, ℕ, ◌+◌, ◌*◌, ◌<◌, ◌≤◌, Bool, true, false, cond, ◌&&◌, nat_le, nat_lt, ℤ, List, [], length, Option, Some, None, option_map, option_and_then, is_some, unwrap_or, refl, sym, ap, subst, ◌∙◌, arith, codes, ⊎_elim}
 use Rattle.std.specs.Option.{option_or, option_map_or}
 use Rattle.std.specs.Str.{bytes_eq}
-use Rattle.std.proofs.lemmas.Bool.{false≢true, ltb-true}
+use Rattle.std.proofs.lemmas.Bool.{false≢true, ltb-true, and_parts, cases_lt}
 use Rattle.std.proofs.lemmas.List.Quantifiers.{position-Some}
 use Rattle.std.proofs.lemmas.Slice.Eq.{bytes_eq-Decides}
 use Rattle.tau_sexpr.specs.Tree.{Tree, Trees, word, text, list, none, more, size_of, size_of_all}
@@ -10,17 +10,13 @@ use Rattle.tau_value.specs.Val as val
 use Rattle.tau_value.specs.Val.{Val}
 use Rattle.tau_value.specs.Names.{place_of}
 use Rattle.tau_value.specs.Numbers.{count_in, integer_in}
-use Rattle.tau_value.specs.Sizes.{parts_of, parts_of_all, levels_of_all, IsInBounds, NamesBelow, AllNamesBelow}
+use Rattle.tau_value.specs.Sizes.{parts_of, parts_of_all, levels_of_all, IsInBounds, NamesBelow, AllNamesBelow, levels_of}
 use Rattle.tau_value.specs.Meaning.{name_word, list_word, word_value, between, number_named, named, counted, counted_all, has_row, name_fault, Fault, shape, FaultAt, FaultIn, too_large, no_row, in_name, in_list, here, later, IsFirstFault}
 use Rattle.tau_value.specs.Reading.{scan, scan_all, later_by}
 use Rattle.tau_value.proofs.ReadingLemmas.{small_word, parts_of-named, scan-no_row}
 
-and_right : (a b : Bool) → (a && b) ≡ true → b ≡ true
-and_right true b h = h
-and_right false b h = cc
-
 -- a form has a node
-size_positive : (t : Tree) → 1 ≤ size_of t
+pub size_positive : (t : Tree) → 1 ≤ size_of t
 size_positive (word w) = omega arith
 size_positive (text t) = omega arith
 size_positive (list ts) = omega arith
@@ -243,13 +239,13 @@ mutual
       agrees-items names bound t ts (scan names bound t) (scan_all names bound ts) (agrees names bound t (omega arith, omega arith)) (agrees-all names bound ts (omega arith, omega arith))
 
 -- the number of a name is below the bound
-between-lt : (low high n k : ℕ) → between low high n ≡ Some k → k < high
+pub between-lt : (low high n k : ℕ) → between low high n ≡ Some k → k < high
 between-lt low high n k e = by (nat_le low n && nat_lt n high) refl e
   where
     by : (b : Bool) → (nat_le low n && nat_lt n high) ≡ b → cond b (Some n) None ≡ Some k → k < high
     by true h f =
         let same : n ≡ k = cc in
-        omega (arith, ltb-true n high (and_right (nat_le low n) (nat_lt n high) h))
+        omega (arith, ltb-true n high (and_parts (nat_le low n) (nat_lt n high) h).1)
     by false h f = cc
 
 number_named-lt : (names : List (List ℕ)) (bound : ℕ) (x : List ℕ) (k : ℕ) → length names ≤ bound → number_named names bound x ≡ Some k → k < bound
@@ -310,3 +306,10 @@ mutual
   counted_all-names_below : (names : List (List ℕ)) (bound : ℕ) (ts : Trees) → length names ≤ bound → AllNamesBelow bound (counted_all names bound ts)
   counted_all-names_below names bound none le = tt
   counted_all-names_below names bound (more t ts) le = (counted-names_below names bound t le, counted_all-names_below names bound ts le)
+
+-- bounds are decided
+decided : (a b : ℕ) → ¬ ¬ (a ≤ b) → a ≤ b
+decided a b h = ⊎_elim (λ (above : b < a). absurd (h (λ le. omega arith))) (λ le. le) (cases_lt b a)
+
+pub bounded_from : (v : Val) → ¬ ¬ IsInBounds v → IsInBounds v
+bounded_from v h = (decided (parts_of v) 65536 (λ n. h (λ w. n w.0)), decided (levels_of v) 64 (λ n. h (λ w. n w.1)))

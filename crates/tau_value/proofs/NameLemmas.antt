@@ -4,7 +4,7 @@ use Rattle.std.specs.List.{position_or_len, prefix_len}
 use Rattle.std.specs.Option.{option_or, option_eq}
 use Rattle.std.specs.Str.{bytes_eq}
 use Rattle.std.specs.Map.{lookup}
-use Rattle.std.proofs.lemmas.Bool.{lt-ltb, ltb-true, ltb-false, eqb-true}
+use Rattle.std.proofs.lemmas.Bool.{lt-ltb, eqb-true, cases_lt}
 use Rattle.std.proofs.lemmas.Bool.Decides.{nat_tests}
 use Rattle.std.proofs.lemmas.List.Sums.{position_or_len_is}
 use Rattle.std.proofs.lemmas.Slice.Eq.{bytes_eq-Decides}
@@ -61,12 +61,8 @@ place_of-at names n w distinct lt is =
     let place : position_or_len (bytes_eq w) names ≡ n = position_or_len_is (bytes_eq w) names n w (omega arith) before found in
     rw (place, lt-ltb n (length names) lt) refl
 
-cases : (j n : ℕ) → j < n + 1 → (j < n) ⊎ (j ≡ n)
-cases j n h = by (ltb j n) refl
-  where
-    by : (b : Bool) → ltb j n ≡ b → (j < n) ⊎ (j ≡ n)
-    by true e = inl (ltb-true j n e)
-    by false e = inr (omega (arith, ltb-false j n e))
+pub last_or_below : (j n : ℕ) → j < n + 1 → (j < n) ⊎ (j ≡ n)
+last_or_below j n h = ⊎_elim inl (λ ge. inr (omega (arith, h))) (cases_lt j n)
 
 get_or_any : {X : Type 0} → (xs : List X) (n : ℕ) (d e : X) → n < length xs → get_or xs n d ≡ get_or xs n e
 get_or_any [] n d e lt = absurd (omega arith)
@@ -95,16 +91,12 @@ AreFound-more names n w h lt is named found = record { named = more_named; found
     here d = get_or_any names n d w lt ∙ is
 
     more_named : (j : ℕ) (d : List ℕ) → j < n + 1 → IsName (get_or names j d)
-    more_named j d below = ⊎_elim (λ less. h.named j d less) (λ last. subst IsName (sym (ap (λ i. get_or names i d) last ∙ here d)) named) (cases j n below)
+    more_named j d below = ⊎_elim (λ less. h.named j d less) (λ last. subst IsName (sym (ap (λ i. get_or names i d) last ∙ here d)) named) (last_or_below j n below)
 
     more_found : (j : ℕ) (d : List ℕ) → j < n + 1 → place_of names (get_or names j d) ≡ Some j
-    more_found j d below = ⊎_elim (λ less. h.found j d less) (λ last. ap (place_of names) (ap (λ i. get_or names i d) last ∙ here d) ∙ found ∙ ap Some (sym last)) (cases j n below)
+    more_found j d below = ⊎_elim (λ less. h.found j d less) (λ last. ap (place_of names) (ap (λ i. get_or names i d) last ∙ here d) ∙ found ∙ ap Some (sym last)) (last_or_below j n below)
 
 -- the answer of `==` on places
 pub some_from_eq : (o : Option ℕ) (n : ℕ) → option_eq eqb o (Some n) ≡ true → o ≡ Some n
 some_from_eq None n h = cc
 some_from_eq (Some m) n h = ap Some (eqb-true m n h)
-
-pub true_from_not : (b : Bool) → not b ≡ false → b ≡ true
-true_from_not true h = refl
-true_from_not false h = cc

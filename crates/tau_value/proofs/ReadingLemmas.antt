@@ -9,7 +9,7 @@ use Rattle.tau_sexpr.specs.declared.trees.Form.TheVariants as forms
 use Rattle.std.proofs.lemmas.List.{map-append}
 use Rattle.tau_value.proofs.ValueLemmas.{inside_inj}
 use Rattle.tau_value.specs.Val as val
-use Rattle.tau_value.specs.Val.{Val, Vals}
+use Rattle.tau_value.specs.Val.{Val}
 use Rattle.tau_value.specs.Sizes.{parts_of, levels_of, parts_of_all, levels_of_all}
 use Rattle.tau_value.specs.Numbers.{integer_in, capped}
 use Rattle.tau_value.specs.Meaning.{name_word, list_word, number_named, named, counted, counted_all, has_row, is_one, Fault, shape, unknown}
@@ -42,22 +42,6 @@ pub parts_of-named : (names : List (List ℕ)) (bound : ℕ) (t : Tree) → part
 parts_of-named names bound (word x) = elim (number_named names bound x) as (λ o. parts_of (option_map_or val.name o val.unit) ≡ 1) [ Some n ↦ refl | None ↦ refl ]
 parts_of-named names bound (text t) = refl
 parts_of-named names bound (list ts) = refl
-
--- a list in no row counts as unit, and is itself at fault
-counted_tail : (names : List (List ℕ)) (bound : ℕ) (b c : Bool) (us : Trees) → (b || (c && is_one us)) ≡ false → cond b (val.list (counted_all names bound us)) (cond c (named names bound us) val.unit) ≡ val.unit
-counted_tail names bound true c us h = cc
-counted_tail names bound false false us h = refl
-counted_tail names bound false true none h = refl
-counted_tail names bound false true (more x none) h = cc
-counted_tail names bound false true (more (word x) (more y us)) h = refl
-counted_tail names bound false true (more (text x) (more y us)) h = refl
-counted_tail names bound false true (more (list x) (more y us)) h = refl
-
-pub counted-no_row : (names : List (List ℕ)) (bound : ℕ) (ts : Trees) → has_row (list ts) ≡ false → counted names bound (list ts) ≡ val.unit
-counted-no_row names bound none h = refl
-counted-no_row names bound (more (word w) us) h = counted_tail names bound (bytes_eq w list_word) (bytes_eq w name_word) us h
-counted-no_row names bound (more (text t) us) h = refl
-counted-no_row names bound (more (list ts) us) h = refl
 
 and_false : (b : Bool) → (b && false) ≡ false
 and_false true = refl

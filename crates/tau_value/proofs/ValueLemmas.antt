@@ -22,7 +22,8 @@ same_lists x y xs ys b ex ey test =
       λ h. test.1 (inside_inj xs ys (list_inj (inside xs) (inside ys) (sym there ∙ h ∙ other))),
     )
 
-value_at : Val → Value
+-- the value that has this meaning
+pub value_at : Val → Value
 value_at unit = values.Unit
 value_at (truth b) = values.Truth b
 value_at (int z) = values.Int z
@@ -30,7 +31,7 @@ value_at (text t) = values.Text t
 value_at (name n) = values.Name n
 value_at (list vs) = values.List (items_of vs)
 
-value_at-val_of : (v : Value) → value_at (val_of v) ≡ v
+pub value_at-val_of : (v : Value) → value_at (val_of v) ≡ v
 unfolding value_at
 value_at-val_of values.Unit = refl
 value_at-val_of (values.Truth b) = refl

@@ -1,14 +1,13 @@
 -- The forms that are written of values are read back as these values.
-use Rattle.std.proofs.Common.{◌≡◌, ◌≢◌, ℕ, ◌^◌, ◌<◌, ◌≤◌, ℤ, pos, negsuc, Bool, true, false, nat_le, nat_lt, ◌&&◌, List, [], ◌∷◌, ◌++◌, length, get_or, map, Some, None, option_map, slice_get, All, AllPairs, refl, sym, ap, ap₂, subst, ◌∙◌, arith, codes, not, Result, Ok, Err, IfOk, OnOk, ⊎_elim, max}
+use Rattle.std.proofs.Common.{◌≡◌, ◌≢◌, ℕ, ◌^◌, ◌<◌, ◌≤◌, ℤ, pos, negsuc, Bool, true, false, nat_le, nat_lt, ◌&&◌, List, [], ◌∷◌, ◌++◌, length, get_or, map, Some, None, option_map, slice_get, All, refl, sym, ap, ap₂, subst, ◌∙◌, arith, codes, not, Result, Ok, Err, IfOk, OnOk, ⊎_elim, max}
 use Rattle.std.specs.Fmt.{decimal, signed_decimal}
 use Rattle.std.specs.Str.{bytes_eq, all_ascii_digits}
 use Rattle.std.specs.List.{list_all, position_or_len}
 use Rattle.std.specs.declared.alloc.AllocError.{AllocError}
-use Rattle.std.proofs.lemmas.Bool.{ne_eqb, leb-true, le-leb, lt-ltb, ltb-true}
+use Rattle.std.proofs.lemmas.Bool.{ne_eqb, leb-true, le-leb, lt-ltb, ltb-true, and_parts}
 use Rattle.std.proofs.lemmas.List.Sums.{position_or_len_is}
 use Rattle.std.proofs.lemmas.Fmt.{decimal_nonempty}
 use Rattle.std.proofs.lemmas.Option.{slice_get_cases}
-use Rattle.std.proofs.lemmas.Slice.Eq.{bytes_eq-Decides}
 use Rattle.std.proofs.lemmas.Str.Parse.{tells_all_ascii_digits}
 use Rattle.tau_sexpr.specs.Bytes.{is_word_byte, is_letter_or_digit, is_word_sign, IsWordByte}
 use Rattle.tau_sexpr.specs.Tree.{more, inside, depth_of, depth_of_all, HasWords, AllHaveWords}
@@ -57,20 +56,12 @@ pub numbers-push : (vs : List Val) (v : Val) → AllNumbersFit (val.inside vs) �
 numbers-push [] v h k = (k, tt)
 numbers-push (u ∷ us) v h k = (h.0, numbers-push us v h.1 k)
 
-and_left : (a b : Bool) → (a && b) ≡ true → a ≡ true
-and_left true b h = refl
-and_left false b h = cc
-
-and_right : (a b : Bool) → (a && b) ≡ true → b ≡ true
-and_right true b h = h
-and_right false b h = cc
-
 -- a number word begins with no letter
 digits_first : (ds : List ℕ) → all_ascii_digits ds ≡ true → get_or ds 0 0 ≤ 57
 digits_first [] h = omega arith
 digits_first (c ∷ cs) h = (tells_all_ascii_digits.parts c cs h).0.1
 
-signed_first : (z : ℤ) → in_i64 z ≡ Some z → get_or (signed_decimal z) 0 0 ≤ 57
+pub signed_first : (z : ℤ) → in_i64 z ≡ Some z → get_or (signed_decimal z) 0 0 ≤ 57
 signed_first (pos n) fits = digits_first (decimal n) (decimal_digits n (pos_fits n fits))
 signed_first (negsuc n) fits = omega arith
 
@@ -80,10 +71,12 @@ word_value-number [] h = refl
 word_value-number (c ∷ cs) h = rw (ne_eqb c 117 (λ e. omega arith), ne_eqb c 116 (λ e. omega arith), ne_eqb c 102 (λ e. omega arith)) refl
 
 -- a name begins with a letter
-name_first : (w : List ℕ) → IsName w → 97 ≤ get_or w 0 0
+pub name_first : (w : List ℕ) → IsName w → 97 ≤ get_or w 0 0
 name_first w h =
-    let letter : is_small_letter (get_or w 0 0) ≡ true = and_right (nat_le (length w) 64) (is_small_letter (get_or w 0 0)) (and_left (nat_le (length w) 64 && is_small_letter (get_or w 0 0)) (list_all is_name_byte w) (and_left (nat_le (length w) 64 && is_small_letter (get_or w 0 0) && list_all is_name_byte w) (not (is_reserved w)) h)) in
-    leb-true 97 (get_or w 0 0) (and_left (nat_le 97 (get_or w 0 0)) (nat_le (get_or w 0 0) 122) letter)
+    let all = and_parts (nat_le (length w) 64 && is_small_letter (get_or w 0 0) && list_all is_name_byte w) (not (is_reserved w)) h in
+    let begins = and_parts (nat_le (length w) 64 && is_small_letter (get_or w 0 0)) (list_all is_name_byte w) all.0 in
+    let letter = and_parts (nat_le (length w) 64) (is_small_letter (get_or w 0 0)) begins.0 in
+    leb-true 97 (get_or w 0 0) (and_parts (nat_le 97 (get_or w 0 0)) (nat_le (get_or w 0 0) 122) letter.1).0
 
 not_below : (l : ℕ) → nat_lt l l ≡ false
 not_below l = by (nat_lt l l) refl
@@ -176,20 +169,23 @@ nonempty : (w : List ℕ) → 0 < length w → w ≢ []
 nonempty [] h e = omega arith
 nonempty (c ∷ cs) h e = cc
 
-name_nonempty : (w : List ℕ) → IsName w → w ≢ []
+pub decimal_filled : (n : ℕ) → n < 2 ^ 64 → decimal n ≢ []
+decimal_filled n small = nonempty (decimal n) (decimal_nonempty n small)
+
+pub name_nonempty : (w : List ℕ) → IsName w → w ≢ []
 name_nonempty w named e = omega (arith, name_first w named, ap (λ v. get_or v 0 0) e)
 
-number_nonempty : (names : List (List ℕ)) (n : ℕ) → AreNames names → n < 2 ^ 32 → name_written names n ≢ []
+pub number_nonempty : (names : List (List ℕ)) (n : ℕ) → AreNames names → n < 2 ^ 64 → name_written names n ≢ []
 number_nonempty names n are fits = ⊎_elim start other (slice_get_cases names n).1
   where
     start : (w : List ℕ) × (n < length names) × (slice_get names n ≡ Some w) × (get_or names n w ≡ w) → name_written names n ≢ []
     start (w, lt, e, is) = let named : IsName w = subst IsName is (are.named n w lt) in rw e (name_nonempty w named)
 
     other : (length names ≤ n) × (slice_get names n ≡ None) → name_written names n ≢ []
-    other (le, e) = rw e (nonempty (decimal n) (decimal_nonempty n (omega arith)))
+    other (le, e) = rw e (decimal_filled n fits)
 
-signed_nonempty : (z : ℤ) → in_i64 z ≡ Some z → signed_decimal z ≢ []
-signed_nonempty (pos n) fits = nonempty (decimal n) (decimal_nonempty n (pos_fits n fits))
+pub signed_nonempty : (z : ℤ) → in_i64 z ≡ Some z → signed_decimal z ≢ []
+signed_nonempty (pos n) fits = decimal_filled n (pos_fits n fits)
 signed_nonempty (negsuc n) fits = λ e. cc
 
 module _ (names : List (List ℕ)) (are : AreNames names) where
@@ -200,7 +196,7 @@ module _ (names : List (List ℕ)) (are : AreNames names) where
     has_words (val.truth false) fit = λ e. cc
     has_words (val.int z) fit = signed_nonempty z fit
     has_words (val.text t) fit = tt
-    has_words (val.name n) fit = (λ e. cc, (number_nonempty names n are fit, tt))
+    has_words (val.name n) fit = let small : n < 2 ^ 32 = fit in (λ e. cc, (number_nonempty names n are (omega arith), tt))
     has_words (val.list vs) fit = (λ e. cc, all_have_words vs fit)
 
     all_have_words : (vs : Vals) → AllNumbersFit vs → AllHaveWords (written_all names vs)

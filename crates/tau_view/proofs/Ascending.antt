@@ -1,6 +1,7 @@
 -- Lists of histories by ascending transactor.
-use Rattle.std.proofs.Common.{◌≡◌, ℕ, zero, suc, ◌+◌, ◌-◌, ◌<◌, ◌≤◌, ◌⊎◌, inl, inr, ⊎_elim, Bool, true, false, IsTrue, Option, Some, None, List, [], ◌∷◌, ◌++◌, length, ◌≢◌, get_or, take, drop, set, refl, sym, ap, ◌∙◌, subst, take-append-drop, arith, eqb, ltb, cond}
+use Rattle.std.proofs.Common.{◌≡◌, ℕ, zero, suc, ◌+◌, ◌-◌, ◌<◌, ◌≤◌, ◌⊎◌, ⊎_elim, true, false, Option, Some, None, List, [], ◌∷◌, ◌++◌, length, ◌≢◌, get_or, take, drop, set, refl, sym, ap, ◌∙◌, take-append-drop, arith, eqb, cond}
 use Rattle.std.proofs.lemmas.Bool.Decides.{nat_tests}
+use Rattle.std.proofs.lemmas.Bool.{cases_eq}
 use Rattle.tau_history.specs.Timeline.{Timeline}
 use Rattle.tau_history.specs.Order.{later_of}
 use Rattle.tau_view.specs.Stored.{AscendsFrom, history_in}
@@ -13,10 +14,6 @@ Entries = List (ℕ × Timeline)
 abbrev pub or_else : Option Timeline → Option Timeline → Option Timeline
 or_else None o = o
 or_else (Some h) o = Some h
-
-pub between_ascends : (n m : ℕ) (es : Entries) → Between n m es → AscendsFrom n es
-between_ascends n m [] b = tt
-between_ascends n m (e ∷ es) b = (b.0, between_ascends (e.0 + 1) m es b.1)
 
 between_order : (n m : ℕ) (es : Entries) → Between n m es → n ≤ m
 between_order n m [] b = b
@@ -49,19 +46,13 @@ pub history_in-past : (e : ℕ × Timeline) (es : Entries) (u : ℕ) → u ≢ e
 history_in-past e es u h = let t : eqb u e.0 ≡ false = grind (arith, nat_tests) in rw t refl
 
 -- the same transactor or another
-pub alike : (u w : ℕ) → (u ≡ w) ⊎ (u ≢ w)
-alike u w = by_test (eqb u w) refl where
-  by_test : (b : Bool) → eqb u w ≡ b → (u ≡ w) ⊎ (u ≢ w)
-  by_test true t = inl (grind (arith, nat_tests))
-  by_test false t = inr (grind (arith, nat_tests))
-
 pub history_in-append : (xs ys : Entries) (u : ℕ) → history_in (xs ++ ys) u ≡ or_else (history_in xs u) (history_in ys u)
 history_in-append [] ys u = refl
 history_in-append (e ∷ es) ys u =
     let rest = history_in-append es ys u in
     ⊎_elim (λ h. let a = history_in-here e (es ++ ys) u h in let b = history_in-here e es u h in rw (a, b) refl)
     (λ h. let a = history_in-past e (es ++ ys) u h in let b = history_in-past e es u h in rw (a, b) rest)
-    (alike u e.0)
+    (cases_eq u e.0)
 
 pub between_append : (n k m : ℕ) (xs ys : Entries) → Between n k xs → Between k m ys → Between n m (xs ++ ys)
 between_append n k m [] [] b c = omega arith
@@ -109,13 +100,13 @@ module _ (d : ℕ × Timeline) where
   pub history_in-set : (n m : ℕ) (es : Entries) (h : Timeline) (u : ℕ) → AscendsFrom n es → m < length es → history_in (set es m ((get_or es m d).0, h)) u ≡ cond (eqb u (get_or es m d).0) (Some h) (history_in es u)
   history_in-set n m [] h u a l = absurd (omega arith)
   history_in-set n zero (e ∷ es) h u a l =
-      ⊎_elim (λ s. let t : eqb u e.0 ≡ true = grind (arith, nat_tests) in rw t refl) (λ s. let t : eqb u e.0 ≡ false = grind (arith, nat_tests) in rw t refl) (alike u e.0)
+      ⊎_elim (λ s. let t : eqb u e.0 ≡ true = grind (arith, nat_tests) in rw t refl) (λ s. let t : eqb u e.0 ≡ false = grind (arith, nat_tests) in rw t refl) (cases_eq u e.0)
   history_in-set n (suc m) (e ∷ es) h u a l =
       let low = from_lower (e.0 + 1) m es a.1 (omega arith) in
       let rest = history_in-set (e.0 + 1) m es h u a.1 (omega arith) in
       ⊎_elim
       (λ s. let t : eqb u e.0 ≡ true = grind (arith, nat_tests) in let f : eqb u (get_or es m d).0 ≡ false = grind (arith, nat_tests) in rw (t, f) refl)
-      (λ s. let t : eqb u e.0 ≡ false = grind (arith, nat_tests) in rw t rest) (alike u e.0)
+      (λ s. let t : eqb u e.0 ≡ false = grind (arith, nat_tests) in rw t rest) (cases_eq u e.0)
 
 -- an entry put between those of lower and those of higher transactors
 pub ascends_between : (n w : ℕ) (xs ys : Entries) (h : Timeline) → Between n w xs → AscendsFrom (w + 1) ys → AscendsFrom n (xs ++ (w, h) ∷ ys)
@@ -129,7 +120,7 @@ history_in-between n w xs ys h u b a =
     rw (history_in-append xs ((w, h) ∷ ys) u, none, history_in-here (w, h) ys u s, t) refl)
     (λ s. let t : eqb u w ≡ false = grind (arith, nat_tests) in
     rw (history_in-append xs ((w, h) ∷ ys) u, history_in-past (w, h) ys u s, history_in-append xs ys u, t) refl)
-    (alike u w)
+    (cases_eq u w)
 
 -- a transactor whose entry would stand in a gap has no history
 pub gap_none : (who k : ℕ) (es : Entries) → IsGap who es k → history_in es who ≡ None
@@ -165,7 +156,7 @@ takes_ours out xs ys e u a =
     (λ s. let none = none_below (e.0 + 1) u ys a (omega arith) in
     rw (history_in-append out (e ∷ []) u, history_in-here e [] u s, history_in-here e xs u s, or_else-some, later_history-none e.1 (history_in ys u) none) refl)
     (λ s. rw (history_in-append out (e ∷ []) u, history_in-past e [] u s, history_in-past e xs u s, or_else-none) refl)
-    (alike u e.0)
+    (cases_eq u e.0)
 
 pub takes_theirs : (out xs ys : Entries) (e : ℕ × Timeline) (u : ℕ) → AscendsFrom (e.0 + 1) xs → with_rest (out ++ e ∷ []) xs ys u ≡ with_rest out xs (e ∷ ys) u
 takes_theirs out xs ys e u a =
@@ -173,11 +164,11 @@ takes_theirs out xs ys e u a =
     (λ s. let none = none_below (e.0 + 1) u xs a (omega arith) in
     rw (history_in-append out (e ∷ []) u, history_in-here e [] u s, history_in-here e ys u s, or_else-some, none_later e.1 (history_in xs u) none) refl)
     (λ s. rw (history_in-append out (e ∷ []) u, history_in-past e [] u s, history_in-past e ys u s, or_else-none) refl)
-    (alike u e.0)
+    (cases_eq u e.0)
 
 pub takes_later : (out xs ys : Entries) (w : ℕ) (h k : Timeline) (u : ℕ) → with_rest (out ++ (w, later_of h k) ∷ []) xs ys u ≡ with_rest out ((w, h) ∷ xs) ((w, k) ∷ ys) u
 takes_later out xs ys w h k u =
     ⊎_elim
     (λ s. rw (history_in-append out ((w, later_of h k) ∷ []) u, history_in-here (w, later_of h k) [] u s, history_in-here (w, h) xs u s, history_in-here (w, k) ys u s, or_else-some) refl)
     (λ s. rw (history_in-append out ((w, later_of h k) ∷ []) u, history_in-past (w, later_of h k) [] u s, history_in-past (w, h) xs u s, history_in-past (w, k) ys u s, or_else-none) refl)
-    (alike u w)
+    (cases_eq u w)

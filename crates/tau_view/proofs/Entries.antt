@@ -1,5 +1,5 @@
 -- Entries that were read, as pairs of a transactor and its history.
-use Rattle.std.proofs.Common.{◌≡◌, ℕ, suc, ◌+◌, ◌<◌, List, ◌∷◌, ◌++◌, map, take, drop, set, eqb, cond, take-append-drop, length, get_or, Option, Some, Ordering, Less, Equal, Greater, sym, ap, ◌∙◌, subst, arith, add-one}
+use Rattle.std.proofs.Common.{◌≡◌, ℕ, ◌+◌, ◌<◌, List, ◌∷◌, ◌++◌, map, take, drop, set, eqb, cond, take-append-drop, length, get_or, Some, Less, Greater, sym, ap, ◌∙◌, subst, arith, add-one}
 use Rattle.std.specs.Ordering.{nat_cmp}
 use Rattle.std.specs.Cmp.{ranked}
 use Rattle.std.proofs.lemmas.List.{get_or-map, length-map, map-append, map-set, take-map, drop-map}
@@ -29,11 +29,6 @@ module _ (es : List Entry) (m : ℕ) (e : Entry) (within : m < length es) where
       let more : who < (get_or es m e).who = ranked (get_or es m e).who who Greater c in
       let at : who < (get_or (map entry_of es) m blank).0 = rw read more in
       above_at blank 0 who m (map entry_of es) a in_map at
-
-  pub same_read : (who : ℕ) → Equal ≡ nat_cmp (get_or es m e).who who → IsAt who (map entry_of es) m
-  same_read who c =
-      let same : (get_or es m e).who ≡ who = ranked (get_or es m e).who who Equal c in
-      record { within = in_map; is = rw read same }
 
 pub got : (es : List Entry) (who k : ℕ) (e : Entry) → AscendsFrom 0 (map entry_of es) → IsAt who (map entry_of es) k → e ≡ get_or es k e → history_in (map entry_of es) who ≡ Some e.history.history
 got es who k e a p is =

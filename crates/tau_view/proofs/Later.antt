@@ -2,7 +2,7 @@
 use Rattle.std.proofs.Common.{◌≡◌, ℕ, refl, Bool, true, false, Option, Some, None, sym, ap, ap₂, ◌∙◌, arith, eqb, cond}
 use Rattle.std.proofs.lemmas.Bool.Decides.{nat_tests}
 use Rattle.tau_history.specs.Timeline.{Timeline}
-use Rattle.tau_history.specs.Order.{Precedes, here, ranks_before, later_of}
+use Rattle.tau_history.specs.Order.{here, ranks_before, later_of}
 use Rattle.tau_history.proofs.Before.{later_preceded}
 use Rattle.tau_view.specs.Rules.{later_history}
 use Rattle.tau_view.specs.Held.{Histories, AllPrecede, PrecedesIn, AllComparable}
@@ -35,10 +35,6 @@ right_precedes hs ks c u k f = by_other (hs u) refl where
   by_other : (o : Option Timeline) → hs u ≡ o → PrecedesIn (λ w. later_history (hs w) (ks w)) u k
   by_other None e = record { later = k; is = ap₂ later_history e f; precedes = here }
   by_other (Some h) e = record { later = later_of h k; is = ap₂ later_history e f; precedes = (later_preceded h k (c u h k e f)).1 }
-
--- each history precedes itself
-pub all_here : (hs : Histories) → AllPrecede hs hs
-all_here hs u h e = record { later = h; is = e; precedes = here }
 
 -- each history precedes the one of its transactor once a later one is noted
 pub noted_precedes : (who : ℕ) (k : Timeline) (hs : Histories) → MayNote who k hs → AllPrecede hs (λ u. cond (eqb u who) (Some k) (hs u))

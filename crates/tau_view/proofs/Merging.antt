@@ -1,9 +1,10 @@
 -- The merge of two ascending lists of histories.
-use Rattle.std.proofs.Common.{◌≡◌, ℕ, suc, ◌+◌, ◌<◌, ◌≤◌, ◌⊎◌, ⊎_elim, Option, Some, None, Ordering, Less, Equal, Greater, List, [], ◌∷◌, ◌++◌, length, map, ◌-◌, get_or, take, drop, length-drop, refl, sym, ap, ◌∙◌, subst, add-one, arith}
+use Rattle.std.proofs.Common.{◌≡◌, ℕ, ◌+◌, ◌<◌, ◌≤◌, ◌⊎◌, ⊎_elim, Option, Some, None, Ordering, Less, Equal, Greater, List, [], ◌∷◌, ◌++◌, length, ◌-◌, get_or, take, drop, length-drop, refl, sym, ap, ◌∙◌, subst, add-one, arith}
 use Rattle.std.specs.Ordering.{nat_cmp}
 use Rattle.std.specs.Cmp.{ranked}
 use Rattle.std.proofs.Math.Seq.{drop-cons}
 use Rattle.std.proofs.lemmas.List.{get_or-map, length-map, map-append, append-nil, drop_all, take_all, take_more, drop-map}
+use Rattle.std.proofs.lemmas.Bool.{cases_eq}
 use Rattle.tau_history.specs.Timeline.{Timeline}
 use Rattle.tau_view.specs.declared.entry.Entry.{Entry}
 use Rattle.tau_view.specs.Entries.{entry_of, entries_of}
@@ -12,7 +13,7 @@ use Rattle.tau_history.specs.Order.{AreComparable, later_of}
 use Rattle.tau_view.specs.Held.{AllComparable}
 use Rattle.tau_view.specs.Rules.{later_history, merged_in}
 use Rattle.tau_view.specs.Stored.{AscendsFrom, history_in}
-use Rattle.tau_view.proofs.Ascending.{Entries, or_else, with_rest, takes_ours, takes_theirs, takes_later, between_append, ascends_append, ascends_lower, history_in-append, history_in-at, history_in-here, history_in-past, alike}
+use Rattle.tau_view.proofs.Ascending.{Entries, or_else, with_rest, takes_ours, takes_theirs, takes_later, between_append, ascends_append, history_in-append, history_in-at, history_in-here, history_in-past}
 
 -- what is built so far, and what is left of both lists, have the wanted histories
 pub record Merging (wanted : ℕ → Option Timeline) (out rs ss : Entries) : Type 0 where
@@ -184,9 +185,6 @@ module _ (ours theirs : List Entry) where
   abbrev pub Covered : ℕ → Type 0
   Covered j = (u : ℕ) → later_history (history_in (entries_of ours) u) (history_in (take j (entries_of theirs)) u) ≡ history_in (entries_of ours) u
 
-  pub covered_none : Covered 0
-  covered_none u = later_history-right (history_in (entries_of ours) u)
-
   later_here : (o n : Option Timeline) (h k : Timeline) → o ≡ Some h → later_of h k ≡ h → n ≡ Some k → later_history o n ≡ o
   later_here o n h k e l f = rw (e, f) (ap Some l)
 
@@ -206,7 +204,7 @@ module _ (ours theirs : List Entry) where
             (λ s. later_here (history_in (entries_of ours) u) (history_in (at theirs j ∷ []) u) (at ours i).1 (at theirs j).1
             (ap (history_in (entries_of ours)) (s ∙ sym e) ∙ history_in-at blank 0 i (entries_of ours) a p') l (history_in-here (at theirs j) [] u s))
             (λ n. ap (later_history (history_in (entries_of ours) u)) (history_in-past (at theirs j) [] u n) ∙ later_history-right (history_in (entries_of ours) u))
-            (alike u (at theirs j).0)
+            (cases_eq u (at theirs j).0)
 
   pub covered_all : (j : ℕ) → j ≡ length theirs → Covered j → merged_in (history_in (entries_of ours)) (history_in (entries_of theirs)) ≡ history_in (entries_of ours)
   covered_all j e covered =

@@ -1,14 +1,14 @@
 -- The stored lists after an operation, and what they hold.
-use Rattle.std.proofs.Common.{◌≡◌, ◌≢◌, inl, ⊎_elim, ℕ, ◌+◌, ◌<◌, Bool, true, false, not, ◌&&◌, ◌||◌, IsTrue, List, [], ◌∷◌, ◌++◌, length, take, get_or, refl, sym, ap, ◌∙◌, subst}
+use Rattle.std.proofs.Common.{◌≡◌, ◌≢◌, inl, ⊎_elim, ℕ, ◌+◌, ◌<◌, Bool, true, false, not, ◌&&◌, ◌||◌, IsTrue, List, [], ◌∷◌, ◌++◌, length, take, get_or, refl, sym, ap, ◌∙◌}
 use Rattle.std.proofs.lemmas.List.{take_more}
 use Rattle.tau_history.specs.Timeline.{Timeline}
 use Rattle.tau_points.specs.declared.point.Point.{Point}
 use Rattle.tau_points.specs.Members.{Adds, Joins, HasAll}
-use Rattle.tau_view.specs.Held.{Held, Edges, same_point, only}
+use Rattle.tau_view.specs.Held.{same_point, only}
 use Rattle.tau_view.specs.Edges.{edges_to, both_edges}
 use Rattle.tau_view.specs.Rules.{touched, depended, merged, merged_in}
 use Rattle.tau_view.specs.Stored.{Stored, history_in, point_in, pair_in, held}
-use Rattle.tau_view.proofs.Sets.{point_in-Adds, pair_in-Adds, pair_in-Joins, is_same, same_self}
+use Rattle.tau_view.proofs.Sets.{point_in-Adds, pair_in-Adds, pair_in-Joins, is_same}
 
 pub touched_is : (s : Stored) (new : List Point) (p : Point) → Adds s.roots new p → held (record s { roots = new }) ≡ touched p (held s)
 touched_is s new p a = λ i. record { history = history_in s.histories; edge = pair_in s.edges; root = point_in-Adds s.roots new p a i }
@@ -49,19 +49,6 @@ edges_to-more p rs k d h =
     let one : (y : Point) → point_in (take (k + 1) rs) y ≡ (point_in (take k rs) y || same_point y r) = λ y. ap (λ xs. point_in xs y) grown ∙ point_in-push (take k rs) r y in
     λ i x y. (one_more (same_point x p) (point_in (take k rs) y) (same_point y r) (not (same_point y p))
     ∙ ap (λ b. same_point x p && (b && not (same_point y p))) (sym (one y))) i
-
--- no edge leads from a point to itself
-no_loop : (s t : Bool) → (s && (t && not t)) ≡ false
-no_loop true true = refl
-no_loop true false = refl
-no_loop false t = refl
-
-or_false : (b : Bool) → b ≡ (b || false)
-or_false true = refl
-or_false false = refl
-
-pub no_edge : (p : Point) (e : Edges) → e ≡ both_edges e (edges_to p (only p))
-no_edge p e = λ i x y. (or_false (e x y) ∙ ap (λ b. e x y || b) (sym (no_loop (same_point x p) (same_point y p)))) i
 
 -- t: the target is the root; u: it is the point
 apart : (s t u : Bool) → (IsTrue t → IsTrue u → ⊥) → (s && t) ≡ (s && (t && not u))

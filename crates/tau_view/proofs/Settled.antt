@@ -1,15 +1,14 @@
 -- The second law: on settled facts trimming keeps whether a known past has a Fallen point, and one that isn't firm.
-use Rattle.std.proofs.Common.{◌≡◌, ℕ, ◌⊎◌, inl, inr, ⊎_elim, Bool, true, false, IsTrue, IsFalse, refl, sym, ap, ◌∙◌, subst}
-use Rattle.std.proofs.Common.{arith, eqb}
-use Rattle.std.proofs.lemmas.Bool.Decides.{nat_tests}
+use Rattle.std.proofs.Common.{◌≡◌, ◌⊎◌, ⊎_elim, Bool, true, false, IsTrue, IsFalse, refl, sym, subst}
 use Rattle.tau_history.specs.declared.fate.Fate.{Fate}
-use Rattle.tau_history.specs.declared.fate.Fate.TheVariants.{Ahead, Open, Stable, Closed, Fallen}
+use Rattle.tau_history.specs.declared.fate.Fate.TheVariants.{Closed, Fallen}
 use Rattle.tau_points.specs.declared.point.Point.{Point}
-use Rattle.tau_points.specs.Reach.{Reach, start, next}
-use Rattle.tau_view.specs.Held.{Held, Histories, Points, fate_in, is_firm, only, same_point}
+use Rattle.tau_points.specs.Reach.{start, next}
+use Rattle.tau_view.specs.Held.{Held, Points, fate_in, is_firm, only}
 use Rattle.tau_view.specs.Trim.{EdgeTest, RootTest, unless, trim, DropsSettledEdges}
-use Rattle.tau_view.specs.Past.{Link, edge, before, KnownPast, FallenIn, NotFirmIn, SomeFallen, SomeNotFirm, Settled}
+use Rattle.tau_view.specs.Past.{Link, edge, before, KnownPast, SomeFallen, SomeNotFirm}
 use Rattle.tau_view.specs.Laws.{LosesClosed, FallenIgnoresTrim, NotFirmIgnoresTrim, SettledUnderTrim}
+use Rattle.tau_view.proofs.Sets.{same_self}
 
 kept : (d b : Bool) → IsTrue (unless d b) → IsTrue b
 kept true b h = cc
@@ -22,9 +21,6 @@ data Kept (v t : Held) (Q : Points) (q : Point) : Type 0 where
   fell : SomeFallen t Q → Kept v t Q q
 
 -- a point is itself
-pub same_point-self : (q : Point) → IsTrue (same_point q q)
-same_point-self q = grind (arith, nat_tests)
-
 firm_not_fallen : (f : Fate) → f ≡ Fallen → IsTrue (is_firm f) → ⊥
 firm_not_fallen f e h = let g : IsTrue (is_firm Fallen) = subst (λ x. IsTrue (is_firm x)) e h in cc
 
@@ -47,20 +43,20 @@ module _ (drops_edge : EdgeTest) (drops_root : RootTest) where
     follow v Q x q r (before a b c) = same (next r (before a b c))
     follow v Q x q r (edge e) = by_test (drops_edge v.history x q) refl where
       from_closed : fate_in v.history x ≡ Closed → Kept v (trim drops_edge drops_root v) Q q
-      from_closed c = behind x c (next (start (same_point-self x)) (edge e))
+      from_closed c = behind x c (next (start (same_self x)) (edge e))
 
       from_fallen : fate_in v.history x ≡ Fallen → Kept v (trim drops_edge drops_root v) Q q
       from_fallen f = fell (x, record { in_past = r; is_fallen = f })
 
       to_closed : fate_in v.history q ≡ Closed → Kept v (trim drops_edge drops_root v) Q q
-      to_closed c = behind q c (start (same_point-self q))
+      to_closed c = behind q c (start (same_self q))
 
       by_test : (d : Bool) → drops_edge v.history x q ≡ d → Kept v (trim drops_edge drops_root v) Q q
       by_test true t = ⊎_elim (λ s. ⊎_elim from_closed from_fallen s) to_closed (settled_edges v.history x q t)
       by_test false t = same (next r (edge (subst (λ d. IsTrue (unless d (v.edge x q))) (sym t) e)))
 
     keeps : (v : Held) (P Q : Points) → LosesClosed v.history P Q → (q : Point) → KnownPast v P q → Kept v (trim drops_edge drops_root v) Q q
-    keeps v P Q loses q (start h) = ⊎_elim (λ m. same (start m)) (λ c. behind q c (start (same_point-self q))) (loses.lost q h)
+    keeps v P Q loses q (start h) = ⊎_elim (λ m. same (start m)) (λ c. behind q c (start (same_self q))) (loses.lost q h)
     keeps v P Q loses q (next {x = x} r l) = go (keeps v P Q loses x r) where
       go : Kept v (trim drops_edge drops_root v) Q x → Kept v (trim drops_edge drops_root v) Q q
       go (same k) = follow v Q x q k l

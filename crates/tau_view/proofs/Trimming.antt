@@ -1,12 +1,10 @@
 -- The first law: trimming the views that a call is given changes nothing.
-use Rattle.std.proofs.Common.{◌≡◌, ℕ, Bool, true, false, not, ◌&&◌, ◌||◌, IsTrue, Option, Some, refl, sym, ap, ◌∙◌, cond, eqb}
-use Rattle.tau_history.specs.Timeline.{Timeline}
-use Rattle.tau_points.specs.declared.point.Point.{Point}
-use Rattle.tau_view.specs.Held.{Held, Histories, AllPrecede, AllComparable, same_point}
-use Rattle.tau_view.specs.Rules.{noted, touched, depended, merged, with_roots, with_no_roots, later_history}
+use Rattle.std.proofs.Common.{◌≡◌, Bool, true, false, not, ◌&&◌, ◌||◌, IsTrue, Some, refl, cond, eqb}
+use Rattle.tau_view.specs.Held.{Histories, same_point}
+use Rattle.tau_view.specs.Rules.{later_history}
 use Rattle.tau_view.specs.Trim.{EdgeTest, RootTest, unless, trim, DropsClosedRoots, DropsForGood}
-use Rattle.tau_view.specs.Laws.{MayNote, NoteIgnoresTrim, TouchIgnoresTrim, DependIgnoresTrim, MergeIgnoresTrim, TakingRootsIgnoresTrim, ClearingRootsIgnoresTrim}
-use Rattle.tau_view.proofs.Later.{left_precedes, right_precedes, noted_precedes, all_here}
+use Rattle.tau_view.specs.Laws.{NoteIgnoresTrim, TouchIgnoresTrim, DependIgnoresTrim, MergeIgnoresTrim, TakingRootsIgnoresTrim, ClearingRootsIgnoresTrim}
+use Rattle.tau_view.proofs.Later.{left_precedes, right_precedes, noted_precedes}
 
 -- what is dropped first is dropped later too
 twice : (d e b : Bool) → (IsTrue d → IsTrue e) → unless e (unless d b) ≡ unless e b

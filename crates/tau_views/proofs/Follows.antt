@@ -2,8 +2,9 @@
 use Rattle.std.proofs.Common.{◌≡◌, ◌⊎◌, inl, inr, ⊎_elim, ℕ, suc, ◌+◌, ◌<◌, ◌≤◌, IsTrue, Bool, true, false, List, [], ◌∷◌, ◌++◌, length, set, Option, Some, None, refl, sym, ap, ◌∙◌, subst, arith, length-append}
 use Rattle.std.specs.Prelude.{slice_get, IsFalse}
 use Rattle.std.proofs.lemmas.Option.{slice_get_within}
+use Rattle.std.proofs.lemmas.Bool.{cases_eq}
 use Rattle.tau_view.specs.Held.{Held}
-use Rattle.tau_view.specs.Trim.{EdgeTest, RootTest, trim}
+use Rattle.tau_view.specs.Trim.{EdgeTest, RootTest}
 use Rattle.tau_trace.specs.declared.step.Step.{Step}
 use Rattle.tau_trace.specs.Steps.{actor, removed_by, is_new, is_send}
 use Rattle.tau_trace.specs.Run.{Run, len, appended}
@@ -11,13 +12,12 @@ use Rattle.tau_trace.specs.Numbering.{born, sent, InFlight}
 use Rattle.tau_trace.specs.Known.{MayFollow, WellFormed}
 use Rattle.tau_trace.proofs.Indexing.{len-appended}
 use Rattle.tau_trace.proofs.Lists.{same_some, slice_get-set_same, slice_get-set_other, slice_get-front, slice_get-last, slice_get-push_cases}
-use Rattle.tau_trace.proofs.LivingLemmas.{equal_or_not}
 use Rattle.tau_heard.specs.Views.{IsViewOf, IsMessageView}
 use Rattle.tau_views.specs.declared.views.ViewChange.{ViewChange}
 use Rattle.tau_views.specs.Kept.{IsTrimmed, AreViews}
 use Rattle.tau_views.specs.Changes.{with_item, with_last, without_item, with_letter, own_after, letters_after}
 use Rattle.tau_views.proofs.Lists.{length-with_item, length-without_item, left_in, left_other, taken_out}
-use Rattle.tau_views.proofs.Appended.{one_if, born_here, born_then, sent_then, acts_here, flew, flies_on, not_removed, new_flies, own_stays, message_stays, after_step, at_end}
+use Rattle.tau_views.proofs.Appended.{one_if, born_then, sent_then, acts_here, flew, flies_on, not_removed, new_flies, message_stays, after_step, at_end}
 
 -- the actor's view changes to one that it has after the step, or stays one
 abbrev pub OwnFollows : EdgeTest → RootTest → Run → Step → Option (ℕ × Held) → Type 0
@@ -57,7 +57,7 @@ module _ (de : EdgeTest) (dr : RootTest) (T : Run) (s : Step) (own : List Held) 
     by (Some u) g = ⊎_elim
         (λ (is : u ≡ t). let x = views.each t h e in record { whole = x.whole; is_whole = f t x.whole (g ∙ ap Some is) (exists t h e) x.is_whole; is = x.is })
         (λ ne. other_after t h e (λ a. ne (same_some (sym g ∙ a))))
-        (equal_or_not u t)
+        (cases_eq u t)
 
   own_views : (o : Option (ℕ × Held)) → OwnFollows de dr T s o → (t : ℕ) (h : Held) → slice_get (with_item o own) t ≡ Some h → IsTrimmed de dr (IsViewOf (appended T s) t (suc (len T))) h
   own_views None f t h e = stays_after f t h e
@@ -69,7 +69,7 @@ module _ (de : EdgeTest) (dr : RootTest) (T : Run) (s : Step) (own : List Held) 
       let Q : ℕ → Held → Type 0 = λ i k. IsTrimmed de dr (IsViewOf (appended T s) i (suc (len T))) k in
       subst (λ i. Q i h) (sym is) (subst (Q c.0) same f.1))
       (λ ne. other_after t h (sym (slice_get-set_other own c.0 t c.1 ne) ∙ e) (λ a. ne (same_some (sym a ∙ f.0))))
-      (equal_or_not t c.0)
+      (cases_eq t c.0)
     where
       inside : t < length (set own c.0 c.1) → t < length own
       inside l = omega (arith, l, length-with_item (Some c) own)
@@ -147,7 +147,7 @@ module _ (de : EdgeTest) (dr : RootTest) (T : Run) (s : Step) (own : List Held) 
     old a (Some k) e = ⊎_elim
         (λ (is : k ≡ m). kept_in (removed_by s) l m None (taken_out (removed_by s) letters m (e ∙ ap Some is) (omega (arith, a, views.messages))))
         (λ ne. other a (λ g. ne (same_some (sym e ∙ g))))
-        (equal_or_not k m)
+        (cases_eq k m)
 
   -- the views after the change are those of the run and the step
   pub views_follow : (c : ViewChange Held) → Follows de dr T s c → AreViews de dr (appended T s) (own_after c own) (letters_after c letters)

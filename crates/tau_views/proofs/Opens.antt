@@ -1,6 +1,5 @@
 -- The views before the first step.
-use Rattle.std.proofs.Common.{◌≡◌, ⊎_elim, false, ℕ, ◌+◌, ◌<◌, ◌≤◌, List, [], ◌∷◌, ◌++◌, length, Option, Some, None, refl, sym, ap, ◌∙◌, subst, arith, length-append}
-use Rattle.std.specs.Prelude.{slice_get}
+use Rattle.std.proofs.Common.{◌≡◌, ⊎_elim, false, ℕ, ◌+◌, List, [], ◌∷◌, ◌++◌, length, Option, Some, sym, ap, ◌∙◌, arith, length-append}
 use Rattle.std.specs.Option.{option_map_or}
 use Rattle.std.proofs.lemmas.Option.{slice_get_within}
 use Rattle.tau_history.specs.Timeline.{opening}
@@ -10,12 +9,11 @@ use Rattle.tau_view.specs.Trim.{EdgeTest, RootTest, trim}
 use Rattle.tau_trace.specs.declared.opening.Opening.{Opening}
 use Rattle.tau_trace.specs.Steps.{is_new, is_send}
 use Rattle.tau_trace.specs.Run.{Run, step_at, starts}
-use Rattle.tau_trace.specs.Numbering.{born, sent, InFlight}
+use Rattle.tau_trace.specs.Numbering.{sent}
 use Rattle.tau_trace.specs.Known.{IsSound, WellFormed}
 use Rattle.tau_trace.proofs.Counts.{count-zero}
 use Rattle.tau_trace.proofs.Lists.{same_some, slice_get-push_cases}
-use Rattle.tau_heard.specs.Views.{IsViewOf, IsMessageView}
-use Rattle.tau_views.specs.Kept.{IsTrimmed, AreViews}
+use Rattle.tau_views.specs.Kept.{AreViews}
 use Rattle.tau_views.specs.Opened.{AreStarts, ArePosts}
 use Rattle.tau_heard.proofs.HeardLaws.{starts_open_alone, posts_have_heard_nothing}
 use Rattle.tau_views.proofs.Lists.{element}
@@ -44,13 +42,6 @@ module _ (de : EdgeTest) (dr : RootTest) where
     posts = omega (arith, length-append letters (Some h ∷ []), given.posts);
     letter = λ m o e. ⊎_elim (λ a. given.letter m o a) (λ b. sym b.1 ∙ ap Some is) (slice_get-push_cases letters (Some h) o m e);
   }
-
-  -- none yet
-  pub no_starts : AreStarts de dr [] 0
-  no_starts = record { starts = refl; each = λ t h e. absurd (cc) }
-
-  pub no_posts : ArePosts de dr [] 0
-  no_posts = record { posts = refl; letter = λ m o e. absurd (cc) }
 
   -- the views of starts and posts are those of the run without steps
   pub opens : (o : Opening) (own : List Held) (letters : List (Option Held)) → IsSound o → AreStarts de dr own (length o.names) → ArePosts de dr letters (length o.targets) → AreViews de dr (record { opening = o; steps = [] }) own letters

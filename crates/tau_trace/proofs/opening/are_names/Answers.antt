@@ -1,7 +1,8 @@
-use Rattle.std.proofs.Common.{◌≡◌, ◌<◌, ◌∙◌, ℕ, [], length, get_or, Some, refl, sym, ap, subst, arith, below_more}
+use Rattle.std.proofs.Common.{◌≡◌, ◌<◌, ◌∙◌, [], length, get_or, Some, refl, sym, ap, subst, arith, below_more}
 use Rattle.std.proofs.lemmas.List.{get_or_default}
 use Rattle.tau_value.specs.Names.{IsName, place_of}
-use Rattle.tau_trace.proofs.NamePlaces.{place_of_each, names_from_places}
+use Rattle.tau_value.proofs.NameLemmas.{place_of-at}
+use Rattle.tau_trace.proofs.NamePlaces.{names_from_places}
 use Rattle.tau_trace.proofs.opening.are_names.Goals as goal
 
 pub returns-then-not-is_found_at : goal.returns-then-not-is_found_at
@@ -10,7 +11,7 @@ returns-then-not-is_found_at c =
     let k = c.loop-place.place in
     let within : k < length xs = omega (arith, c.loop-place-test.true, ap length c.items-word-items.ensures) in
     let here : get_or xs k c.word-item.result ≡ c.word-item.result = sym (c.word-item.is ∙ ap (λ ys. get_or ys k c.word-item.result) c.items-word-items.ensures) in
-    (λ t. absurd (cc), λ are. c.if-not-is_found_at.ensures.1 (place_of_each xs k c.word-item.result are.distinct within here))
+    (λ t. absurd (cc), λ are. c.if-not-is_found_at.ensures.1 (place_of-at xs k c.word-item.result are.distinct within here))
 
 pub loop-place-preserved : goal.loop-place-preserved
 loop-place-preserved c =

@@ -1,9 +1,9 @@
-use Rattle.std.proofs.Common.{◌≡◌, ℕ, ◌+◌, ◌<◌, ◌≤◌, ⊎_elim, Bool, true, false, List, [], ◌∷◌, ◌++◌, refl, sym, ◌∙◌, length, take, get_or, eqb, subst, arith, rules}
+use Rattle.std.proofs.Common.{◌≡◌, ℕ, ◌+◌, ◌<◌, ⊎_elim, List, sym, ◌∙◌, length, take, get_or, eqb, subst, arith}
 use Rattle.std.specs.Prelude.{Contains}
-use Rattle.std.specs.Bool.{OnTrue}
 use Rattle.std.proofs.lemmas.Bool.Decides.{nat_tests}
 use Rattle.std.proofs.lemmas.List.{take_more, take_all}
 use Rattle.std.proofs.lemmas.List.Elements.{Contains-push_cases, Contains-get_or}
+use Rattle.std.proofs.lemmas.Bool.{OnTrue_from}
 use Rattle.tau_points.specs.declared.point.Point.{Point}
 use Rattle.tau_points.specs.Members.{HasAll}
 use Rattle.tau_points.proofs.PointOrder.{pair_eq-Decides}
@@ -19,10 +19,6 @@ one_more ours theirs f i d e p q same has x c =
 -- all are found
 all_found : (ours theirs : List (Point × Point)) (f : ℕ) → f ≡ length theirs → HasAll ours (take f theirs) → HasAll ours theirs
 all_found ours theirs f e has = subst (HasAll ours) (take_all f theirs (omega arith)) has
-
-on_true : (b : Bool) (P : Type 0) → (b ≡ true → P) → OnTrue b P
-on_true true P f = f refl
-on_true false P f = tt
 
 pub loop-pair-preserved : goal.loop-pair-preserved
 loop-pair-preserved c =
@@ -42,5 +38,5 @@ loop-pair-preserved c =
 
 pub returns : goal.returns
 returns c =
-    on_true (eqb c.loop-pair.found (length c.args.theirs.now)) (HasAll c.args.ours.now c.args.theirs.now)
+    OnTrue_from (eqb c.loop-pair.found (length c.args.theirs.now)) (HasAll c.args.ours.now c.args.theirs.now)
     (λ t. all_found c.args.ours.now c.args.theirs.now c.loop-pair.found (grind (arith, nat_tests)) c.loop-pair.invariant.has)

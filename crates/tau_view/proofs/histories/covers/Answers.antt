@@ -1,17 +1,13 @@
-use Rattle.std.proofs.Common.{◌≡◌, ◌<◌, ◌+◌, Bool, true, false, refl, length, get_or, eqb, sym, ap, ◌∙◌, subst, arith}
-use Rattle.std.specs.Bool.{OnTrue}
+use Rattle.std.proofs.Common.{◌≡◌, ◌<◌, false, length, get_or, eqb, sym, ap, ◌∙◌, subst, arith}
 use Rattle.std.proofs.lemmas.Bool.Decides.{nat_tests}
+use Rattle.std.proofs.lemmas.Bool.{OnTrue_from}
 use Rattle.tau_history.specs.Order.{AreComparable, later_of}
-use Rattle.tau_view.specs.Entries.{entry_of, entries_of}
+use Rattle.tau_view.specs.Entries.{entries_of}
 use Rattle.tau_view.specs.Rules.{merged_in}
 use Rattle.tau_view.specs.Stored.{history_in}
 use Rattle.tau_view.proofs.Later.{later-else}
 use Rattle.tau_view.proofs.Merging.{at, read_at, equal_at, comparable_at, covered_more, covered_all}
 use Rattle.tau_view.proofs.histories.covers.Goals as goal
-
-on_true : (b : Bool) (P : Type 0) → (b ≡ true → P) → OnTrue b P
-on_true true P f = f refl
-on_true false P f = tt
 
 pub is_before-requires : goal.is_before-requires
 is_before-requires c =
@@ -47,5 +43,5 @@ pub returns : goal.returns
 returns c =
     let ours = c.args.ours.now in
     let theirs = c.args.theirs.now in
-    on_true (eqb c.compare.j (length theirs)) (merged_in (history_in (entries_of ours)) (history_in (entries_of theirs)) ≡ history_in (entries_of ours))
+    OnTrue_from (eqb c.compare.j (length theirs)) (merged_in (history_in (entries_of ours)) (history_in (entries_of theirs)) ≡ history_in (entries_of ours))
     (λ t. covered_all ours theirs c.compare.j (grind (arith, nat_tests)) c.compare.invariant.covered)

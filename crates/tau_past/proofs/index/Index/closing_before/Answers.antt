@@ -1,9 +1,9 @@
 use Rattle.std.proofs.Common.{subst, sym, ap, ◌∙◌, arith, Some, ◌≡◌, ◌↔◌}
 use Rattle.std.specs.Prelude.{slice_get}
 use Rattle.tau_past.specs.Tables.{ClosesBefore}
-use Rattle.tau_past.proofs.NextTables.{slice_get_none}
 use Rattle.tau_past.proofs.Endings.{closing_told, unknown_not_closed}
 use Rattle.tau_past.proofs.index.Index.closing_before.Goals as goal
+use Rattle.tau_trace.proofs.Reading.{past_end}
 
 pub returns-in-Some : goal.returns-in-Some
 returns-in-Some c = λ q.
@@ -18,5 +18,5 @@ returns-in-None c = λ q.
     let R = c.self.inside.trace.now.run in
     let p = c.args.point.now in
     let at = ap (λ xs. slice_get xs p.who) (sym c.deref.ensures.value) in
-    let none = slice_get_none c.self.inside.histories.items p.who (at ∙ sym c.in-None.ensures) in
+    let none = past_end c.self.inside.histories.items p.who (at ∙ sym c.in-None.ensures) in
     (λ r. absurd (unknown_not_closed R p q c.self.invariant.well_formed (omega (arith, none, c.self.invariant.histories.count)) (subst (λ x. ClosesBefore x p q) (sym c.self.view_is) r)), λ e. absurd (cc))

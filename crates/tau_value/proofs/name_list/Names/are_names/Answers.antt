@@ -1,8 +1,7 @@
 use Rattle.std.proofs.Common.{◌≡◌, ◌<◌, Some, true, false, eqb, not, length, get_or, arith, ap, sym, ◌∙◌, refl}
 use Rattle.std.specs.Option.{option_eq}
-use Rattle.std.proofs.lemmas.Bool.{false≢true, eq-eqb}
-use Rattle.tau_value.specs.Names.{place_of}
-use Rattle.tau_value.proofs.NameLemmas.{are_names-found, AreFound-more, place_of-at, some_from_eq, true_from_not}
+use Rattle.std.proofs.lemmas.Bool.{eq-eqb, not-false}
+use Rattle.tau_value.proofs.NameLemmas.{are_names-found, AreFound-more, place_of-at, some_from_eq}
 use Rattle.tau_value.proofs.name_list.Names.are_names.Goals as goal
 
 pub loop-k-init : goal.loop-k-init
@@ -30,7 +29,7 @@ loop-k-preserved c =
     let slice : c.deref-item-items.result.now ≡ names = c.deref-item-items.ensures.value ∙ c.self.view_is in
     let lt : k < length names = omega (arith, ap length slice) in
     let is : get_or names k item ≡ item = ap (λ xs. get_or xs k item) (sym slice) ∙ sym c.item-item.is in
-    let found = some_from_eq c.find.result k (true_from_not _ (sym c.ne.ensures ∙ c.if-ne.false)) in
+    let found = some_from_eq c.find.result k (not-false _ (sym c.ne.ensures ∙ c.if-ne.false)) in
     AreFound-more names k item c.loop-k.invariant lt is (sym c.is_name.ensures ∙ c.if-not-is_name.false) (sym c.find.ensures ∙ found)
 
 pub returns : goal.returns
