@@ -9,7 +9,7 @@ use Rattle.tau_trace.specs.Run.{Run, len}
 use Rattle.tau_trace.proofs.Indexing.{len-appended}
 use Rattle.tau_script.specs.Scripts.{NoneDue}
 use Rattle.tau_legal.specs.Traces.{Complete}
-use Rattle.tau_eval.specs.Turn.{Turn}
+use Rattle.tau_eval.specs.Turn.{TurnSoFar}
 use Rattle.tau_rules.specs.System.{Core}
 use Rattle.tau_rules.specs.Answers.{IsDelivered}
 use Rattle.tau_rules.specs.declared.answers.Delivered.{Delivered}
@@ -52,7 +52,7 @@ pub none_of : {X : Type 0} (xs : List X) → length xs ≡ 0 → xs ≡ []
 none_of [] e = refl
 none_of (x ∷ xs) e = absurd (omega (arith, e))
 
-module _ (s : ScriptedRun) (limit : ℕ) (store : List Turn) (h : Held) (turns_are : AreOpenTurns s.system.run s.turns) (messages_are : AreDeliverable s.system.run s.messages)
+module _ (s : ScriptedRun) (limit : ℕ) (store : List TurnSoFar) (h : Held) (turns_are : AreOpenTurns s.system.run s.turns) (messages_are : AreDeliverable s.system.run s.messages)
     (none_due : NoneDue s.system.program.script s.system.run (len s.system.run)) (below : len s.system.run < limit) where
   abbrev going : GoesOn (booked s limit store)
   going = record { below = below; none_due = none_due }
@@ -60,7 +60,7 @@ module _ (s : ScriptedRun) (limit : ℕ) (store : List Turn) (h : Held) (turns_a
   abbrev offered : Offer (booked s limit store) h
   offered = record { turns = s.turns; turns_are = turns_are; messages = s.messages; messages_are = messages_are }
 
-  pub is_idle : (kept : List Turn) (k : Held) (out : ℕ) → ¬ Complete s.system.program s.system.run → jobs_with s.turns h store ≡ [] → s.messages ≡ [] → out ≡ length s.turns
+  pub is_idle : (kept : List TurnSoFar) (k : Held) (out : ℕ) → ¬ Complete s.system.program s.system.run → jobs_with s.turns h store ≡ [] → s.messages ≡ [] → out ≡ length s.turns
       → kept ≡ store_without s.turns h store → k ≡ record h { jobs = jobs_with s.turns h store } → IsIdle (booked s limit store) (booked s limit kept) h k out
   is_idle kept k out incomplete no_job no_message out_is kept_is hand_is =
       let some : 1 ≤ length s.turns = some_open s.system.program s.system.run s.turns s.messages turns_are messages_are no_message none_due incomplete in
@@ -72,10 +72,10 @@ module _ (s : ScriptedRun) (limit : ℕ) (store : List Turn) (h : Held) (turns_a
         out_is = out_is;
         some_out = omega (arith, some, out_is);
         book_is = ap (booked s limit) kept_is;
-        hand_is = hand_is ∙ ap (λ (jobs : List Turn). record h { jobs = jobs }) no_job;
+        hand_is = hand_is ∙ ap (λ (jobs : List TurnSoFar). record h { jobs = jobs }) no_job;
       }
 
-  pub is_handed_out : (kept : List Turn) (mid k : Held) (job : Turn) (number : ℕ) (generator : Lcg) → number ≡ number_drawn h.generator (options h.size (jobs_with s.turns h store) s.messages)
+  pub is_handed_out : (kept : List TurnSoFar) (mid k : Held) (job : TurnSoFar) (number : ℕ) (generator : Lcg) → number ≡ number_drawn h.generator (options h.size (jobs_with s.turns h store) s.messages)
       → generator ≡ generator_after h.generator → kept ≡ store_without s.turns h store → mid ≡ record h { jobs = jobs_with s.turns h store }
       → IsNumbered mid.jobs number job k.jobs → k.generator ≡ generator → k.size ≡ mid.size → IsHandedOut (booked s limit store) (booked s limit kept) h k job
   is_handed_out kept mid k job number generator drawn after kept_is mid_is numbered generator_is size_is =
@@ -90,7 +90,7 @@ module _ (s : ScriptedRun) (limit : ℕ) (store : List Turn) (h : Held) (turns_a
         hand_is = λ i. record { generator = (generator_is ∙ after) i; size = size i; jobs = k.jobs };
       }
 
-  pub is_received : (t : ScriptedRun) (turns : List ℕ) (stored kept : List Turn) (mid k : Held) (number : ℕ) (generator : Lcg) (d : Delivered) → turns ≡ s.turns → stored ≡ store
+  pub is_received : (t : ScriptedRun) (turns : List ℕ) (stored kept : List TurnSoFar) (mid k : Held) (number : ℕ) (generator : Lcg) (d : Delivered) → turns ≡ s.turns → stored ≡ store
       → number < length s.messages → number_drawn h.generator (options h.size (jobs_with s.turns h store) s.messages) ≡ length (jobs_with s.turns h store) + number
       → generator ≡ generator_after h.generator → ((m : ℕ) → slice_get s.messages number ≡ Some m → IsDelivered s.system t.system m d)
       → kept ≡ store_without turns h stored → mid ≡ record h { jobs = jobs_with turns h stored }
@@ -98,7 +98,7 @@ module _ (s : ScriptedRun) (limit : ℕ) (store : List Turn) (h : Held) (turns_a
   is_received t turns stored kept mid k number generator d turns_same stored_same within drawn after delivered kept_is mid_is hand_is =
       let m = at_place s.messages number within in
       let jobs_same : jobs_with turns h stored ≡ jobs_with s.turns h store = λ i. jobs_with (turns_same i) h (stored_same i) in
-      let mid_same : mid ≡ record h { jobs = jobs_with s.turns h store } = mid_is ∙ ap (λ (jobs : List Turn). record h { jobs = jobs }) jobs_same in
+      let mid_same : mid ≡ record h { jobs = jobs_with s.turns h store } = mid_is ∙ ap (λ (jobs : List TurnSoFar). record h { jobs = jobs }) jobs_same in
       record {
         goes_on = going;
         offer = offered;

@@ -9,7 +9,7 @@ use Rattle.tau_script.specs.declared.cursor.Cursor.{Cursor}
 use Rattle.tau_script.specs.Cursors.{CursorAt}
 use Rattle.tau_script.specs.Scripts.{NoneDue}
 use Rattle.tau_legal.specs.Traces.{Legal, Complete}
-use Rattle.tau_eval.specs.Turn.{Turn}
+use Rattle.tau_eval.specs.Turn.{TurnSoFar}
 use Rattle.tau_rules.specs.System.{Core, with_step}
 use Rattle.tau_scripted.specs.Flight.{AreInFlight}
 use Rattle.tau_scripted.specs.ScriptedRun.{ScriptedRun}
@@ -20,14 +20,14 @@ pub record Booked : Type 0 where
   pub letters : List Letter
   pub cursor : Cursor
   pub limit : ℕ
-  pub store : List Turn
+  pub store : List TurnSoFar
 
 -- the book over a system that follows its script
-abbrev pub booked : ScriptedRun → ℕ → List Turn → Booked
+abbrev pub booked : ScriptedRun → ℕ → List TurnSoFar → Booked
 booked s limit store = record { system = s.system; letters = s.letters; cursor = s.cursor; limit = limit; store = store }
 
 -- no two jobs are of one turn
-abbrev pub AreOfDifferentTurns : List Turn → Type 0
+abbrev pub AreOfDifferentTurns : List TurnSoFar → Type 0
 AreOfDifferentTurns jobs = AllPairs (λ a b. a.place ≢ b.place) jobs
 
 -- what holds of each book: its trace is well formed and legal and has at most `limit` steps, the letters are the messages in flight,
@@ -42,19 +42,19 @@ pub record IsBook (b : Booked) : Type 0 where
   pub one_each : AreOfDifferentTurns b.store
 
 -- what a book keeps beside that of its system: the limits, jobs of different turns, and a place for a job of each open turn
-pub record IsKept (s : ScriptedRun) (limit : ℕ) (store : List Turn) (places : ℕ) : Type 0 where
+pub record IsKept (s : ScriptedRun) (limit : ℕ) (store : List TurnSoFar) (places : ℕ) : Type 0 where
   pub limited : len s.system.run ≤ limit
   pub few : limit ≤ 1000000
   pub one_each : AreOfDifferentTurns store
   pub room : length s.turns ≤ places
 
 -- the step was appended, and the returned jobs are these; letters and cursor are those of the longer trace
-pub record IsAppended (old new : Booked) (s : Step) (store : List Turn) : Type 0 where
+pub record IsAppended (old new : Booked) (s : Step) (store : List TurnSoFar) : Type 0 where
   pub system_is : new.system ≡ with_step old.system s
   pub limit_is : new.limit ≡ old.limit
   pub store_is : new.store ≡ store
 
--- the trace has as many steps as the limit, or fewer
+-- the trace has as many steps as the limit
 abbrev pub IsAtLimit : Booked → Type 0
 IsAtLimit b = len b.system.run ≡ b.limit
 

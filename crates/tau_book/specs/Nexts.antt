@@ -3,7 +3,7 @@ use Rattle.std.specs.Prelude.{◌≡◌, ◌⊎◌, ◌<◌, ◌≤◌, ◌+◌,
 use Rattle.tau_trace.specs.declared.step.Step.{Step}
 use Rattle.tau_trace.specs.Run.{len}
 use Rattle.tau_script.specs.Scripts.{DueStep, NoneDue}
-use Rattle.tau_eval.specs.Turn.{Turn}
+use Rattle.tau_eval.specs.Turn.{TurnSoFar}
 use Rattle.tau_rules.specs.Answers.{IsDelivered}
 use Rattle.tau_rules.specs.declared.answers.Delivered.{Delivered}
 use Rattle.tau_rules.specs.declared.answers.Delivered.TheVariants.{Began, Dropped, Fell, Voided}
@@ -38,16 +38,16 @@ pub record IsIdle (old new : Booked) (h k : Held) (out : ℕ) : Type 0 where
   pub hand_is : k ≡ record h { jobs = [] }
 
 -- the word chose a job, which left the hand
-pub record IsHandedOut (old new : Booked) (h k : Held) (job : Turn) : Type 0 where
+pub record IsHandedOut (old new : Booked) (h k : Held) (job : TurnSoFar) : Type 0 where
   pub goes_on : GoesOn old
   pub offer : Offer old h
-  pub others : List Turn
+  pub others : List TurnSoFar
   pub chosen : let jobs = jobs_with offer.turns h old.store in IsNumbered jobs (number_drawn h.generator (options h.size jobs offer.messages)) job others
   pub book_is : new ≡ record old { store = store_without offer.turns h old.store }
   pub hand_is : k ≡ record { generator = generator_after h.generator; size = h.size; jobs = others }
 
 -- the jobs of a hand with that of the turn that a receipt opened
-abbrev pub begun_with : List Turn → Delivered → List Turn
+abbrev pub begun_with : List TurnSoFar → Delivered → List TurnSoFar
 begun_with jobs (Began job) = jobs ++ job ∷ []
 begun_with jobs Dropped = jobs
 begun_with jobs Fell = jobs

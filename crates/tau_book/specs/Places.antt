@@ -1,6 +1,6 @@
 -- What the calls of a place on a book answer, whoever else calls it (docs/rules.md, "Choice of a worker").
 use Rattle.std.specs.Prelude.{◌≡◌, ◌<◌, Option, Some, None, length, IsSome}
-use Rattle.tau_eval.specs.Turn.{Turn}
+use Rattle.tau_eval.specs.Turn.{TurnSoFar}
 use Rattle.tau_book.specs.declared.answers.Next.{Next}
 use Rattle.tau_book.specs.declared.answers.Next.TheVariants as nexts
 use Rattle.tau_book.specs.declared.answers.Told.{Told}
@@ -30,7 +30,7 @@ LeavesRoom h (nexts.Work job) = length h.jobs < h.size
 LeavesRoom h answer = Unit {0}
 
 -- an effect that comes back is the one that was brought, and the hand is as it was
-abbrev pub ComesBack : Held → Held → Turn → Told → Type 0
+abbrev pub ComesBack : Held → Held → TurnSoFar → Told → Type 0
 ComesBack h k pending (tolds.Later back) = (back ≡ pending) × (k ≡ h)
 ComesBack h k pending answer = Unit {0}
 

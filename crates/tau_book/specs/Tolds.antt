@@ -3,7 +3,7 @@ use Rattle.std.specs.Prelude.{◌≡◌, ◌<◌, ℕ, Bool, true, false, List, 
 use Rattle.tau_value.specs.declared.shared.Value.{Value}
 use Rattle.tau_value.specs.Value.{val_of}
 use Rattle.tau_trace.specs.Run.{len}
-use Rattle.tau_eval.specs.Turn.{Turn, with_reply}
+use Rattle.tau_eval.specs.Turn.{TurnSoFar, with_reply}
 use Rattle.tau_rules.specs.Answers.{IsActed, NoTurnFrom, IsTurnEnd}
 use Rattle.tau_rules.specs.declared.answers.Acted.{Acted}
 use Rattle.tau_rules.specs.declared.answers.Acted.TheVariants.{Reply, TurnOver, Redo}
@@ -16,7 +16,7 @@ use Rattle.tau_book.specs.Offers.{given_back}
 use Rattle.tau_book.specs.Nexts.{IsDueMade}
 
 -- the effect was tried, and this came of it
-pub record IsTried (old new : Booked) (pending : Turn) (a : Acted) : Type 0 where
+pub record IsTried (old new : Booked) (pending : TurnSoFar) (a : Acted) : Type 0 where
   pub goes_on : GoesOn old
   pub acted : IsActed old.system new.system pending a
   pub limit_is : new.limit ≡ old.limit
@@ -28,13 +28,13 @@ StaysAtRedo old new (Redo job) = new ≡ old
 StaysAtRedo old new a = Unit {0}
 
 -- its step was appended: the turn goes on, and the job with the reply joins the hand; or the turn is over
-pub data IsTurnStep (old new : Booked) (h k : Held) (pending : Turn) : Type 0 where
+pub data IsTurnStep (old new : Booked) (h k : Held) (pending : TurnSoFar) : Type 0 where
   goes_on : {r : Value} → IsTried old new pending (Reply r) → k ≡ joined h (with_reply pending (val_of r)) → IsTurnStep old new h k pending
   is_over : IsTried old new pending TurnOver → k ≡ h → IsTurnStep old new h k pending
 
 -- another job is the record of the turn, and joins the hand
-pub record IsRedoneWith (old new : Booked) (h k : Held) (pending : Turn) : Type 0 where
-  pub job : Turn
+pub record IsRedoneWith (old new : Booked) (h k : Held) (pending : TurnSoFar) : Type 0 where
+  pub job : TurnSoFar
   pub redone : IsTried old new pending (Redo job)
   pub book_is : new ≡ old
   pub hand_is : k ≡ joined h job
@@ -48,7 +48,7 @@ pub record IsStale (old new : Booked) (h k : Held) (place ended_by : ℕ) : Type
   pub hand_is : k ≡ h
 
 -- each answer, in the order in which they are tried
-abbrev pub IsTold : Booked → Booked → Held → Held → Turn → Told → Type 0
+abbrev pub IsTold : Booked → Booked → Held → Held → TurnSoFar → Told → Type 0
 IsTold old new h k pending tolds.Stopped = IsAtLimit old × (new ≡ old) × (k ≡ h)
 IsTold old new h k pending (tolds.Later back) = IsDueMade old new h k × (back ≡ pending)
 IsTold old new h k pending (tolds.Stale ended_by) = IsStale old new h k pending.place ended_by

@@ -122,7 +122,7 @@ impl<'p, V: View + Drop> Book<'p, V> {
         self.scripted.is_complete()
     }
 
-    // Whether the trace has as many steps as the limit, or fewer.
+    // Whether the trace has as many steps as the limit.
     fn is_at_limit(&self) -> bool
         ensures at { IsTrue result → IsAtLimit self.now }
         ensures below { IsFalse result → len self.now.system.run < self.now.limit }

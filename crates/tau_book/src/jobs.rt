@@ -2,7 +2,7 @@
 ghost use Rattle.std.specs.Prelude.{◌≡◌, ◌+◌, ◌<◌, ◌==◌, ℕ, Some, take, length, slice_get, slice_index_or, count_by};
 ghost use Rattle.std.specs.List.{list_any};
 ghost use Rattle.std.specs.Vec.{vec_capacity};
-ghost use Rattle.tau_eval.specs.Turn.{Turn};
+ghost use Rattle.tau_eval.specs.Turn.{TurnSoFar};
 ghost use Rattle.tau_book.specs.Hands.{is_earlier, is_of};
 ghost use Rattle.tau_book.specs.Books.{AreOfDifferentTurns};
 ghost use Rattle.tau_book.specs.Offers.{open_jobs, earliest, without};
@@ -80,7 +80,7 @@ fn earlier(jobs: &[Job<'_>], place: usize, best: Option<usize>) -> usize
 pub(crate) fn place_of_number(jobs: &[Job<'_>], number: usize) -> usize
     requires { number < length jobs.now }
     ensures within { result < length jobs.now }
-    ensures number { (d : Turn) → number ≡ count_by (is_earlier (slice_index_or jobs.now result d).place) jobs.now + count_by (is_of (slice_index_or jobs.now result d).place) (take result jobs.now) }
+    ensures number { (d : TurnSoFar) → number ≡ count_by (is_earlier (slice_index_or jobs.now result d).place) jobs.now + count_by (is_of (slice_index_or jobs.now result d).place) (take result jobs.now) }
 {
     let count = jobs.len();
     for k in 0..count {
@@ -94,7 +94,7 @@ pub(crate) fn place_of_number(jobs: &[Job<'_>], number: usize) -> usize
 // How many jobs stand before the one at a place by ascending turn: those of earlier turns, and those of its turn before it.
 fn number_of(jobs: &[Job<'_>], k: usize) -> usize
     requires { k < length jobs.now }
-    ensures { (d : Turn) → result ≡ count_by (is_earlier (slice_index_or jobs.now k d).place) jobs.now + count_by (is_of (slice_index_or jobs.now k d).place) (take k jobs.now) }
+    ensures { (d : TurnSoFar) → result ≡ count_by (is_earlier (slice_index_or jobs.now k d).place) jobs.now + count_by (is_of (slice_index_or jobs.now k d).place) (take k jobs.now) }
 {
     let turn = jobs[k].turn();
     count_earlier(jobs, turn) + count_of(&jobs[..k], turn)

@@ -14,9 +14,8 @@ use Rattle.tau_trace.proofs.Lists.{same_some}
 use Rattle.tau_trace.proofs.Indexing.{well_formed_appended}
 use Rattle.tau_script.specs.Openings.{program_opening}
 use Rattle.tau_script.specs.declared.cursor.Cursor.{Cursor}
-use Rattle.tau_legal.specs.Fits.{Fits}
+use Rattle.tau_legal.specs.Fits.{Fits, is_of_turn}
 use Rattle.tau_legal.specs.Traces.{Fitting, IsLegal}
-use Rattle.tau_choice.specs.Choices.{is_of_turn}
 use Rattle.tau_eval.specs.Turn as jobs
 use Rattle.tau_rules.specs.System.{Core, with_step}
 use Rattle.tau_rules.specs.Answers.{IsOpenJob, IsStepped, IsRedone, NoTurnFrom}

@@ -11,7 +11,7 @@ use Rattle.tau_trace.proofs.Agreement.{agree_appended, step_at-appended, same_at
 use Rattle.tau_trace.proofs.Indexing.{len-appended}
 use Rattle.tau_trace.proofs.Sequences.{cases_last}
 use Rattle.tau_past.proofs.PendingLemmas.{turns_after_step}
-use Rattle.tau_choice.specs.Choices.{is_of_turn}
+use Rattle.tau_legal.specs.Fits.{is_of_turn}
 
 -- the step begins no turn
 abbrev pub BeginsNone : Step → Type 0

@@ -11,26 +11,9 @@ use Rattle.tau_states.specs.Table.{Holds}
 use Rattle.tau_states.specs.declared.state_record.StateRecord.{StateRecord}
 use Rattle.tau_eval.specs.Eff.{Eff, ask, checkpoint}
 use Rattle.tau_legal.specs.Turns.{TurnHas, Replies}
-use Rattle.tau_legal.specs.Fits.{Fits}
+use Rattle.tau_legal.specs.Fits.{Fits, IsStepOfTurn}
 use Rattle.tau_choice.specs.declared.choices.Choice.{Choice}
 use Rattle.tau_choice.specs.declared.choices.Choice.TheVariants.{GoesOn, Ends}
-
--- the kinds of steps that an open turn makes
-abbrev pub is_of_turn : Step → Bool
-is_of_turn (Get t) = true
-is_of_turn (Set t v) = true
-is_of_turn (Skip t) = true
-is_of_turn (Send t u v) = true
-is_of_turn (New t b n v) = true
-is_of_turn (Stabilize t) = true
-is_of_turn (Ask t a) = true
-is_of_turn (Checkpoint t) = true
-is_of_turn (Hold t) = true
-is_of_turn (Rollback t) = true
-is_of_turn (Stay t) = true
-is_of_turn (Done t) = true
-is_of_turn (Trap t c) = true
-is_of_turn s = false
 
 -- those after which the turn goes on
 abbrev pub goes_on : Step → Bool
@@ -48,12 +31,6 @@ abbrev pub asks_freedom : Eff → Bool
 asks_freedom ask = true
 asks_freedom checkpoint = true
 asks_freedom e = false
-
--- the step is of the open turn of t, and fits at the end of the run
-pub record IsStepOfTurn (P : Program) (T : Run) (t : ℕ) (s : Step) : Type 0 where
-  pub by : actor s ≡ Some t
-  pub of_turn : IsTrue (is_of_turn s)
-  pub fits : Fits P T (len T) s
 
 -- a step after which the turn goes on, with its reply; or one that ends the turn
 abbrev pub IsChoice : Program → Run → ℕ → Choice → Type 0

@@ -10,14 +10,14 @@ use Rattle.tau_eval.specs.Effect.{eff_of}
 use Rattle.tau_eval.specs.Outcome.{Outcome, effect_of}
 use Rattle.tau_eval.specs.Meaning.{Setting, next}
 use Rattle.tau_eval.specs.Machine.{running, reached}
-use Rattle.tau_eval.specs.Turn.{Turn, setting_in}
+use Rattle.tau_eval.specs.Turn.{TurnSoFar, setting_in}
 use Rattle.tau_eval.specs.declared.effects.Effect.{Effect}
 use Rattle.tau_eval.specs.declared.course.Course.{Course}
 use Rattle.tau_eval.specs.declared.course.State.{State}
 use Rattle.tau_eval.specs.declared.course.State.TheVariants.{Running, Reached}
 
 -- the turn that a course is of
-abbrev pub turn_of : Course → Turn
+abbrev pub turn_of : Course → TurnSoFar
 turn_of c =
     record { body = code_of c.body.now; nodes = c.nodes; who = c.who; place = c.turn; message = val_of c.message; replies = map val_of c.replies.items }
 

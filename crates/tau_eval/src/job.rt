@@ -23,9 +23,9 @@ pub struct Job<'p> {
 }
 
 impl<'p> Model for Job<'p> {
-    ghost use Rattle.tau_eval.specs.Turn.{Turn, turn_code};
+    ghost use Rattle.tau_eval.specs.Turn.{TurnSoFar, turn_code};
 
-    ghost Value = { Turn };
+    ghost Value = { TurnSoFar };
 
     ghost coded = { turn_code };
 
@@ -44,9 +44,9 @@ pub struct Pending<'p> {
 }
 
 impl<'p> Model for Pending<'p> {
-    ghost use Rattle.tau_eval.specs.Turn.{Turn, turn_code};
+    ghost use Rattle.tau_eval.specs.Turn.{TurnSoFar, turn_code};
 
-    ghost Value = { Turn };
+    ghost Value = { TurnSoFar };
 
     ghost coded = { turn_code };
 

@@ -8,7 +8,7 @@ use Rattle.tau_forms.specs.declared.rows.Row.{Row}
 use Rattle.tau_forms.specs.declared.tables.Tables.{Tables}
 use Rattle.tau_forms.specs.declared.wanted.Wanted.{Wanted}
 use Rattle.tau_forms.specs.Faults.{Fault, FaultAt, FaultIn, IsClean}
-use Rattle.tau_forms.specs.Passing.{Tells, Passes, roles_along, roles_of}
+use Rattle.tau_forms.specs.Passing.{TellsFault, Passes, roles_along, roles_of}
 use Rattle.tau_forms.specs.Roles.{Role, value, row}
 use Rattle.tau_forms.specs.Wanted.{role_of}
 use Rattle.tau_forms.proofs.ListLemmas.{left, left_item, left_all}
@@ -46,7 +46,7 @@ reached_more tb w fs first k node next f r lt is role h clean e =
       shift = subst (Shift F (FaultIn tb (roles_left w fs (k + 1)) (left fs (k + 1)))) sum both;
     }
 
-pub reached_tells : (tb : Tables) (w : Row) (fs : List Form) (first k node : ℕ) (f : Form) (r : Role) (e : ProgramError) → k < length fs → f ≡ get_or fs k f → r ≡ role_of (get_or w.leading k w.rest) → Reached tb w fs first k node → Tells (FaultAt tb r (tree_of f)) node e → Tells (FaultIn tb (roles_left w fs 0) (left fs 0)) first e
+pub reached_tells : (tb : Tables) (w : Row) (fs : List Form) (first k node : ℕ) (f : Form) (r : Role) (e : ProgramError) → k < length fs → f ≡ get_or fs k f → r ≡ role_of (get_or w.leading k w.rest) → Reached tb w fs first k node → TellsFault (FaultAt tb r (tree_of f)) node e → TellsFault (FaultIn tb (roles_left w fs 0) (left fs 0)) first e
 reached_tells tb w fs first k node f r e lt is role h told =
     let t = tree_of f in
     let F = FaultIn tb (roles_left w fs 0) (left fs 0) in
@@ -65,7 +65,7 @@ reached_end tb w fs first k node le h =
     )
 
 -- a list is passed by its own node and then its items
-pub list_tells : (tb : Tables) (r : Role) (ts : Trees) (rs : List Role) (at : ℕ) (e : ProgramError) → r ≢ value → row tb r ts ≡ Some rs → Tells (FaultIn tb rs ts) (at + 1) e → Tells (FaultAt tb r (list ts)) at e
+pub list_tells : (tb : Tables) (r : Role) (ts : Trees) (rs : List Role) (at : ℕ) (e : ProgramError) → r ≢ value → row tb r ts ≡ Some rs → TellsFault (FaultIn tb rs ts) (at + 1) e → TellsFault (FaultAt tb r (list ts)) at e
 list_tells tb r ts rs at e other is told = shift_tells (FaultAt tb r (list ts)) (FaultIn tb rs ts) 1 at (at + 1) e (list_shift tb r ts rs other is) refl told
 
 pub list_clean : (tb : Tables) (r : Role) (ts : Trees) (rs : List Role) → r ≢ value → row tb r ts ≡ Some rs → IsClean (FaultIn tb rs ts) → IsClean (FaultAt tb r (list ts))

@@ -9,7 +9,7 @@ use Rattle.tau_forms.specs.declared.tables.Tables.{Tables}
 use Rattle.tau_forms.specs.declared.wanted.FaultKind.{FaultKind}
 use Rattle.tau_forms.specs.declared.wanted.FaultKind.TheVariants as kinds
 use Rattle.tau_forms.specs.Faults.{Fault, shape, unknown, twice, of_value, unless, own_fault, list_fault, FaultAt, FaultIn, itself, in_value, in_item, here, later, IsClean, IsFirst}
-use Rattle.tau_forms.specs.Passing.{Tells, Passes, PassesNode, error_at}
+use Rattle.tau_forms.specs.Passing.{TellsFault, Passes, PassesNode, error_at}
 use Rattle.tau_forms.specs.Roles.{Role, top, first, mark, known, fresh, count, failure, value, expression, two_names, row}
 use Rattle.tau_forms.specs.Wanted.{fault_in}
 
@@ -48,7 +48,7 @@ shift_first F G d n f s h = record { fault = s.from n f h.fault; least = least; 
         let there : i.0 ≡ n = omega (arith, i.1) in
         h.only g (subst (λ m. G m g) there i.2)
 
-pub shift_tells : (F G : ℕ → Fault → Type 0) (d at node : ℕ) (e : ProgramError) → Shift F G d → node ≡ at + d → Tells G node e → Tells F at e
+pub shift_tells : (F G : ℕ → Fault → Type 0) (d at node : ℕ) (e : ProgramError) → Shift F G d → node ≡ at + d → TellsFault G node e → TellsFault F at e
 shift_tells F G d at node (errors.Shape k) s z t = (d + t.0, omega (arith, t.1), shift_first F G d t.0 shape s t.2)
 shift_tells F G d at node (errors.Unknown k) s z t = (d + t.0, omega (arith, t.1), shift_first F G d t.0 unknown s t.2)
 shift_tells F G d at node (errors.Twice k) s z t = (d + t.0, omega (arith, t.1), shift_first F G d t.0 twice s t.2)
@@ -94,7 +94,7 @@ item_first tb r rs t ts n f i = record { fault = here i.fault; least = least; on
     only m g e (here h) = i.only g (subst (λ k. FaultAt tb r t k g) e h)
     only m g e (later z h) = absurd (omega (arith, fault_within tb r t n f i.fault))
 
-pub item_tells : (tb : Tables) (r : Role) (rs : List Role) (t : Tree) (ts : Trees) (at : ℕ) (e : ProgramError) → Tells (FaultAt tb r t) at e → Tells (FaultIn tb (r ∷ rs) (more t ts)) at e
+pub item_tells : (tb : Tables) (r : Role) (rs : List Role) (t : Tree) (ts : Trees) (at : ℕ) (e : ProgramError) → TellsFault (FaultAt tb r t) at e → TellsFault (FaultIn tb (r ∷ rs) (more t ts)) at e
 item_tells tb r rs t ts at (errors.Shape k) h = (h.0, h.1, item_first tb r rs t ts h.0 shape h.2)
 item_tells tb r rs t ts at (errors.Unknown k) h = (h.0, h.1, item_first tb r rs t ts h.0 unknown h.2)
 item_tells tb r rs t ts at (errors.Twice k) h = (h.0, h.1, item_first tb r rs t ts h.0 twice h.2)
@@ -124,10 +124,10 @@ own_clean tb r t other single e n f h =
     let own = (own_node tb r t n f other single h).1 in
     absurd (cc)
 
-own_tells : (tb : Tables) (r : Role) (t : Tree) (k : FaultKind) (at : ℕ) (e : ProgramError) → r ≢ value → ((ts : Trees) → t ≢ list ts) → own_fault tb r t ≡ Some (fault_in k) → e ≡ error_at k at → Tells (FaultAt tb r t) at e
-own_tells tb r t kinds.Shape at e other single f is = subst (Tells (FaultAt tb r t) at) (sym is) (0, omega arith, own_first tb r t shape other single f)
-own_tells tb r t kinds.Unknown at e other single f is = subst (Tells (FaultAt tb r t) at) (sym is) (0, omega arith, own_first tb r t unknown other single f)
-own_tells tb r t kinds.Twice at e other single f is = subst (Tells (FaultAt tb r t) at) (sym is) (0, omega arith, own_first tb r t twice other single f)
+own_tells : (tb : Tables) (r : Role) (t : Tree) (k : FaultKind) (at : ℕ) (e : ProgramError) → r ≢ value → ((ts : Trees) → t ≢ list ts) → own_fault tb r t ≡ Some (fault_in k) → e ≡ error_at k at → TellsFault (FaultAt tb r t) at e
+own_tells tb r t kinds.Shape at e other single f is = subst (TellsFault (FaultAt tb r t) at) (sym is) (0, omega arith, own_first tb r t shape other single f)
+own_tells tb r t kinds.Unknown at e other single f is = subst (TellsFault (FaultAt tb r t) at) (sym is) (0, omega arith, own_first tb r t unknown other single f)
+own_tells tb r t kinds.Twice at e other single f is = subst (TellsFault (FaultAt tb r t) at) (sym is) (0, omega arith, own_first tb r t twice other single f)
 
 single_passes : {A : Type 0} (tb : Tables) (r : Role) (t : Tree) (o : Option FaultKind) (at next : ℕ) (x : Result A ProgramError) → r ≢ value → ((ts : Trees) → t ≢ list ts) → option_map fault_in o ≡ own_fault tb r t → PassesNode o at next x → Passes (FaultAt tb r t) 1 at next x
 single_passes tb r t None at next (Ok x) other single e p = (own_clean tb r t other single (sym e), p)
@@ -154,7 +154,7 @@ list_fault_is tb value ts other = absurd (other refl)
 list_fault_is tb (expression scope) ts other = refl
 list_fault_is tb two_names ts other = refl
 
-pub no_row_tells : (tb : Tables) (r : Role) (ts : Trees) (at : ℕ) → r ≢ value → row tb r ts ≡ None → Tells (FaultAt tb r (list ts)) at (errors.Shape at)
+pub no_row_tells : (tb : Tables) (r : Role) (ts : Trees) (at : ℕ) → r ≢ value → row tb r ts ≡ None → TellsFault (FaultAt tb r (list ts)) at (errors.Shape at)
 no_row_tells tb r ts at other e = (0, omega arith, record { fault = itself refl fault; least = λ m g h. omega arith; only = λ g. only 0 g refl })
   where
     fault : own_fault tb r (list ts) ≡ Some shape

@@ -13,7 +13,7 @@ use Rattle.tau_forms.specs.declared.keywords.Sort.{Sort}
 use Rattle.tau_forms.specs.Faults.{Fault, shape, unknown, twice, ProgramFaultAt, IsClean, IsFirst, IsFault}
 use Rattle.tau_forms.specs.Keywords.{sort_in}
 use Rattle.tau_forms.specs.Meaning.{Means, plain_of, program_in}
-use Rattle.tau_forms.specs.Passing.{Tells, PassesForms, IsRead}
+use Rattle.tau_forms.specs.Passing.{TellsFault, PassesForms, IsRead}
 use Rattle.tau_forms.specs.Tops.{sort_of, is_nodes, is_behaviour, is_start, is_post, is_entry, has, name_in, named_by, with_name, defined_after, starts_of, is_count_in, nodes_in, nodes_of, count_of, limit_of}
 use Rattle.tau_forms.proofs.DefinedLemmas.{count_push}
 
@@ -90,18 +90,18 @@ pub means_read : (ts : List Tree) (r : Result Program ProgramError) → limit_of
 means_read ts (Ok p) limits h = record { limits = limits; faultless = h.faultless; is = h.is }
 means_read ts (Err e) limits h = tt
 
-told : (ts : List Tree) (e : ProgramError) → limit_of ts ≡ None → Tells (ProgramFaultAt ts) 0 e → IsFault ts e
+told : (ts : List Tree) (e : ProgramError) → limit_of ts ≡ None → TellsFault (ProgramFaultAt ts) 0 e → IsFault ts e
 told ts (errors.Shape n) limits h = let z : h.0 ≡ n = omega (arith, h.1) in (limits, subst (λ k. IsFirst (ProgramFaultAt ts) k shape) z h.2)
 told ts (errors.Unknown n) limits h = let z : h.0 ≡ n = omega (arith, h.1) in (limits, subst (λ k. IsFirst (ProgramFaultAt ts) k unknown) z h.2)
 told ts (errors.Twice n) limits h = let z : h.0 ≡ n = omega (arith, h.1) in (limits, subst (λ k. IsFirst (ProgramFaultAt ts) k twice) z h.2)
 told ts (errors.Limit n) limits h = elim h [ ]
 told ts errors.NoMemory limits h = tt
 
-pub fault_read : (ts : List Tree) (r : Result Program ProgramError) → limit_of ts ≡ None → IfErr r (Tells (ProgramFaultAt ts) 0) → IfErr r (IsFault ts)
+pub fault_read : (ts : List Tree) (r : Result Program ProgramError) → limit_of ts ≡ None → IfErr r (TellsFault (ProgramFaultAt ts) 0) → IfErr r (IsFault ts)
 fault_read ts (Ok p) limits h = tt
 fault_read ts (Err e) limits h = told ts e limits h
 
-pub none_read : (ts : List Tree) (p : Program) (r : Result Program ProgramError) → Means ts p → IfErr r (Tells (ProgramFaultAt ts) 0) → IfErr r (λ e. e ≡ errors.NoMemory)
+pub none_read : (ts : List Tree) (p : Program) (r : Result Program ProgramError) → Means ts p → IfErr r (TellsFault (ProgramFaultAt ts) 0) → IfErr r (λ e. e ≡ errors.NoMemory)
 none_read ts p (Ok q) means h = tt
 none_read ts p (Err (errors.Shape n)) means h = absurd (means.faultless h.0 shape h.2.fault)
 none_read ts p (Err (errors.Unknown n)) means h = absurd (means.faultless h.0 unknown h.2.fault)

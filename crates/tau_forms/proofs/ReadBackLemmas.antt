@@ -7,12 +7,12 @@ use Rattle.std.specs.declared.alloc.AllocError.{AllocError}
 use Rattle.std.proofs.lemmas.Bool.{le-ltb}
 use Rattle.std.proofs.lemmas.List.{append-nil, length-map}
 use Rattle.std.proofs.lemmas.List.Elements.{All-head, All-tail, All-cons, All-append, All-map, filter_map-append}
-use Rattle.tau_sexpr.specs.Tree.{Tree, Trees, word, list, none, more, inside, depth_of, depths, depths-append, HasWords}
+use Rattle.tau_sexpr.specs.Tree.{Tree, Trees, word, list, none, more, inside, depth_of, depths, depths-append, HasWords, headed}
 use Rattle.tau_value.specs.Names.{IsName, AreNames}
 use Rattle.tau_value.specs.Numbers.{count_in}
 use Rattle.tau_value.specs.Sizes.{levels_of, IsInBounds, NamesBelow}
 use Rattle.tau_value.specs.Value.{val_of}
-use Rattle.tau_value.specs.Written.{written}
+use Rattle.tau_value.specs.Written.{written, count_form}
 use Rattle.tau_value.specs.Meaning.{counted}
 use Rattle.tau_value.specs.Meaning as values
 use Rattle.tau_value.proofs.NumberLemmas.{count_in-decimal}
@@ -37,7 +37,7 @@ use Rattle.tau_forms.specs.Roles.{top}
 use Rattle.tau_forms.specs.Faults.{Fault, FaultAt, FaultIn, tops_after, ProgramFaultAt, in_top, no_nodes, IsClean}
 use Rattle.tau_forms.specs.Meaning.{number_of, code_in, PlainProgram, plain_start, plain_post, plain_of, behaviour_in, start_in, post_in, entry_in, program_in, Means}
 use Rattle.tau_forms.specs.Meaning as meaning
-use Rattle.tau_forms.specs.Printed.{headed, name_of, code_form, count_form, behaviour_form, start_form, post_form, failure_form, entry_form, printed}
+use Rattle.tau_forms.specs.Printed.{name_of, code_form, behaviour_form, start_form, post_form, failure_form, entry_form, printed}
 use Rattle.tau_forms.proofs.ReadBackExpressions.{Fits, IsRead, depth_of-form, form_words, read}
 use Rattle.tau_forms.proofs.ReadBackFaults.{clean_more}
 use Rattle.tau_forms.proofs.ReadBackTops.{defined_after-append, count_of-append, all_counted, none_counted, defined_quiet, defined_names, kept, dropped, tops_clean-append, tops_clean, named_clean, nodes_clean, behaviour_clean, start_clean, post_clean, entry_clean}

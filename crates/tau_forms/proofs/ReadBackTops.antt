@@ -5,10 +5,10 @@ use Rattle.std.specs.List.{All, filter, filter_map, cons_option}
 use Rattle.std.proofs.lemmas.List.{append-nil, length-append}
 use Rattle.std.proofs.lemmas.List.Elements.{All-head, All-tail, filter-append}
 use Rattle.std.proofs.lemmas.Bool.{false_from_ne_true}
-use Rattle.tau_sexpr.specs.Tree.{Tree, Trees, word, list, none, more, inside}
+use Rattle.tau_sexpr.specs.Tree.{Tree, Trees, word, list, none, more, inside, headed}
 use Rattle.tau_value.specs.Names.{IsName, AreNames}
 use Rattle.tau_value.specs.Value.{val_of}
-use Rattle.tau_value.specs.Written.{written}
+use Rattle.tau_value.specs.Written.{written, count_form}
 use Rattle.tau_value.specs.Meaning as values
 use Rattle.tau_tree.specs.Behaviour.{NamedCode}
 use Rattle.tau_tree.specs.Sound.{FailsBelow}
@@ -23,7 +23,7 @@ use Rattle.tau_forms.specs.Fitting.{HasFittingNumbers, HasFittingMessage}
 use Rattle.tau_forms.specs.Tops.{sort_of, is_behaviour, is_start, has, named_by, with_name, defined_after, is_count_in, nodes_in, nodes_of, behaviours_of, starts_of, count_of}
 use Rattle.tau_forms.specs.Roles.{Role, top, first, mark, known, fresh, count, failure, value, expression, with_first, top_first, top_items, row}
 use Rattle.tau_forms.specs.Faults.{Fault, shape, unless, FaultAt, FaultIn, here, later, IsClean, tops_after}
-use Rattle.tau_forms.specs.Printed.{headed, name_of, code_form, count_form, behaviour_form, start_form, post_form, failure_form, entry_form}
+use Rattle.tau_forms.specs.Printed.{name_of, code_form, behaviour_form, start_form, post_form, failure_form, entry_form}
 use Rattle.tau_forms.proofs.ReadBackExpressions.{clean_fresh, clean_name_of}
 use Rattle.tau_forms.proofs.ReadBackFaults.{clean_word, clean_list, clean_none, clean_more, clean_first, clean_value}
 use Rattle.tau_forms.proofs.ReadBackWords.{is_count_in-decimal, IsNameAt}

@@ -14,7 +14,7 @@ use Rattle.tau_forms.specs.declared.wanted.FaultKind.TheVariants as kinds
 use Rattle.tau_forms.specs.Defined.{nodes_told}
 use Rattle.tau_forms.specs.Faults.{Fault, shape, unknown, twice, FaultAt, FaultIn, tops_after, ProgramFaultAt, in_top, no_nodes, IsClean, IsFirst}
 use Rattle.tau_forms.specs.Keywords.{sort_in}
-use Rattle.tau_forms.specs.Passing.{Tells, Passes, has_top_items, nodes_first}
+use Rattle.tau_forms.specs.Passing.{TellsFault, Passes, has_top_items, nodes_first}
 use Rattle.tau_forms.specs.Roles.{Role, top, first, mark, value, row, top_items, top_first, with_first, count_of}
 use Rattle.tau_forms.specs.Tops.{is_nodes, nodes_in, nodes_of, tables_of}
 use Rattle.tau_forms.proofs.DefinedLemmas.{nodes_in_list}
@@ -105,7 +105,7 @@ tops_more tb fs k node next f lt is h clean e =
       shift = subst (Shift (FaultFrom tb fs 0) (FaultFrom tb fs (k + 1))) (sym e) both;
     }
 
-pub tops_tells : (tb : Tables) (fs : List Form) (k node : ℕ) (f : Form) (e : ProgramError) → k < length fs → f ≡ get_or fs k f → TopsReached tb fs k node → Tells (FaultAt tb (top (map tree_of (take k fs))) (tree_of f)) node e → Tells (FaultFrom tb fs 0) 0 e
+pub tops_tells : (tb : Tables) (fs : List Form) (k node : ℕ) (f : Form) (e : ProgramError) → k < length fs → f ≡ get_or fs k f → TopsReached tb fs k node → TellsFault (FaultAt tb (top (map tree_of (take k fs))) (tree_of f)) node e → TellsFault (FaultFrom tb fs 0) 0 e
 tops_tells tb fs k node f e lt is h told =
     let r = top (map tree_of (take k fs)) in
     let rs = tops_after (map tree_of (take (k + 1) fs)) (map tree_of (drop (k + 1) fs)) in
@@ -140,7 +140,7 @@ program_first ts n f i = record { fault = in_top i.fault; least = least; only = 
     only m g e (in_top h) = i.only g (subst (λ k. FaultTop ts k g) e h)
     only m g e (no_nodes z h) = absurd (omega (arith, within))
 
-pub program_tells : (ts : List Tree) (e : ProgramError) → Tells (FaultTop ts) 0 e → Tells (ProgramFaultAt ts) 0 e
+pub program_tells : (ts : List Tree) (e : ProgramError) → TellsFault (FaultTop ts) 0 e → TellsFault (ProgramFaultAt ts) 0 e
 program_tells ts (errors.Shape k) t = (t.0, t.1, program_first ts t.0 shape t.2)
 program_tells ts (errors.Unknown k) t = (t.0, t.1, program_first ts t.0 unknown t.2)
 program_tells ts (errors.Twice k) t = (t.0, t.1, program_first ts t.0 twice t.2)
@@ -151,7 +151,7 @@ pub program_clean : (ts : List Tree) (n : ℕ) → nodes_of ts ≡ Some n → Is
 program_clean ts n e clean m f (in_top h) = clean m f h
 program_clean ts n e clean m f (no_nodes z h) = cc
 
-pub nodes_missing : (ts : List Tree) (node : ℕ) → nodes_of ts ≡ None → IsClean (FaultTop ts) → node ≡ size_of_all (inside ts) → Tells (ProgramFaultAt ts) 0 (errors.Shape node)
+pub nodes_missing : (ts : List Tree) (node : ℕ) → nodes_of ts ≡ None → IsClean (FaultTop ts) → node ≡ size_of_all (inside ts) → TellsFault (ProgramFaultAt ts) 0 (errors.Shape node)
 nodes_missing ts node e clean z = (node, omega arith, record { fault = no_nodes there e; least = least; only = only })
   where
     there : node ≡ sizes ts
@@ -166,13 +166,13 @@ nodes_missing ts node e clean z = (node, omega arith, record { fault = no_nodes 
     only g (no_nodes y h) = refl
 
 -- a word or a text at the top
-pub top_word_tells : (tb : Tables) (before : List Tree) (w : List ℕ) (at : ℕ) → Tells (FaultAt tb (top before) (word w)) at (errors.Shape at)
+pub top_word_tells : (tb : Tables) (before : List Tree) (w : List ℕ) (at : ℕ) → TellsFault (FaultAt tb (top before) (word w)) at (errors.Shape at)
 top_word_tells tb before w at = word_passes tb (top before) w (Some kinds.Shape) at at (let e : Result (Unit {0}) ProgramError = Err (errors.Shape at) in e) (λ e. cc) refl refl
 
-pub top_text_tells : (tb : Tables) (before : List Tree) (w : List ℕ) (at : ℕ) → Tells (FaultAt tb (top before) (text w)) at (errors.Shape at)
+pub top_text_tells : (tb : Tables) (before : List Tree) (w : List ℕ) (at : ℕ) → TellsFault (FaultAt tb (top before) (text w)) at (errors.Shape at)
 top_text_tells tb before w at = text_passes tb (top before) w (Some kinds.Shape) at at (let e : Result (Unit {0}) ProgramError = Err (errors.Shape at) in e) (λ e. cc) refl refl
 
-pub top_other_tells : (tb : Tables) (before : List Tree) (f : Form) (at : ℕ) → ((ts : List Tree) → f ≢ forms.List ts) → Tells (FaultAt tb (top before) (tree_of f)) at (errors.Shape at)
+pub top_other_tells : (tb : Tables) (before : List Tree) (f : Form) (at : ℕ) → ((ts : List Tree) → f ≢ forms.List ts) → TellsFault (FaultAt tb (top before) (tree_of f)) at (errors.Shape at)
 top_other_tells tb before (forms.Word w) at h = top_word_tells tb before w at
 top_other_tells tb before (forms.Text w) at h = top_text_tells tb before w at
 top_other_tells tb before (forms.List ts) at h = absurd (h ts refl)
@@ -181,8 +181,8 @@ top_other_tells tb before (forms.List ts) at h = absurd (h ts refl)
 from_start : (tb : Tables) (fs : List Form) → tb ≡ tables_of (map tree_of fs) → FaultFrom tb fs 0 ≡ FaultTop (map tree_of fs)
 from_start tb fs e = ap (λ t. FaultIn t (tops_after [] (map tree_of fs)) (inside (map tree_of fs))) e
 
-pub each_tells : (tb : Tables) (fs : List Form) (e : ProgramError) → tb ≡ tables_of (map tree_of fs) → Tells (FaultFrom tb fs 0) 0 e → Tells (ProgramFaultAt (map tree_of fs)) 0 e
-each_tells tb fs e is told = program_tells (map tree_of fs) e (subst (λ F. Tells F 0 e) (from_start tb fs is) told)
+pub each_tells : (tb : Tables) (fs : List Form) (e : ProgramError) → tb ≡ tables_of (map tree_of fs) → TellsFault (FaultFrom tb fs 0) 0 e → TellsFault (ProgramFaultAt (map tree_of fs)) 0 e
+each_tells tb fs e is told = program_tells (map tree_of fs) e (subst (λ F. TellsFault F 0 e) (from_start tb fs is) told)
 
 taken : (fs : List Form) (k : ℕ) → length fs ≤ k → take k fs ≡ fs
 taken [] zero le = refl
@@ -195,7 +195,7 @@ each_clean tb fs k node n o is le h e f =
     let clean = subst IsClean (from_start tb fs is) (tops_end tb fs k node le h).0 in
     program_clean (map tree_of fs) n (sym (ap (λ gs. nodes_of (map tree_of gs)) (taken fs k le)) ∙ sym e ∙ f) clean
 
-pub each_missing : (tb : Tables) (fs : List Form) (k node : ℕ) (o : Option ℕ) → tb ≡ tables_of (map tree_of fs) → length fs ≤ k → TopsReached tb fs k node → o ≡ nodes_of (map tree_of (take k fs)) → o ≡ None → Tells (ProgramFaultAt (map tree_of fs)) 0 (errors.Shape node)
+pub each_missing : (tb : Tables) (fs : List Form) (k node : ℕ) (o : Option ℕ) → tb ≡ tables_of (map tree_of fs) → length fs ≤ k → TopsReached tb fs k node → o ≡ nodes_of (map tree_of (take k fs)) → o ≡ None → TellsFault (ProgramFaultAt (map tree_of fs)) 0 (errors.Shape node)
 each_missing tb fs k node o is le h e f =
     let last = tops_end tb fs k node le h in
     let clean = subst IsClean (from_start tb fs is) last.0 in

@@ -24,17 +24,17 @@ use Rattle.tau_forms.specs.Tops.{nodes_of}
 use Rattle.tau_forms.specs.Wanted.{role_of}
 
 -- an error tells the first fault of a part whose own first node is `at`; want of memory tells nothing
-abbrev pub Tells : (ℕ → Fault → Type 0) → ℕ → ProgramError → Type 0
-Tells F at (errors.Shape node) = (n : ℕ) × (node ≡ at + n) × IsFirst F n shape
-Tells F at (errors.Unknown node) = (n : ℕ) × (node ≡ at + n) × IsFirst F n unknown
-Tells F at (errors.Twice node) = (n : ℕ) × (node ≡ at + n) × IsFirst F n twice
-Tells F at (errors.Limit which) = ⊥
-Tells F at errors.NoMemory = Unit {0}
+abbrev pub TellsFault : (ℕ → Fault → Type 0) → ℕ → ProgramError → Type 0
+TellsFault F at (errors.Shape node) = (n : ℕ) × (node ≡ at + n) × IsFirst F n shape
+TellsFault F at (errors.Unknown node) = (n : ℕ) × (node ≡ at + n) × IsFirst F n unknown
+TellsFault F at (errors.Twice node) = (n : ℕ) × (node ≡ at + n) × IsFirst F n twice
+TellsFault F at (errors.Limit which) = ⊥
+TellsFault F at errors.NoMemory = Unit {0}
 
 -- a part of so many nodes is passed from node `at` to node `next` and has no fault, or its first fault is told
 abbrev pub Passes : {A : Type 0} → (ℕ → Fault → Type 0) → ℕ → ℕ → ℕ → Result A ProgramError → Type 0
 Passes F size at next (Ok x) = IsClean F × (next ≡ at + size)
-Passes F size at next (Err e) = Tells F at e
+Passes F size at next (Err e) = TellsFault F at e
 
 -- the error for a fault at a node
 abbrev pub error_at : FaultKind → ℕ → ProgramError
@@ -101,7 +101,7 @@ nodes_first before told = if is_some told then mark (is_some (nodes_of before)) 
 -- all forms at the top are passed and have no fault, or the first fault is told
 abbrev pub PassesForms : {A : Type 0} → List Tree → Result A ProgramError → Type 0
 PassesForms ts (Ok x) = IsClean (ProgramFaultAt ts)
-PassesForms ts (Err e) = Tells (ProgramFaultAt ts) 0 e
+PassesForms ts (Err e) = TellsFault (ProgramFaultAt ts) 0 e
 
 -- forms without faults have been read as a program
 pub record IsRead (ts : List Tree) (p : Program) : Type 0 where

@@ -1,8 +1,8 @@
 -- The forms that a program is printed as.
 use Rattle.std.specs.Prelude.{ℕ, List, [], ◌∷◌, ◌++◌, map, slice_get, unwrap_or, codes, if◌then◌else◌, Bool}
 use Rattle.std.specs.Fmt.{decimal, signed_decimal}
-use Rattle.tau_sexpr.specs.Tree.{Tree, Trees, word, text, list, none, more, inside}
-use Rattle.tau_value.specs.Written.{written}
+use Rattle.tau_sexpr.specs.Tree.{Tree, Trees, word, text, list, none, more, inside, headed}
+use Rattle.tau_value.specs.Written.{written, count_form}
 use Rattle.tau_value.specs.Value.{val_of}
 use Rattle.tau_tree.specs.Code.{Code, Codes}
 use Rattle.tau_tree.specs.Code as code
@@ -31,10 +31,6 @@ prim_word prims.Len = codes "len"
 prim_word prims.Item = codes "at"
 prim_word prims.Push = codes "push"
 prim_word prims.Cat = codes "cat"
-
--- a list that begins with a word
-abbrev pub headed : List ℕ → List Tree → Tree
-headed h ts = list (more (word h) (inside ts))
 
 -- the name with a number, among names
 abbrev pub name_of : List (List ℕ) → ℕ → Tree
@@ -70,9 +66,6 @@ abbrev mutual
   pub code_forms : List (List ℕ) → List (List ℕ) → Codes → Trees
   code_forms bs ss code.none = none
   code_forms bs ss (code.more c cs) = more (code_form bs ss c) (code_forms bs ss cs)
-
-abbrev pub count_form : ℕ → Tree
-count_form n = word (decimal n)
 
 abbrev pub behaviour_form : List (List ℕ) → List (List ℕ) → NamedCode → Tree
 behaviour_form bs ss b = headed (codes "behaviour") (word b.name ∷ code_form bs ss b.body ∷ [])

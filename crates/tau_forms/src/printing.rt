@@ -1,15 +1,15 @@
 //! The forms of programs.
 ghost use Rattle.std.specs.Prelude.{◌≡◌, ◌≤◌, ◌∷◌, ◌++◌, [], map, codes, All, IfOk, OnOk};
 ghost use Rattle.tau_sexpr.specs.Form.{tree_of};
-ghost use Rattle.tau_sexpr.specs.Tree.{depths, HasWords};
+ghost use Rattle.tau_sexpr.specs.Tree.{depths, HasWords, headed};
 ghost use Rattle.tau_value.specs.Names.{AreNames};
 ghost use Rattle.tau_value.specs.Value.{val_of};
-ghost use Rattle.tau_value.specs.Written.{written};
+ghost use Rattle.tau_value.specs.Written.{written, count_form};
 ghost use Rattle.tau_tree.specs.Parts.{Throughout};
 ghost use Rattle.tau_tree.specs.Sound.{Sound, behaviour_names as names_of_behaviours, start_names as names_of_starts};
 ghost use Rattle.tau_forms.specs.Fitting.{HasFittingInteger, HasFittingNumbers, IsFitting, IsWritten};
 ghost use Rattle.tau_forms.specs.Meaning.{Means};
-ghost use Rattle.tau_forms.specs.Printed.{printed, headed, count_form, behaviour_form, start_form, post_form, failure_form, entry_form};
+ghost use Rattle.tau_forms.specs.Printed.{printed, behaviour_form, start_form, post_form, failure_form, entry_form};
 
 use crate::tables::Tables;
 use crate::writing::{add, add_count, add_name, begin, write_expression};

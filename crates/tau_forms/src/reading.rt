@@ -5,7 +5,7 @@ ghost use Rattle.tau_sexpr.specs.Tree.{depths, inside, size_of_all};
 ghost use Rattle.tau_tree.specs.Sound.{Sound};
 ghost use Rattle.tau_forms.specs.Faults.{IsFault, ProgramFaultAt};
 ghost use Rattle.tau_forms.specs.Meaning.{Means};
-ghost use Rattle.tau_forms.specs.Passing.{IsRead, Tells};
+ghost use Rattle.tau_forms.specs.Passing.{IsRead, TellsFault};
 ghost use Rattle.tau_forms.specs.Tops.{tables_of};
 
 use crate::ProgramError;
@@ -46,7 +46,7 @@ fn read(alloc: Global, forms: &[Form], tables: &Tables) -> Result<Program, Progr
     requires few { length tables.now.starts ≤ 1024 }
     requires range { size_of_all (inside (map tree_of forms.now)) + 1 < 2 ^ 64 }
     ensures program { IfOk result (IsRead (map tree_of forms.now)) }
-    ensures fault { IfErr result (Tells (ProgramFaultAt (map tree_of forms.now)) 0) }
+    ensures fault { IfErr result (TellsFault (ProgramFaultAt (map tree_of forms.now)) 0) }
 {
     check_forms(alloc, forms, tables)?;
     Ok(build_program(alloc, forms, tables)?)

@@ -2,12 +2,13 @@
 ghost use Rattle.std.specs.Prelude.{◌≡◌, ◌∷◌, ◌++◌, [], codes, All, IfOk, OnOk};
 ghost use Rattle.tau_sexpr.specs.Bytes.{IsWordByte};
 ghost use Rattle.tau_sexpr.specs.Form.{tree_of};
-ghost use Rattle.tau_sexpr.specs.Tree.{word, list, none, more};
+ghost use Rattle.tau_sexpr.specs.Tree.{word, list, none, more, headed};
 ghost use Rattle.tau_tree.specs.Code.{let_in, if_else, fold, set, send, new, inside as codes_in};
 ghost use Rattle.tau_tree.specs.Expr.{code_of, codes_of};
 ghost use Rattle.tau_tree.specs.Parts.{Throughout, AllThroughout};
 ghost use Rattle.tau_forms.specs.Fitting.{HasFittingInteger};
-ghost use Rattle.tau_forms.specs.Printed.{prim_word, headed, name_of, code_form, code_forms, count_form};
+ghost use Rattle.tau_forms.specs.Printed.{prim_word, name_of, code_form, code_forms};
+ghost use Rattle.tau_value.specs.Written.{count_form};
 
 use crate::tables::Tables;
 use std::alloc::{AllocError, Global};

@@ -7,8 +7,9 @@ use Rattle.tau_view.specs.Held.{Held, Histories, Edges}
 use Rattle.tau_trace.specs.Run.{Run, ActsAt}
 use Rattle.tau_trace.specs.Histories.{history}
 use Rattle.tau_trace.proofs.Lists.{same_some}
-use Rattle.tau_past.specs.KnownLaws.{IsSame, HoldsStepsBefore, Bound}
+use Rattle.tau_past.specs.KnownLaws.{IsSame}
 use Rattle.tau_past.proofs.BoundLemmas.{bound_once, bound_history}
+use Rattle.tau_past.specs.Heard.{HoldsStepsBefore, Bound}
 use Rattle.tau_heard.specs.Views.{IsPresent, is_owner, by_step, by_birth, IsKnownHistory, TakesIn, IsView}
 
 -- what the set of places H, for an owner, tells of u: nothing where u isn't present, and else the history at its bound

@@ -9,8 +9,8 @@ use Rattle.tau_trace.specs.Run.{Run, Agree, step_at, ActsAt}
 use Rattle.tau_trace.specs.Known.{WellFormed}
 use Rattle.tau_trace.proofs.Agreement.{agree_sym, agree_below, history-same, is_new-same, does-same}
 use Rattle.tau_past.specs.Carried.{is_set, Pending, Carried, SentWith, TakesBy, by_set, by_new}
-use Rattle.tau_past.specs.Heard.{Heard, HeardBy}
-use Rattle.tau_past.specs.KnownLaws.{IsSame, Bound}
+use Rattle.tau_past.specs.Heard.{Heard, HeardBy, Bound}
+use Rattle.tau_past.specs.KnownLaws.{IsSame}
 use Rattle.tau_past.proofs.Agreement.{point-same, decisions_local}
 use Rattle.tau_past.proofs.Known.{heard_before, heard_by_before}
 use Rattle.tau_heard.specs.Views.{IsPresent, is_owner, by_step, by_birth, IsKnownHistory, TakesIn, IsView}

@@ -10,8 +10,8 @@ use Rattle.tau_trace.specs.Run.{Run, starts}
 use Rattle.tau_trace.specs.Histories.{history}
 use Rattle.tau_trace.proofs.Counted.{history-zero}
 use Rattle.tau_trace.proofs.Lists.{same_some}
+use Rattle.tau_trace.specs.Turns.{HasOpenTurn}
 use Rattle.tau_past.specs.Carried.{Pending, SentWith}
-use Rattle.tau_past.specs.KnownLaws.{HasOpenTurn}
 use Rattle.tau_past.specs.Heard.{Needs, OriginOf, Heard, HeardBy}
 use Rattle.tau_past.proofs.Expected.{nothing_at_first, posts_carry_nothing}
 use Rattle.tau_past.proofs.PendingLemmas.{pending_turn}

@@ -20,10 +20,11 @@ use Rattle.tau_trace.proofs.Counted.{history-zero, history-suc}
 use Rattle.tau_trace.proofs.Lists.{same_some}
 use Rattle.tau_trace.proofs.Quiet.{acts}
 use Rattle.tau_past.specs.Carried.{is_set, Pending, Carried, TakesBy, by_set, by_new, first_point}
-use Rattle.tau_past.specs.KnownLaws.{With, HoldsStepsBefore}
+use Rattle.tau_past.specs.KnownLaws.{With}
 use Rattle.tau_past.proofs.BoundLemmas.{bounds_with_step}
 use Rattle.tau_past.proofs.HeardLemmas.{new_acts}
 use Rattle.tau_past.proofs.Known.{acts_known}
+use Rattle.tau_past.specs.Heard.{HoldsStepsBefore}
 use Rattle.tau_heard.specs.Views.{IsPresent, is_owner, by_step, by_birth, TakesIn}
 use Rattle.tau_heard.proofs.Facts.{Told, absent, present, Knows, present_within, zero_bound, told_own, told_as}
 

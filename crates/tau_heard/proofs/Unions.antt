@@ -13,8 +13,9 @@ use Rattle.tau_view.proofs.Sets.{or_cases, or_left, or_right}
 use Rattle.tau_trace.specs.Run.{Run}
 use Rattle.tau_trace.specs.Histories.{history}
 use Rattle.tau_trace.proofs.PointLemmas.{chain}
-use Rattle.tau_past.specs.KnownLaws.{Union, Bound}
+use Rattle.tau_past.specs.KnownLaws.{Union}
 use Rattle.tau_past.proofs.BoundLemmas.{union_bound}
+use Rattle.tau_past.specs.Heard.{Bound}
 use Rattle.tau_heard.specs.Views.{IsPresent, is_owner, by_step, by_birth, TakesIn, IsView}
 use Rattle.tau_heard.proofs.Facts.{Told, absent, present, Knows, IsBounded, present_within, zero_bound, knows, view_of}
 

@@ -20,9 +20,10 @@ use Rattle.tau_trace.proofs.Counted.{move_at-own, closes_move, stabilizes_move}
 use Rattle.tau_trace.proofs.Lists.{same_some}
 use Rattle.tau_trace.proofs.Once.{origin_once}
 use Rattle.tau_trace.proofs.Quiet.{acts}
+use Rattle.tau_trace.specs.Turns.{HasOpenTurn}
 use Rattle.tau_past.specs.Carried.{touches, is_set, Pending, Carried, SentWith, first_point}
-use Rattle.tau_past.specs.Heard.{heard_by, Heard, HeardBy, HeardTogether}
-use Rattle.tau_past.specs.KnownLaws.{HasOpenTurn, keeps_pending, HearsOf, HearsOfNone, With, HoldsStepsBefore, HasBounds}
+use Rattle.tau_past.specs.Heard.{heard_by, Heard, HeardBy, HeardTogether, HoldsStepsBefore}
+use Rattle.tau_past.specs.KnownLaws.{keeps_pending, HearsOf, HearsOfNone, With, HasBounds}
 use Rattle.tau_past.proofs.BoundLemmas.{has_bounds}
 use Rattle.tau_past.proofs.HeardLemmas.{origin_acts, new_acts, heard_after_step, heard_with_sender}
 use Rattle.tau_past.proofs.Known.{acts_known, hears_known, heard_before}

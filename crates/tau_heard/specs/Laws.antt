@@ -12,9 +12,10 @@ use Rattle.tau_trace.specs.Numbering.{born, sent, IsNew, IsOrigin}
 use Rattle.tau_trace.specs.Histories.{history, move_at, Closes, Falls}
 use Rattle.tau_trace.specs.Points.{point_at, Stabilizes}
 use Rattle.tau_trace.specs.Known.{WellFormed}
+use Rattle.tau_trace.specs.Turns.{HasOpenTurn}
 use Rattle.tau_past.specs.Carried.{is_set, first_point}
 use Rattle.tau_past.specs.Heard.{heard_by}
-use Rattle.tau_past.specs.KnownLaws.{HasOpenTurn, HearsOfNone}
+use Rattle.tau_past.specs.KnownLaws.{HearsOfNone}
 use Rattle.tau_heard.specs.Views.{IsViewOf, IsMessageView}
 
 -- the kinds that touch and do nothing else

@@ -7,8 +7,7 @@ use Rattle.tau_trace.specs.Run.{Run, ActsAt}
 use Rattle.tau_trace.specs.Numbering.{IsNew}
 use Rattle.tau_trace.specs.Histories.{history}
 use Rattle.tau_past.specs.Carried.{TakesBy, Pending, SentWith}
-use Rattle.tau_past.specs.Heard.{Heard, HeardBy}
-use Rattle.tau_past.specs.KnownLaws.{Bound}
+use Rattle.tau_past.specs.Heard.{Heard, HeardBy, Bound}
 
 -- u is present in the set of places H for an owner: it is the owner, or a step of u, or the New that made u, is in H
 pub data IsPresent (T : Run) (H : ℕ → Type 0) (owner : Option ℕ) (u : ℕ) : Type 0 where

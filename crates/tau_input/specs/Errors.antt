@@ -33,6 +33,6 @@ of_step_error (steps.Unknown k) = Fault 13 k
 of_step_error steps.NoMemory = NoMemory
 
 -- an error tells one of these faults, which are given by number and place; want of memory tells nothing
-abbrev pub Tells : (ℕ → ℕ → Type 0) → InputError → Type 0
-Tells F (Fault fault at) = F fault at
-Tells F NoMemory = Unit {0}
+abbrev pub TellsInputFault : (ℕ → ℕ → Type 0) → InputError → Type 0
+TellsInputFault F (Fault fault at) = F fault at
+TellsInputFault F NoMemory = Unit {0}

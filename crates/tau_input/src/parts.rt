@@ -7,7 +7,7 @@ ghost use Rattle.tau_forms.specs.Meaning.{Means};
 ghost use Rattle.tau_trace.specs.Run.{Run};
 ghost use Rattle.tau_script.specs.Openings.{program_opening};
 ghost use Rattle.tau_steps.specs.Meaning.{MeansSteps};
-ghost use Rattle.tau_input.specs.Errors.{Tells};
+ghost use Rattle.tau_input.specs.Errors.{TellsInputFault};
 ghost use Rattle.tau_input.specs.Faults.{ProgramFault, StepsFault, PartsFault, MarkedFault};
 ghost use Rattle.tau_input.specs.Meaning.{MeansRun, MeansMarkedRun};
 ghost use Rattle.tau_input.specs.Parts.{program_forms, step_forms};
@@ -34,7 +34,7 @@ pub(crate) fn whole_program(alloc: Global, forms: &Forms) -> Result<Program, Inp
     requires { depths forms.now ≤ 200 }
     ensures program { IfOk result (Means forms.now) }
     ensures sound { IfOk result Sound }
-    ensures fault { IfErr result (Tells (ProgramFault forms.now)) }
+    ensures fault { IfErr result (TellsInputFault (ProgramFault forms.now)) }
 {
     Ok(program_of(alloc, forms)?)
 }
@@ -44,7 +44,7 @@ pub(crate) fn marked_text(alloc: Global, forms: &Forms) -> Result<RunText, Input
     requires { depths forms.now ≤ 200 }
     ensures means { IfOk result (λ r. MeansMarkedRun forms.now r.program r.trace.run) }
     ensures sound { IfOk result (λ r. Sound r.program) }
-    ensures fault { IfErr result (Tells (MarkedFault forms.now)) }
+    ensures fault { IfErr result (TellsInputFault (MarkedFault forms.now)) }
 {
     let mark = place_of_mark(forms.items(), b"trace");
     if mark == forms.len() {
@@ -61,7 +61,7 @@ pub(crate) fn printed_program(alloc: Global, forms: &Forms) -> Result<Program, I
     requires { depths forms.now ≤ 200 }
     ensures means { IfOk result (λ p. (T : Run) × MeansRun forms.now p T) }
     ensures sound { IfOk result Sound }
-    ensures fault { IfErr result (Tells (PartsFault forms.now)) }
+    ensures fault { IfErr result (TellsInputFault (PartsFault forms.now)) }
 {
     let mark = place_of_mark(forms.items(), b"trace");
     if mark == forms.len() {
@@ -78,7 +78,7 @@ fn read_parts(alloc: Global, forms: &Forms, mark: usize) -> Result<RunText, Inpu
     requires marked { mark < length forms.now }
     ensures means { IfOk result (λ r. MeansRun forms.now r.program r.trace.run) }
     ensures sound { IfOk result (λ r. Sound r.program) }
-    ensures fault { IfErr result (Tells (PartsFault forms.now)) }
+    ensures fault { IfErr result (TellsInputFault (PartsFault forms.now)) }
 {
     let program = program_before(alloc, forms, mark)?;
     let trace = trace_behind(alloc, forms, mark, &program)?;
@@ -91,7 +91,7 @@ fn program_before(alloc: Global, forms: &Forms, mark: usize) -> Result<Program, 
     requires mark { mark ≡ length (program_forms forms.now) }
     ensures program { IfOk result (Means (program_forms forms.now)) }
     ensures sound { IfOk result Sound }
-    ensures fault { IfErr result (Tells (ProgramFault (program_forms forms.now))) }
+    ensures fault { IfErr result (TellsInputFault (ProgramFault (program_forms forms.now))) }
 {
     let front = copies_before(alloc, forms, mark)?;
     whole_program(alloc, &front)
@@ -108,7 +108,7 @@ fn trace_behind(
     requires marked { mark < length forms.now }
     requires sound { Sound program.now }
     ensures trace { IfOk result (λ t. MeansSteps (program_opening program.now) (step_forms forms.now) t.run) }
-    ensures fault { IfErr result (Tells (StepsFault (program_opening program.now) (step_forms forms.now))) }
+    ensures fault { IfErr result (TellsInputFault (StepsFault (program_opening program.now) (step_forms forms.now))) }
 {
     let end = forms.len();
     let from = mark + 1;

@@ -4,7 +4,7 @@ ghost use Rattle.tau_tree.specs.Sound.{Sound};
 ghost use Rattle.tau_tree.specs.declared.programs.Program.{Program};
 ghost use Rattle.tau_trace.specs.Run.{Run};
 ghost use Rattle.tau_script.specs.Openings.{program_opening};
-ghost use Rattle.tau_input.specs.Errors.{Tells};
+ghost use Rattle.tau_input.specs.Errors.{TellsInputFault};
 ghost use Rattle.tau_input.specs.Faults.{IsProgramFault, IsRunFault, IsPrintFault};
 ghost use Rattle.tau_input.specs.Meaning.{IsProgram, IsRunInput, IsPrintInput};
 
@@ -22,7 +22,7 @@ pub fn read_program(alloc: Global, bytes: &[u8]) -> Result<Program, InputError>
     ensures sound { IfOk result Sound }
     ensures read { (p : Program) → IsProgram bytes.now p → IfErr result (λ e. e ≡ InputError.NoMemory) }
 
-    ensures fault { IfErr result (Tells (IsProgramFault bytes.now)) }
+    ensures fault { IfErr result (TellsInputFault (IsProgramFault bytes.now)) }
     ensures faulty { (fault at : ℕ) → IsProgramFault bytes.now fault at
         → (result ≡ Err (InputError.Fault fault at)) ⊎ (result ≡ Err InputError.NoMemory) }
 {
@@ -41,7 +41,7 @@ pub fn read_run_text(alloc: Global, bytes: &[u8]) -> Result<RunText, InputError>
     ensures opening { IfOk result (λ r. r.trace.run.opening ≡ program_opening r.program) }
     ensures read { (p : Program) (T : Run) → IsRunInput bytes.now p T → IfErr result (λ e. e ≡ InputError.NoMemory) }
 
-    ensures fault { IfErr result (Tells (IsRunFault bytes.now)) }
+    ensures fault { IfErr result (TellsInputFault (IsRunFault bytes.now)) }
     ensures faulty { (fault at : ℕ) → IsRunFault bytes.now fault at
         → (result ≡ Err (InputError.Fault fault at)) ⊎ (result ≡ Err InputError.NoMemory) }
 {
@@ -58,7 +58,7 @@ pub fn read_printed(alloc: Global, bytes: &[u8]) -> Result<Program, InputError>
     ensures sound { IfOk result Sound }
     ensures read { (p : Program) → IsPrintInput bytes.now p → IfErr result (λ e. e ≡ InputError.NoMemory) }
 
-    ensures fault { IfErr result (Tells (IsPrintFault bytes.now)) }
+    ensures fault { IfErr result (TellsInputFault (IsPrintFault bytes.now)) }
     ensures faulty { (fault at : ℕ) → IsPrintFault bytes.now fault at
         → (result ≡ Err (InputError.Fault fault at)) ⊎ (result ≡ Err InputError.NoMemory) }
 {

@@ -16,10 +16,9 @@ use Rattle.tau_trace.specs.Known.{WellFormed}
 use Rattle.tau_trace.proofs.Moves.{own_move}
 use Rattle.tau_trace.proofs.PointLemmas.{fates_are_steps}
 use Rattle.tau_trace.proofs.Quiet.{acts}
-use Rattle.tau_past.specs.Heard.{IsClosed}
-use Rattle.tau_past.specs.Pasts.{FallenIn, StabilizedIn, FirmIn}
+use Rattle.tau_past.specs.Heard.{IsCausallyClosed, HoldsStepsBefore, Bound}
+use Rattle.tau_past.specs.Pasts.{FellIn, StabilizedIn, FirmIn}
 use Rattle.tau_past.specs.Safety.{KeepsRules}
-use Rattle.tau_past.specs.KnownLaws.{HoldsStepsBefore, Bound}
 use Rattle.tau_past.proofs.BoundLemmas.{bound_history}
 use Rattle.tau_past.proofs.FixedLemmas.{was_stabilized}
 use Rattle.tau_past.proofs.HeardLemmas.{absorbs}
@@ -28,7 +27,7 @@ use Rattle.tau_heard.specs.Views.{IsPresent, is_owner, by_step, IsView}
 -- x is the view of the closed set H, which has a bound at each transactor
 pub record IsViewOfClosed (T : Run) (H : ℕ → Type 0) (owner : Option ℕ) (roots : Point → Type 0) (x : Held) : Type 0 where
   pub view : IsView T H owner roots x
-  pub closed : IsClosed T H
+  pub closed : IsCausallyClosed T H
   pub bounds : (u : ℕ) → (a : ℕ) × Bound T H u a
 
 -- the view has the history of u after its last step in H
@@ -86,13 +85,13 @@ module _ {T : Run} {H : ℕ → Type 0} {owner : Option ℕ} {roots : Point → 
   held_below q has j a l = (has.is_bound.steps j a).1 l
 
   -- Fallen is known fallen
-  pub fallen_known : (q : Point) → fate_in x.history q ≡ Fallen → FallenIn T H q
+  pub fallen_known : (q : Point) → fate_in x.history q ≡ Fallen → FellIn T H q
   fallen_known q e =
       let has = reached_has q (λ a. let both : Ahead ≡ Fallen = sym a ∙ e in cc) in
       let made = (fates_are_steps T q has.bound).fallen.0 (has_row (history T q.who has.bound) q.interval q.incarnation Fallen (sym (fate_is q has) ∙ e)) in
       record { place = made.place; held = held_below q has made.place (falls_acts T q.who made.place made.holds) made.before; falls = made.holds; at_point = made.at_point }
 
-  pub known_fallen : (q : Point) → FallenIn T H q → fate_in x.history q ≡ Fallen
+  pub known_fallen : (q : Point) → FellIn T H q → fate_in x.history q ≡ Fallen
   known_fallen q f =
       let a = falls_acts T q.who f.place f.falls in
       let has = step_has q.who f.place f.held a in
@@ -142,7 +141,7 @@ module _ {T : Run} {H : ℕ → Type 0} {owner : Option ℕ} {roots : Point → 
   -- firm is known firm, where the rules are kept
   pub firm_known : WellFormed T → KeepsRules T → (q : Point) → IsTrue (is_firm (fate_in x.history q)) → FirmIn T H q
   firm_known w rules q firm = by_fate (fate_in x.history q) refl where
-    not_fallen : FallenIn T H q → ⊥
+    not_fallen : FellIn T H q → ⊥
     not_fallen f = let g : IsTrue (is_firm Fallen) = subst (λ d. IsTrue (is_firm d)) (known_fallen q f) firm in cc
 
     by_fate : (f : Fate) → fate_in x.history q ≡ f → FirmIn T H q

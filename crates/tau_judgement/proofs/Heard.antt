@@ -8,8 +8,7 @@ use Rattle.tau_trace.specs.Numbering.{born, sent}
 use Rattle.tau_trace.specs.Points.{point_at}
 use Rattle.tau_trace.specs.Known.{WellFormed}
 use Rattle.tau_past.specs.Carried.{Pending, SentWith}
-use Rattle.tau_past.specs.Heard.{Heard, HeardBy, HeardTogether}
-use Rattle.tau_past.specs.KnownLaws.{Bound}
+use Rattle.tau_past.specs.Heard.{Heard, HeardBy, HeardTogether, Bound}
 use Rattle.tau_past.proofs.BoundLemmas.{has_bounds, union_bound}
 use Rattle.tau_past.proofs.HeardLemmas.{heard_sets_closed, sent_touched}
 use Rattle.tau_heard.specs.Views.{IsView, IsViewOf, IsMessageView}

@@ -15,7 +15,7 @@ use Rattle.tau_trace.specs.Known.{WellFormed}
 use Rattle.tau_past.specs.Carried.{SentWith}
 use Rattle.tau_past.specs.Pasts.{Is}
 use Rattle.tau_past.specs.Safety.{KeepsRules}
-use Rattle.tau_judgement.specs.NamedPoints.{IsFallen, IsNotFirm, VerdictsNameFallen, FreedomNamesNotFirm}
+use Rattle.tau_judgement.specs.NamedPoints.{IsKnownFallen, IsNotKnownFirm, VerdictsNameFallen, FreedomNamesNotFirm}
 use Rattle.tau_judgement.proofs.Fates.{IsViewOfClosed, fallen_known, known_firm}
 use Rattle.tau_judgement.proofs.Pasts.{same_past}
 use Rattle.tau_judgement.proofs.Decisions.{one_point, only_reached}
@@ -25,11 +25,11 @@ use Rattle.tau_judgement.proofs.JudgementLaws.{merge}
 module _ {T : Run} {H : ℕ → Type 0} {owner : Option ℕ} {roots : Point → Type 0} {x : Held} (known : IsViewOfClosed T H owner roots x)
     (from : Points) (P : Point → Type 0) (same : (q : Point) → IsTrue (from q) ↔ P q) (reached : (q : Point) → P q → fate_in x.history q ≢ Ahead) where
   -- a Fallen point of the known past on the view is known fallen in H
-  fallen_point : (q : Point) → FallenOn x from q → IsFallen T H P q
+  fallen_point : (q : Point) → FallenOn x from q → IsKnownFallen T H P q
   fallen_point q f = record { in_past = (same_past known from P same reached q).forth f.in_past; fallen = fallen_known known q f.is_fallen }
 
   -- one that isn't firm on it is not known firm in H
-  not_firm_point : WellFormed T → KeepsRules T → (q : Point) → NotFirmIn x from q → IsNotFirm T H P q
+  not_firm_point : WellFormed T → KeepsRules T → (q : Point) → NotFirmIn x from q → IsNotKnownFirm T H P q
   not_firm_point w rules q n =
       let past = same_past known from P same reached q in
       record {

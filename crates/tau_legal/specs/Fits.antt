@@ -1,10 +1,11 @@
--- Which step fits at a place of a run (docs/rules.md, "Steps").
-use Rattle.std.specs.Prelude.{◌≡◌, ◌⊎◌, ◌↔◌, ℕ, ◌<◌, ◌≤◌, IsTrue, IsFalse, None}
+-- Which step fits at a place of a run (docs/definitions.md, "Fitting and legal steps").
+use Rattle.std.specs.Prelude.{◌≡◌, ◌⊎◌, ◌↔◌, ℕ, ◌<◌, ◌≤◌, Bool, true, false, IsTrue, IsFalse, None}
 use Rattle.tau_value.specs.Val.{Val}
 use Rattle.tau_value.specs.Value.{val_of}
 use Rattle.tau_tree.specs.declared.programs.Program.{Program}
 use Rattle.tau_trace.specs.declared.step.Step.{Step}
 use Rattle.tau_trace.specs.declared.step.Step.TheVariants.{Take, Drop, Fall, Void, Get, Set, Skip, Send, New, Stabilize, Ask, Checkpoint, Hold, Rollback, Stay, Done, Trap, Fail, Lose}
+use Rattle.tau_trace.specs.Steps.{actor}
 use Rattle.tau_trace.specs.Run.{Run}
 use Rattle.tau_trace.specs.Numbering.{born, Receives, InFlight}
 use Rattle.tau_trace.specs.Histories.{history, Ended, IsLiving}
@@ -66,3 +67,26 @@ Fits P T k (Done t) = TurnHas P T t k eff.done
 Fits P T k (Trap t code) = TurnHas P T t k (eff.trap code) ⊎ ((code ≡ 7) × LacksNumber P T t k)
 Fits P T k (Fail t) = (t < born T k) × IsLiving T t k
 Fits P T k (Lose m) = InFlight T m k
+
+-- the kinds of steps that an open turn makes
+abbrev pub is_of_turn : Step → Bool
+is_of_turn (Get t) = true
+is_of_turn (Set t v) = true
+is_of_turn (Skip t) = true
+is_of_turn (Send t u v) = true
+is_of_turn (New t b n v) = true
+is_of_turn (Stabilize t) = true
+is_of_turn (Ask t a) = true
+is_of_turn (Checkpoint t) = true
+is_of_turn (Hold t) = true
+is_of_turn (Rollback t) = true
+is_of_turn (Stay t) = true
+is_of_turn (Done t) = true
+is_of_turn (Trap t c) = true
+is_of_turn s = false
+
+-- the step is of the open turn of t, and fits at the end of the run
+pub record IsStepOfTurn (P : Program) (T : Run) (t : ℕ) (s : Step) : Type 0 where
+  pub by : actor s ≡ Some t
+  pub of_turn : IsTrue (is_of_turn s)
+  pub fits : Fits P T (len T) s

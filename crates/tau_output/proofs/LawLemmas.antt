@@ -15,7 +15,7 @@ use Rattle.tau_command.specs.declared.commands.Command.{Command}
 use Rattle.tau_command.specs.declared.commands.Command.TheVariants.{Run as RunCommand, Check, Audit, Report, Print, Gen, Drill}
 use Rattle.tau_input.specs.declared.errors.InputError.{InputError}
 use Rattle.tau_input.specs.declared.errors.InputError.TheVariants.{Fault, NoMemory}
-use Rattle.tau_input.specs.Errors.{Tells}
+use Rattle.tau_input.specs.Errors.{TellsInputFault}
 use Rattle.tau_input.proofs.FaultLemmas.{program_unique, run_unique, print_unique}
 use Rattle.tau_output.specs.declared.outputs.End.{End}
 use Rattle.tau_output.specs.declared.outputs.Output.{Output}
@@ -60,21 +60,21 @@ writes_without_fault bytes command end text a b w (too_long r l p q) = let few :
 writes_without_fault bytes command end text a b w (within l f) = clean command bytes end text a b w.answers f
 
 -- an answer for an input with a fault tells the fault, or want of memory
-pub told_once : (command : Command) (bytes : List ℕ) (e : InputError) (a b : ℕ) → Tells (IsInputFault command bytes) e → IsInputFault command bytes a b → (e ≡ Fault a b) ⊎ (e ≡ NoMemory)
+pub told_once : (command : Command) (bytes : List ℕ) (e : InputError) (a b : ℕ) → TellsInputFault (IsInputFault command bytes) e → IsInputFault command bytes a b → (e ≡ Fault a b) ⊎ (e ≡ NoMemory)
 told_once command bytes (Fault c d) a b t f = let same = fails_once bytes command c d a b t f in inl (ap (λ x. Fault x d) same.0 ∙ ap (λ x. Fault a x) same.1)
 told_once command bytes NoMemory a b t f = inr refl
 
-fault_told : (command : Command) (bytes : List ℕ) (r : Result Output InputError) → IfOk r (λ o. Writes command bytes o.end o.text.items) → IfErr r (Tells (IsInputFault command bytes))
+fault_told : (command : Command) (bytes : List ℕ) (r : Result Output InputError) → IfOk r (λ o. Writes command bytes o.end o.text.items) → IfErr r (TellsInputFault (IsInputFault command bytes))
     → (a b : ℕ) → IsInputFault command bytes a b → (r ≡ Err (Fault a b)) ⊎ (r ≡ Err NoMemory)
 fault_told command bytes (Ok o) w t a b f = absurd (writes_without_fault bytes command o.end o.text.items a b w f)
 fault_told command bytes (Err e) w t a b f = elim (told_once command bytes e a b t f) [ inl same ↦ inl (ap Err same) | inr same ↦ inr (ap Err same) ]
 
 -- the fault of bytes that aren't too many is that of the input
-tells_within : (command : Command) (bytes : List ℕ) (e : InputError) → length bytes ≤ input_limit → Tells (IsFaultOf command bytes) e → Tells (IsInputFault command bytes) e
+tells_within : (command : Command) (bytes : List ℕ) (e : InputError) → length bytes ≤ input_limit → TellsInputFault (IsFaultOf command bytes) e → TellsInputFault (IsInputFault command bytes) e
 tells_within command bytes (Fault a b) l t = within l t
 tells_within command bytes NoMemory l t = tt
 
-pub fault_within : (command : Command) (bytes : List ℕ) (r : Result Output InputError) → length bytes ≤ input_limit → IfErr r (Tells (IsFaultOf command bytes)) → IfErr r (Tells (IsInputFault command bytes))
+pub fault_within : (command : Command) (bytes : List ℕ) (r : Result Output InputError) → length bytes ≤ input_limit → IfErr r (TellsInputFault (IsFaultOf command bytes)) → IfErr r (TellsInputFault (IsInputFault command bytes))
 fault_within command bytes (Ok o) l t = tt
 fault_within command bytes (Err e) l t = tells_within command bytes e l t
 
@@ -84,7 +84,7 @@ answered kind bytes (Err e) l w = tt
 
 -- and so of what a command answers for bytes that aren't too many
 pub answer_told : (command kind : Command) (bytes : List ℕ) (r : Result Output InputError) → command ≡ kind → length bytes ≤ input_limit → IfOk r (λ o. Answers kind bytes o.end o.text.items)
-    → IfErr r (Tells (IsFaultOf kind bytes)) → (a b : ℕ) → IsInputFault command bytes a b → (r ≡ Err (Fault a b)) ⊎ (r ≡ Err NoMemory)
+    → IfErr r (TellsInputFault (IsFaultOf kind bytes)) → (a b : ℕ) → IsInputFault command bytes a b → (r ≡ Err (Fault a b)) ⊎ (r ≡ Err NoMemory)
 answer_told command kind bytes r same l w t a b f =
     fault_told kind bytes r (answered kind bytes r l w) (fault_within kind bytes r l t) a b (subst (λ x. IsInputFault x bytes a b) same f)
 

@@ -10,7 +10,7 @@ use Rattle.tau_legal.specs.Traces.{Legal, Complete}
 use Rattle.tau_legal.proofs.TraceLemmas.{legal_safe}
 use Rattle.tau_report.specs.Report.{SavedForms, none, without, with_one, counts_form, IsReport}
 use Rattle.tau_text.specs.RunText.{IsRunText, IsReadBack}
-use Rattle.tau_text.specs.Laws.{Tells}
+use Rattle.tau_text.specs.Laws.{TellsRun}
 use Rattle.tau_text.proofs.Telling.{texts_tell}
 use Rattle.tau_past.specs.Safety.{Safe}
 use Rattle.tau_serial.specs.SerialRun.{IsSerialRun}
@@ -76,8 +76,8 @@ ends_once limit other P T s another a b = absurd a
 -- the text determines the program, the run and the end
 pub texts_tell_runs : TextsTellRuns
 texts_tell_runs limit other bytes others end another text one two =
-    let a : Tells one.program one.run text = record { well_formed = one.well_formed; opening = one.legal.opening; read_back = one.read_back } in
-    let b : Tells two.program two.run text = record { well_formed = two.well_formed; opening = two.legal.opening; read_back = two.read_back } in
+    let a : TellsRun one.program one.run text = record { well_formed = one.well_formed; opening = one.legal.opening; read_back = one.read_back } in
+    let b : TellsRun two.program two.run text = record { well_formed = two.well_formed; opening = two.legal.opening; read_back = two.read_back } in
     let same = texts_tell one.program two.program one.run two.run text a b in
     let there : EndsAs other one.program one.run another = subst (λ P. EndsAs other P one.run another) (sym same.0) (subst (λ T. EndsAs other two.program T another) (sym same.1) two.ends) in
     record { program = same.0; run = same.1; ends = ends_once limit other one.program one.run end another one.ends there }
@@ -94,7 +94,7 @@ pub run_texts_accepted : RunTextsAreAccepted
 run_texts_accepted limit bytes end text one l =
     let P = one.program in
     let T = one.run in
-    let tells : Tells P T text = record { well_formed = one.well_formed; opening = one.legal.opening; read_back = one.read_back } in
+    let tells : TellsRun P T text = record { well_formed = one.well_formed; opening = one.legal.opening; read_back = one.read_back } in
     let back = run_texts_read_back P T text tells in
     record {
       check = record {

@@ -4,7 +4,7 @@ use Rattle.tau_command.specs.declared.commands.Command.{Command}
 use Rattle.tau_command.specs.declared.commands.Command.TheVariants.{Run as RunCommand, Check, Audit, Report, Print, Gen, Drill}
 use Rattle.tau_input.specs.declared.errors.InputError.{InputError}
 use Rattle.tau_input.specs.declared.errors.InputError.TheVariants.{Fault, NoMemory}
-use Rattle.tau_input.specs.Errors.{Tells}
+use Rattle.tau_input.specs.Errors.{TellsInputFault}
 use Rattle.tau_input.specs.Faults.{IsProgramFault}
 use Rattle.tau_input.proofs.FaultLemmas.{program_unique}
 use Rattle.tau_output.specs.declared.outputs.End.{End}
@@ -35,14 +35,14 @@ clean_together workers jobs seed steps bytes end text few runs a b (too_long rea
 clean_together workers jobs seed steps bytes end text few runs a b (within l f) = (program_unique bytes).not_both runs.program a b runs.spelled f
 
 told_together : (workers jobs seed steps : ℕ) (bytes : List ℕ) (r : Result Output InputError) → length bytes ≤ input_limit → IfOk r (λ o. RunsAs steps bytes o.end o.text.items)
-    → IfErr r (Tells (IsInputFault (RunCommand workers jobs seed steps) bytes)) → (a b : ℕ) → IsInputFault (RunCommand workers jobs seed steps) bytes a b → (r ≡ Err (Fault a b)) ⊎ (r ≡ Err NoMemory)
+    → IfErr r (TellsInputFault (IsInputFault (RunCommand workers jobs seed steps) bytes)) → (a b : ℕ) → IsInputFault (RunCommand workers jobs seed steps) bytes a b → (r ≡ Err (Fault a b)) ⊎ (r ≡ Err NoMemory)
 told_together workers jobs seed steps bytes (Ok o) few runs t a b f = absurd (clean_together workers jobs seed steps bytes o.end o.text.items few runs a b f)
 told_together workers jobs seed steps bytes (Err e) few runs t a b f =
     elim (told_once (RunCommand workers jobs seed steps) bytes e a b t f) [ inl same ↦ inl (ap Err same) | inr same ↦ inr (ap Err same) ]
 
 -- and an answer for such an input tells the fault, or want of memory
 pub together_told : (command : Command) (workers jobs seed steps : ℕ) (bytes : List ℕ) (r : Result Output InputError) → command ≡ RunCommand workers jobs seed steps
-    → length bytes ≤ input_limit → IfOk r (λ o. RunsAs steps bytes o.end o.text.items) → IfErr r (Tells (IsProgramFault bytes)) → (a b : ℕ) → IsInputFault command bytes a b
+    → length bytes ≤ input_limit → IfOk r (λ o. RunsAs steps bytes o.end o.text.items) → IfErr r (TellsInputFault (IsProgramFault bytes)) → (a b : ℕ) → IsInputFault command bytes a b
     → (r ≡ Err (Fault a b)) ⊎ (r ≡ Err NoMemory)
 together_told command workers jobs seed steps bytes r same few runs t a b f =
     told_together workers jobs seed steps bytes r few runs (fault_within (RunCommand workers jobs seed steps) bytes r few t) a b (subst (λ x. IsInputFault x bytes a b) same f)

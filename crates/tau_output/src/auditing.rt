@@ -1,6 +1,6 @@
 //! The command `audit`.
 ghost use Rattle.std.specs.Prelude.{◌≡◌, ◌++◌, IfOk, IfErr, OnOk};
-ghost use Rattle.tau_input.specs.Errors.{Tells};
+ghost use Rattle.tau_input.specs.Errors.{TellsInputFault};
 ghost use Rattle.tau_input.specs.Faults.{IsRunFault};
 ghost use Rattle.tau_value.specs.Written.{name_written};
 ghost use Rattle.tau_output.specs.Audits.{AuditsAs, broken_line as line_of_broken};
@@ -17,7 +17,7 @@ use tau_value::Names;
 /// isn't (docs/formats.md, "Command line").
 pub(crate) fn audit_run(alloc: Global, bytes: &[u8]) -> Result<Output, InputError>
     ensures output { IfOk result (λ o. AuditsAs bytes.now o.end o.text.items) }
-    ensures fault { IfErr result (Tells (IsRunFault bytes.now)) }
+    ensures fault { IfErr result (TellsInputFault (IsRunFault bytes.now)) }
 {
     let input = read_run_text(alloc, bytes)?;
     let found = audit(alloc, &input.trace)?;

@@ -1,6 +1,6 @@
 //! The command `check`.
 ghost use Rattle.std.specs.Prelude.{◌≡◌, IfOk, IfErr};
-ghost use Rattle.tau_input.specs.Errors.{Tells};
+ghost use Rattle.tau_input.specs.Errors.{TellsInputFault};
 ghost use Rattle.tau_input.specs.Faults.{IsRunFault};
 ghost use Rattle.tau_output.specs.Checks.{ChecksAs};
 ghost use Rattle.tau_output.specs.Ends.{end_of_check, line_of_check};
@@ -13,7 +13,7 @@ use tau_input::{InputError, read_run_text};
 /// The line that tells whether the run of a run text is legal, and complete (docs/formats.md, "Command line").
 pub(crate) fn check_run(alloc: Global, bytes: &[u8]) -> Result<Output, InputError>
     ensures output { IfOk result (λ o. ChecksAs bytes.now o.end o.text.items) }
-    ensures fault { IfErr result (Tells (IsRunFault bytes.now)) }
+    ensures fault { IfErr result (TellsInputFault (IsRunFault bytes.now)) }
 {
     let input = read_run_text(alloc, bytes)?;
     let legality = check(alloc, &input.program, &input.trace)?;

@@ -1,6 +1,6 @@
 //! What commands write.
 ghost use Rattle.std.specs.Prelude.{◌≡◌, ◌⊎◌, ℕ, ◌≤◌, length, IfOk, IfErr, Err};
-ghost use Rattle.tau_input.specs.Errors.{Tells};
+ghost use Rattle.tau_input.specs.Errors.{TellsInputFault};
 ghost use Rattle.tau_output.specs.Faults.{input_limit, reads_input as reads, IsInputFault};
 ghost use Rattle.tau_output.specs.Writing.{Writes, HasLimit};
 
@@ -69,7 +69,7 @@ pub fn output_of(alloc: Global, command: Command, bytes: &[u8]) -> Result<Output
     requires limit { HasLimit command }
     ensures output { IfOk result (λ o. Writes command bytes.now o.end o.text.items) }
 
-    ensures fault { IfErr result (Tells (IsInputFault command bytes.now)) }
+    ensures fault { IfErr result (TellsInputFault (IsInputFault command bytes.now)) }
     ensures faulty { (fault at : ℕ) → IsInputFault command bytes.now fault at
         → (result ≡ Err (InputError.Fault fault at)) ⊎ (result ≡ Err InputError.NoMemory) }
 {

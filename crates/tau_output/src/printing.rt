@@ -1,6 +1,6 @@
 //! The command `print`.
 ghost use Rattle.std.specs.Prelude.{◌≡◌, IfOk, IfErr};
-ghost use Rattle.tau_input.specs.Errors.{Tells};
+ghost use Rattle.tau_input.specs.Errors.{TellsInputFault};
 ghost use Rattle.tau_input.specs.Faults.{IsPrintFault};
 ghost use Rattle.tau_output.specs.Printing.{PrintsAs};
 
@@ -11,7 +11,7 @@ use tau_input::{InputError, program_text, read_printed};
 /// The forms of the program of a program's or a run's text, printed (docs/formats.md, "Programs").
 pub(crate) fn print_program(alloc: Global, bytes: &[u8]) -> Result<Output, InputError>
     ensures output { IfOk result (λ o. PrintsAs bytes.now o.text.items × (o.end ≡ End.Done)) }
-    ensures fault { IfErr result (Tells (IsPrintFault bytes.now)) }
+    ensures fault { IfErr result (TellsInputFault (IsPrintFault bytes.now)) }
 {
     let program = read_printed(alloc, bytes)?;
     Ok(Output {

@@ -1,6 +1,6 @@
 //! The command `report`.
 ghost use Rattle.std.specs.Prelude.{◌≡◌, IfOk, IfErr};
-ghost use Rattle.tau_input.specs.Errors.{Tells};
+ghost use Rattle.tau_input.specs.Errors.{TellsInputFault};
 ghost use Rattle.tau_input.specs.Faults.{IsRunFault};
 ghost use Rattle.tau_output.specs.Reports.{ReportsAs};
 
@@ -12,7 +12,7 @@ use tau_report::report;
 /// The report of the program and the run of a run text (docs/formats.md, "Report").
 pub(crate) fn report_run(alloc: Global, bytes: &[u8]) -> Result<Output, InputError>
     ensures output { IfOk result (λ o. ReportsAs bytes.now o.text.items × (o.end ≡ End.Done)) }
-    ensures fault { IfErr result (Tells (IsRunFault bytes.now)) }
+    ensures fault { IfErr result (TellsInputFault (IsRunFault bytes.now)) }
 {
     let input = read_run_text(alloc, bytes)?;
     Ok(Output {

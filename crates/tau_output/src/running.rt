@@ -1,6 +1,6 @@
 //! The command `run`.
 ghost use Rattle.std.specs.Prelude.{◌≡◌, ◌≤◌, IfOk, IfErr};
-ghost use Rattle.tau_input.specs.Errors.{Tells};
+ghost use Rattle.tau_input.specs.Errors.{TellsInputFault};
 ghost use Rattle.tau_input.specs.Faults.{IsProgramFault};
 ghost use Rattle.tau_output.specs.Runs.{RunsSerially};
 ghost use Rattle.tau_output.specs.Ends.{end_of_run};
@@ -23,7 +23,7 @@ pub(crate) fn run_program(
     requires few { jobs ≤ 16 }
     requires limit { steps ≤ 1000000 }
     ensures output { IfOk result (λ o. RunsSerially jobs seed steps bytes.now o.end o.text.items) }
-    ensures fault { IfErr result (Tells (IsProgramFault bytes.now)) }
+    ensures fault { IfErr result (TellsInputFault (IsProgramFault bytes.now)) }
 {
     let program = read_program(alloc, bytes)?;
     let made = tau_serial::run(alloc, &program, jobs, seed, steps)?;

@@ -1,6 +1,6 @@
 //! What commands write where `run` starts several workers.
 ghost use Rattle.std.specs.Prelude.{◌≡◌, ◌⊎◌, ℕ, ◌<◌, ◌≤◌, length, IfOk, IfErr, Err};
-ghost use Rattle.tau_input.specs.Errors.{Tells};
+ghost use Rattle.tau_input.specs.Errors.{TellsInputFault};
 ghost use Rattle.tau_input.specs.Faults.{IsProgramFault};
 ghost use Rattle.tau_output.specs.Faults.{input_limit, IsInputFault};
 ghost use Rattle.tau_output.specs.Runs.{RunsAs};
@@ -29,7 +29,7 @@ pub fn output_by_workers<R: Threads + Wait + Sync, G: Gate + Sync>(
     requires limit { HasLimit command }
     ensures output { IfOk result (λ o. WritesTogether command bytes.now o.end o.text.items) }
 
-    ensures fault { IfErr result (Tells (IsInputFault command bytes.now)) }
+    ensures fault { IfErr result (TellsInputFault (IsInputFault command bytes.now)) }
     ensures faulty { (fault at : ℕ) → IsInputFault command bytes.now fault at
         → (result ≡ Err (InputError.Fault fault at)) ⊎ (result ≡ Err InputError.NoMemory) }
 {
@@ -65,7 +65,7 @@ fn run_together<R: Threads + Wait + Sync, G: Gate + Sync>(
     requires few { settings.jobs ≤ 16 }
     requires limit { settings.limit ≤ 1000000 }
     ensures output { IfOk result (λ o. RunsAs settings.limit bytes.now o.end o.text.items) }
-    ensures fault { IfErr result (Tells (IsProgramFault bytes.now)) }
+    ensures fault { IfErr result (TellsInputFault (IsProgramFault bytes.now)) }
 {
     let program = read_program(alloc, bytes)?;
     let ran = run_workers(rt, alloc, &program, settings, gate)?;

@@ -19,7 +19,7 @@ use Rattle.tau_trace.proofs.Agreement.{agree_sym, agree_below, born-same, sent-s
 use Rattle.tau_trace.proofs.PointLemmas.{points_grow}
 use Rattle.tau_past.specs.Carried.{Pending, touched, came, Carried, SentWith, TakesBy, by_set, by_new, is_set, touches}
 use Rattle.tau_past.specs.Heard.{heard_by, Needs, earlier, message, birth, Own, own_step, own_birth, OriginOf, Heard, HeardBy, HeardTogether}
-use Rattle.tau_past.specs.Pasts.{ClosesAt, checkpoint, opening as at_opening, Link, takes as by_takes, closing, PastIn, Is, FallenIn, StabilizedIn, FirmIn}
+use Rattle.tau_past.specs.Pasts.{ClosesAt, checkpoint, opening as at_opening, Link, takes as by_takes, closing, PastIn, Is, FellIn, StabilizedIn, FirmIn}
 use Rattle.tau_past.specs.Decisions.{HasFallen, FallsBy, DropsBy, Judgement, takes, falls, Verdict, fall, drop, take, Free}
 use Rattle.tau_past.specs.States as states
 use Rattle.tau_past.specs.States.{NoSet, StateAt, SavedWith}
@@ -128,7 +128,7 @@ module _ {T U : Run} where
   past-same : {H G : ℕ → Type 0} (k : ℕ) (P Q : Point → Type 0) → WellFormed T → Agree T U k → AlikeBelow H G k → ((q : Point) → P q → Q q) → (q : Point) → PastIn T H P q → PastIn U G Q q
   past-same {H} {G} k P Q w a s f = monotone (Link T H) (Link U G) P Q (λ x y. link-same k x y w a s) f
 
-  fallen-same : {H G : ℕ → Type 0} (k : ℕ) (q : Point) → Agree T U k → AlikeBelow H G k → FallenIn T H q → FallenIn U G q
+  fallen-same : {H G : ℕ → Type 0} (k : ℕ) (q : Point) → Agree T U k → AlikeBelow H G k → FellIn T H q → FellIn U G q
   fallen-same k q a s f =
       let lt = s.below f.place f.held in
       record { place = f.place; held = s.there f.place f.held; falls = sym (move_at-same q.who f.place (agree_below (suc f.place) (omega arith) a)) ∙ f.falls; at_point = f.at_point ∙ point-same q.who f.place (agree_below f.place (omega arith) a) }

@@ -18,8 +18,8 @@ use Rattle.tau_trace.proofs.Lists.{same_some}
 use Rattle.tau_trace.proofs.Moves.{move_by-other}
 use Rattle.tau_trace.proofs.Quiet.{acts}
 use Rattle.tau_trace.proofs.Sequences.{cases_last}
-use Rattle.tau_past.specs.Heard.{heard_by, earlier, IsClosed, own_step, Heard, HeardBy, HeardTogether}
-use Rattle.tau_past.specs.KnownLaws.{HearsOf, HearsOfNone, IsSame, Union, With, HoldsStepsBefore, Bound, BoundsWithStep, HasBounds}
+use Rattle.tau_past.specs.Heard.{heard_by, earlier, IsCausallyClosed, own_step, Heard, HeardBy, HeardTogether, HoldsStepsBefore, Bound}
+use Rattle.tau_past.specs.KnownLaws.{HearsOf, HearsOfNone, IsSame, Union, With, BoundsWithStep, HasBounds}
 use Rattle.tau_past.proofs.Known.{acts_known, hears_known, heard_before, heard_by_before}
 use Rattle.tau_past.proofs.HeardLemmas.{origin_acts, new_acts, heard_after_step, heard_with_sender}
 use Rattle.tau_value.proofs.NameLemmas.{last_or_below}
@@ -28,7 +28,7 @@ equal_or_less : (i n : ℕ) → i ≤ n → (i ≡ n) ⊎ (i < n)
 equal_or_less i n l = grind arith
 
 -- a closed set holds earlier steps
-pub holds_earlier : (H : ℕ → Type 0) (T : Run) (u j k : ℕ) → IsClosed T H → H k → ActsAt T u k → ActsAt T u j → j ≤ k → H j
+pub holds_earlier : (H : ℕ → Type 0) (T : Run) (u j k : ℕ) → IsCausallyClosed T H → H k → ActsAt T u k → ActsAt T u j → j ≤ k → H j
 holds_earlier H T u j k c h a b le = ⊎_elim (λ e. subst H (sym e) h) (λ l. c.closed k j h (earlier a b l)) (equal_or_less j k le)
 
 -- no bound is above another

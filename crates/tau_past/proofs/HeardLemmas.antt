@@ -15,7 +15,7 @@ use Rattle.tau_trace.proofs.Once.{new_once, origin_once}
 use Rattle.tau_trace.proofs.Quiet.{acts}
 use Rattle.tau_trace.proofs.Sequences.{cases_last}
 use Rattle.tau_past.specs.Carried.{Pending, touched, came, Carried, SentWith}
-use Rattle.tau_past.specs.Heard.{heard_by, Needs, earlier, message, birth, IsClosed, Own, own_step, own_birth, OriginOf, Heard, HeardBy, HeardTogether}
+use Rattle.tau_past.specs.Heard.{heard_by, Needs, earlier, message, birth, IsCausallyClosed, Own, own_step, own_birth, OriginOf, Heard, HeardBy, HeardTogether}
 use Rattle.tau_past.specs.KnownLaws.{TouchedIn, HearsOf, HearsOfNone, IsSame, Union, With, HeardSetsAreClosed, HoldsHeardAt, HeardStandsBefore, HeardAfterStep}
 use Rattle.tau_past.proofs.Known.{acts_known, needs_before, heard_before, heard_by_before, heard_closed}
 
@@ -29,10 +29,10 @@ pub new_acts : (T : Run) (k by u : ℕ) → IsNew T k by u → ActsAt T by k
 new_acts T k by u n = acts T by k (New by n.behaviour n.node n.state) n.stands refl
 
 -- closed sets
-pub heard_by_closed : (T : Run) (m : ℕ) → IsClosed T (HeardBy T m)
+pub heard_by_closed : (T : Run) (m : ℕ) → IsCausallyClosed T (HeardBy T m)
 heard_by_closed T m = record { closed = λ i j h n. next h n }
 
-pub union_closed : (H G : ℕ → Type 0) (T : Run) → IsClosed T H → IsClosed T G → IsClosed T (Union H G)
+pub union_closed : (H G : ℕ → Type 0) (T : Run) → IsCausallyClosed T H → IsCausallyClosed T G → IsCausallyClosed T (Union H G)
 union_closed H G T c d = record { closed = λ i j h n. ⊎_elim (λ x. inl (c.closed i j x n)) (λ x. inr (d.closed i j x n)) h }
 
 pub heard_sets_closed : (T : Run) → HeardSetsAreClosed T
@@ -43,19 +43,19 @@ heard_sets_closed T = record {
 }
 
 -- a closed set with one more place, all of whose needs it holds
-with_closed : (T : Run) (H : ℕ → Type 0) (k : ℕ) → IsClosed T H → ((j : ℕ) → Needs T k j → H j) → IsClosed T (With H k)
+with_closed : (T : Run) (H : ℕ → Type 0) (k : ℕ) → IsCausallyClosed T H → ((j : ℕ) → Needs T k j → H j) → IsCausallyClosed T (With H k)
 with_closed T H k c needed = record { closed = λ i j h n. ⊎_elim (λ x. inl (c.closed i j x n)) (λ e. inl (needed j (subst (λ x. Needs T x j) e n))) h }
 
-pub absorbs : (T : Run) (H : ℕ → Type 0) (j u : ℕ) → IsClosed T H → H j → ActsAt T u j → IsWithin (Heard T u j) H
+pub absorbs : (T : Run) (H : ℕ → Type 0) (j u : ℕ) → IsCausallyClosed T H → H j → ActsAt T u j → IsWithin (Heard T u j) H
 absorbs T H j u c h a = least (Needs T) (Own T u j) H (record { starts = own; follows = λ x y hx n. c.closed x y hx n }) where
   own : (i : ℕ) → Own T u j i → H i
   own i (own_step b lt) = c.closed j i h (earlier a b lt)
   own i (own_birth n) = c.closed j i h (birth a n)
 
-pub absorbs_message : (T : Run) (H : ℕ → Type 0) (j m : ℕ) → IsClosed T H → H j → HearsOf T j m → IsWithin (HeardBy T m) H
+pub absorbs_message : (T : Run) (H : ℕ → Type 0) (j m : ℕ) → IsCausallyClosed T H → H j → HearsOf T j m → IsWithin (HeardBy T m) H
 absorbs_message T H j m c h e = least (Needs T) (OriginOf T m) H (record { starts = λ i o. c.closed j i h (message e o.origin); follows = λ x y hx n. c.closed x y hx n })
 
-pub holds_heard_at : (H : ℕ → Type 0) (T : Run) (j : ℕ) → IsClosed T H → H j → HoldsHeardAt T H j
+pub holds_heard_at : (H : ℕ → Type 0) (T : Run) (j : ℕ) → IsCausallyClosed T H → H j → HoldsHeardAt T H j
 holds_heard_at H T j c h = record { actor = λ u a. absorbs T H j u c h a; message = λ m e. absorbs_message T H j m c h e }
 
 -- what is pending was touched
@@ -70,7 +70,7 @@ pending_touched T t k q (came {take = b} {m = m} {j = j} {by = by} u o p) = touc
   send : Heard T t k j
   send = next (start (own_step (acts T t b (Take t m) u.takes refl) u.before)) (message (ap (option_and_then heard_by) u.takes) o)
 
-pub carried_touched : (H : ℕ → Type 0) (T : Run) (j : ℕ) (q : Point) → IsClosed T H → H j → Carried T j q → TouchedIn T H q
+pub carried_touched : (H : ℕ → Type 0) (T : Run) (j : ℕ) (q : Point) → IsCausallyClosed T H → H j → Carried T j q → TouchedIn T H q
 carried_touched H T j q c h x = touched_within T (Heard T x.by j) H q (absorbs T H j x.by c h x.acts) (pending_touched T x.by j q x.pending)
 
 pub sent_touched : (T : Run) (m : ℕ) (q : Point) → SentWith T m q → TouchedIn T (HeardBy T m) q
@@ -121,7 +121,7 @@ needs_together : (T : Run) (t k m : ℕ) → ActsAt T t k → HearsOf T k m → 
 needs_together T t k m a e j n = ⊎_elim (λ h. inl h) (λ x. inr (start (subst (λ i. OriginOf T i j) (same_some (sym x.1 ∙ e)) x.2))) (needs_heard T t k a j n)
 
 -- what t has heard after its own step at k lies in each closed set that holds what it had heard, with k
-own_step_within : (T : Run) (t k : ℕ) (G : ℕ → Type 0) → IsClosed T (With G k) → IsWithin (Heard T t k) G → IsWithin (Heard T t (suc k)) (With G k)
+own_step_within : (T : Run) (t k : ℕ) (G : ℕ → Type 0) → IsCausallyClosed T (With G k) → IsWithin (Heard T t k) G → IsWithin (Heard T t (suc k)) (With G k)
 own_step_within T t k G c within = least (Needs T) (Own T t (suc k)) (With G k) (record { starts = own; follows = λ x y h n. c.closed x y h n }) where
   own : (i : ℕ) → Own T t (suc k) i → With G k i
   own i (own_step a lt) = ⊎_elim (λ e. inr e) (λ l. inl (within i (start (own_step a l)))) (cases_last i k lt)
@@ -156,7 +156,7 @@ heard_created T t k by w n j = (
   least (Needs T) (Own T t (suc k)) (With (Heard T by k) k) (record { starts = own; follows = λ x y h f. closed.closed x y h f }) j,
   λ s. ⊎_elim (absorbs T (Heard T t (suc k)) k by (heard_closed T t (suc k)) (start (own_birth n)) (new_acts T k by t n) j) (λ e. subst (Heard T t (suc k)) (sym e) (start (own_birth n))) s,
 ) where
-  closed : IsClosed T (With (Heard T by k) k)
+  closed : IsCausallyClosed T (With (Heard T by k) k)
   closed = with_closed T (Heard T by k) k (heard_closed T by k) (needs_alone T by k (new_acts T k by t n) (new_alone T k by t n))
 
   own : (i : ℕ) → Own T t (suc k) i → With (Heard T by k) k i
@@ -168,7 +168,7 @@ heard_with_sender T m k by o j = (
   least (Needs T) (OriginOf T m) (With (Heard T by k) k) (record { starts = λ i p. inr (origin_once T i k p.by by m p.origin o); follows = λ x y h f. closed.closed x y h f }) j,
   λ s. ⊎_elim (absorbs T (HeardBy T m) k by (heard_by_closed T m) send (origin_acts T k by m o) j) (λ e. subst (HeardBy T m) (sym e) send) s,
 ) where
-  closed : IsClosed T (With (Heard T by k) k)
+  closed : IsCausallyClosed T (With (Heard T by k) k)
   closed = with_closed T (Heard T by k) k (heard_closed T by k) (needs_alone T by k (origin_acts T k by m o) (origin_alone T k by m o))
 
   send : HeardBy T m k

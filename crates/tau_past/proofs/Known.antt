@@ -1,6 +1,6 @@
 -- What a place needs stands before it, and so does all that was heard there.
 use Rattle.std.proofs.Common.{◌≡◌, ℕ, ◌<◌, Option, Some, None, arith, refl, subst, option_and_then}
-use Rattle.tau_points.specs.Reach.{next, IsClosed}
+use Rattle.tau_points.specs.Reach.{next, IsClosedUnder}
 use Rattle.tau_points.proofs.Reach.{least}
 use Rattle.tau_trace.specs.declared.step.Step.{Step}
 use Rattle.tau_trace.specs.declared.step.Step.TheVariants.{Take, Drop, Fall, Void, Get, Set, Skip, Send, New, Stabilize, Ask, Checkpoint, Hold, Rollback, Stay, Done, Trap, Fail, Lose}
@@ -63,7 +63,7 @@ needs_before T k j w (earlier a b lt) = lt
 needs_before T k j w (message {m = m} {by = by} e o) = origin_before T j by m k o (hears_known T m k w e)
 needs_before T k j w (birth {u = u} {by = by} a n) = new_before T j by u k n (acts_known T u k w a)
 
-below_closed : (T : Run) (P : ℕ → Type 0) (k : ℕ) → WellFormed T → ((j : ℕ) → P j → j < k) → IsClosed (Needs T) P (λ j. j < k)
+below_closed : (T : Run) (P : ℕ → Type 0) (k : ℕ) → WellFormed T → ((j : ℕ) → P j → j < k) → IsClosedUnder (Needs T) P (λ j. j < k)
 below_closed T P k w f = record { starts = f; follows = λ x y lt n. omega (arith, needs_before T x y w n) }
 
 -- what a transactor that exists has heard of stands before the place

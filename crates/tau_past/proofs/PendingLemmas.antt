@@ -8,13 +8,13 @@ use Rattle.tau_trace.specs.Steps.{ends_turn, is_take}
 use Rattle.tau_trace.specs.Run.{Run, step_at, ActsAt, Does}
 use Rattle.tau_trace.specs.Numbering.{IsOrigin}
 use Rattle.tau_trace.specs.Points.{point_at}
-use Rattle.tau_trace.specs.Turns.{Turn}
+use Rattle.tau_trace.specs.Turns.{Turn, HasOpenTurn}
 use Rattle.tau_trace.proofs.Lists.{same_some}
 use Rattle.tau_trace.proofs.Quiet.{acts}
 use Rattle.tau_trace.proofs.Sequences.{cases_last}
 use Rattle.tau_trace.proofs.TrackingLemmas.{bounds, turn-on}
 use Rattle.tau_past.specs.Carried.{touches, Pending, touched, came, SentWith}
-use Rattle.tau_past.specs.KnownLaws.{HasOpenTurn, KeepsTurns, KeepsPending, keeps_pending, TurnsAfterStep, PendingAfterStep}
+use Rattle.tau_past.specs.KnownLaws.{KeepsTurns, KeepsPending, keeps_pending, TurnsAfterStep, PendingAfterStep}
 
 touching_bounds_none : (s : Step) → IsTrue (touches s) → IsFalse (bounds s)
 touching_bounds_none (Get t) h = refl

@@ -15,7 +15,7 @@ use Rattle.tau_trace.specs.Known.{WellFormed}
 use Rattle.tau_trace.proofs.Counted.{history-zero, falls_falling}
 use Rattle.tau_trace.proofs.PointLemmas.{points_grow, stable_at, never_stable}
 use Rattle.tau_past.specs.Carried.{is_set, TakesBy, by_set, by_new, first_point}
-use Rattle.tau_past.specs.Heard.{IsClosed, earlier, birth, Heard, HeardTogether}
+use Rattle.tau_past.specs.Heard.{IsCausallyClosed, earlier, birth, Heard, HeardTogether}
 use Rattle.tau_past.specs.Pasts.{ClosesAt, checkpoint, opening as at_opening, Link, takes, closing, PastIn, Is, Everywhere, Past, StabilizedIn, FirmIn}
 use Rattle.tau_past.specs.Decisions.{FallsBy, Free}
 use Rattle.tau_past.specs.Safety.{RolledBack, Safe, KeepsRules}
@@ -61,7 +61,7 @@ set_before T rules t j s d z e = ⊎_elim same (λ x. ⊎_elim (λ lt. lt) after
       absurd (clash (history T t j).stable stable (rules.set t j d))
 
 -- a known Stabilize at a point brings all that the point ever takes
-brings_takes : (T : Run) → KeepsRules T → (H : ℕ → Type 0) → IsClosed T H → (j : ℕ) (q r : Point) → StabilizedIn T H q → TakesBy T j q r → H j
+brings_takes : (T : Run) → KeepsRules T → (H : ℕ → Type 0) → IsCausallyClosed T H → (j : ℕ) (q r : Point) → StabilizedIn T H q → TakesBy T j q r → H j
 brings_takes T rules H c j q r st (by_set {t = t} d e carried ne) = from (subst (StabilizedIn T H) e st) where
   from : StabilizedIn T H (point_at T t j) → H j
   from z = c.closed z.place j z.held (earlier {t = t} (ap_actor z.stabilizes) (acts_of d) (set_before T rules t j z.place d z.stabilizes z.at_point)) where
@@ -77,7 +77,7 @@ brings_takes T rules H c j q r st (by_new {by = by} {u = u} n e carried ne) = fr
     acts b = cc
 
 -- and the closing point of the interval before
-brings_closing : (T : Run) (H : ℕ → Type 0) → IsClosed T H → (q r : Point) (i : ℕ) → StabilizedIn T H q → q.interval ≡ suc i → ClosesAt T Everywhere q.who i r → ClosesAt T H q.who i r
+brings_closing : (T : Run) (H : ℕ → Type 0) → IsCausallyClosed T H → (q r : Point) (i : ℕ) → StabilizedIn T H q → q.interval ≡ suc i → ClosesAt T Everywhere q.who i r → ClosesAt T H q.who i r
 brings_closing T H c q r i st e (at_opening a b o) = at_opening a b o
 brings_closing T H c q r i st e (checkpoint {j = j} h k a b) =
     checkpoint (c.closed st.place j st.held (earlier {t = q.who} (acts st.stabilizes) (closes_acts k) before)) k a b where
@@ -102,7 +102,7 @@ brings_closing T H c q r i st e (checkpoint {j = j} h k a b) =
         later lt = ⊎_elim (λ l. omega (arith, at_place, at_close, l)) (λ s. omega (arith, at_place, at_close, s.0)) ((points_grow T q.who j).grows st.place (omega (arith, lt)))
 
 -- where every point of a known past is known firm, it is the whole past
-pub whole_past : (T : Run) → KeepsRules T → (H : ℕ → Type 0) → IsClosed T H → (p : Point) → ((x : Point) → PastIn T H (Is p) x → FirmIn T H x) → (x : Point) → Past T p x → PastIn T H (Is p) x
+pub whole_past : (T : Run) → KeepsRules T → (H : ℕ → Type 0) → IsCausallyClosed T H → (p : Point) → ((x : Point) → PastIn T H (Is p) x → FirmIn T H x) → (x : Point) → Past T p x → PastIn T H (Is p) x
 whole_past T rules H c p firm =
     least (Link T Everywhere) (Is p) (PastIn T H (Is p)) (record { starts = λ x e. start e; follows = λ x y r l. next r (known x y (firm x r) l) }) where
       known : (x y : Point) → FirmIn T H x → Link T Everywhere x y → Link T H x y

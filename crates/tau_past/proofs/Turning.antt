@@ -8,7 +8,7 @@ use Rattle.tau_trace.specs.Steps.{actor, ends_turn, is_take}
 use Rattle.tau_trace.specs.Run.{Run, step_at, ActsAt, Does}
 use Rattle.tau_trace.specs.Numbering.{sent}
 use Rattle.tau_trace.specs.Points.{point_at}
-use Rattle.tau_trace.specs.Turns.{IsOpenTurn}
+use Rattle.tau_trace.specs.Turns.{IsOpenTurn, HasOpenTurn}
 use Rattle.tau_trace.proofs.Agreement.{origin_before}
 use Rattle.tau_trace.proofs.Lists.{same_some}
 use Rattle.tau_trace.proofs.Once.{origin_once}
@@ -17,7 +17,7 @@ use Rattle.tau_trace.proofs.Sequences.{cases_last}
 use Rattle.tau_trace.proofs.TrackingLemmas.{turn_same, turn_begins, turn_ends, bounds, turn-on}
 use Rattle.tau_past.specs.declared.carrying.Carrying.{Carrying}
 use Rattle.tau_past.specs.Carried.{touches, Pending, touched, came, Carried, SentWith}
-use Rattle.tau_past.specs.Tables.{CarriedFrom, Tells, nothing, HasTurn, TellsTurn, TellsOrigin}
+use Rattle.tau_past.specs.Tables.{CarriedFrom, TellsPoints, nothing, TellsTurn, TellsOrigin}
 use Rattle.tau_past.specs.TableSteps.{turn_after, carrying_of}
 use Rattle.tau_past.proofs.PendingLemmas.{turn_back, pending_on, pending_taken}
 
@@ -45,7 +45,7 @@ pending_plain T t k q none quiet = (
 )
 
 -- after a touching step of a turn
-pub pending_touched : (T : Run) (t k : ℕ) (q : Point) → ¬ Does bounds T t k → Does touches T t k → HasTurn T t k → Pending T t (suc k) q ↔ ((q ≡ point_at T t k) ⊎ Pending T t k q)
+pub pending_touched : (T : Run) (t k : ℕ) (q : Point) → ¬ Does bounds T t k → Does touches T t k → HasOpenTurn T t k → Pending T t (suc k) q ↔ ((q ≡ point_at T t k) ⊎ Pending T t k q)
 pending_touched T t k q none d turn = (
   λ p. ⊎_elim (λ c. inl c.1) (λ r. inr r) (touch-cases T t k q none p),
   λ c. ⊎_elim
@@ -60,7 +60,7 @@ carried_pending T t k q a = (
   λ p. record { by = t; acts = a; pending = p },
 )
 
-has_turn : (T : Run) (t k : ℕ) (q : Point) → Pending T t k q → HasTurn T t k
+has_turn : (T : Run) (t k : ℕ) (q : Point) → Pending T t k q → HasOpenTurn T t k
 has_turn T t k q (touched {take = b} {m = m} u l h d e) = (b, (m, u))
 has_turn T t k q (came {take = b} {m = m} u o p) = (b, (m, u))
 
@@ -68,7 +68,7 @@ pub pending_idle : (T : Run) (t k : ℕ) (q : Point) → IsOpenTurn T t k None �
 pending_idle T t k q idle p = let h = has_turn T t k q p in idle h.0 h.1.0 h.1.1
 
 -- what is told of one set of points is told of the same set
-pub tells_same : (T : Run) (j k : ℕ) (P Q : Point → Type 0) (c : Carrying) → j ≤ k → ((q : Point) → Q q ↔ P q) → Tells T j P c → Tells T k Q c
+pub tells_same : (T : Run) (j k : ℕ) (P Q : Point → Type 0) (c : Carrying) → j ≤ k → ((q : Point) → Q q ↔ P q) → TellsPoints T j P c → TellsPoints T k Q c
 tells_same T j k P Q c le same t = record {
   points = λ q. (λ x. (t.points q).0 ((same q).0 x), λ y. (same q).1 ((t.points q).1 y));
   earlier = λ i e. omega (arith, t.earlier i e);
@@ -139,14 +139,14 @@ tells_own T k t (Take u m) own origin o e by at told h =
 tells_own T k t s own origin o e by at told h = tells-own T k t s own o e by refl at h (ends_turn s) (touches s) refl refl
 
 -- what a step carries, by the turn of its transactor
-pub tells_carried : (T : Run) (k t : ℕ) (o : Option Carrying) → ActsAt T t k → TellsTurn T k t o → Tells T k (Carried T k) (carrying_of (Some o))
+pub tells_carried : (T : Run) (k t : ℕ) (o : Option Carrying) → ActsAt T t k → TellsTurn T k t o → TellsPoints T k (Carried T k) (carrying_of (Some o))
 tells_carried T k t None a h = record {
   points = λ q. (λ c. absurd (pending_idle T t k q h ((carried_pending T t k q a).0 c)), λ s. ⊎_elim (λ (f : None ≡ Some q). absurd (cc)) (λ n. absurd n) s);
   earlier = λ j (f : None ≡ Some j). absurd (cc);
 }
 tells_carried T k t (Some c) a h = tells_same T k k (Pending T t k) (Carried T k) c (omega arith) (λ q. carried_pending T t k q a) h.1
 
-pub tells_nobody : (T : Run) (k : ℕ) → ((t : ℕ) → ¬ ActsAt T t k) → Tells T k (Carried T k) nothing
+pub tells_nobody : (T : Run) (k : ℕ) → ((t : ℕ) → ¬ ActsAt T t k) → TellsPoints T k (Carried T k) nothing
 tells_nobody T k none = record {
   points = λ q. (λ c. absurd (none c.by c.acts), λ s. ⊎_elim (λ (f : None ≡ Some q). absurd (cc)) (λ n. absurd n) s);
   earlier = λ j (f : None ≡ Some j). absurd (cc);

@@ -5,13 +5,13 @@ use Rattle.tau_trace.specs.Run.{Run}
 use Rattle.tau_trace.specs.Points.{point_at}
 use Rattle.tau_past.specs.Carried.{SentWith}
 use Rattle.tau_past.specs.Heard.{Heard, HeardTogether}
-use Rattle.tau_past.specs.Pasts.{PastIn, Is, FallenIn, FirmIn}
+use Rattle.tau_past.specs.Pasts.{PastIn, Is, FellIn, FirmIn}
 
 -- the known past in H of some points holds a point that is known fallen in H
 pub record HasFallen (T : Run) (H : ℕ → Type 0) (P : Point → Type 0) : Type 0 where
   pub cause : Point
   pub in_past : PastIn T H P cause
-  pub fallen : FallenIn T H cause
+  pub fallen : FellIn T H cause
 
 -- by what t at place k and message m have heard, t's own past holds a fallen point
 abbrev pub FallsBy : Run → ℕ → ℕ → ℕ → Type 0

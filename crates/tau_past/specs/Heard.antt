@@ -1,5 +1,5 @@
 -- What transactors and messages have heard (docs/definitions.md, "Heard").
-use Rattle.std.specs.Prelude.{◌≡◌, ◌⊎◌, ℕ, ◌<◌, Option, Some, None, option_and_then}
+use Rattle.std.specs.Prelude.{◌≡◌, ◌⊎◌, ◌↔◌, ℕ, suc, ◌<◌, Option, Some, None, option_and_then}
 use Rattle.tau_points.specs.Reach.{Reach}
 use Rattle.tau_trace.specs.declared.step.Step.{Step}
 use Rattle.tau_trace.specs.declared.step.Step.TheVariants.{Take, Drop, Fall}
@@ -20,7 +20,7 @@ pub data Needs (T : Run) (k j : ℕ) : Type 0 where
   birth : {u by : ℕ} → ActsAt T u k → IsNew T j by u → Needs T k j
 
 -- a set of places that holds, with a place, each place that it needs
-pub record IsClosed (T : Run) (H : ℕ → Type 0) : Type 0 where
+pub record IsCausallyClosed (T : Run) (H : ℕ → Type 0) : Type 0 where
   pub closed : (k j : ℕ) → H k → Needs T k j → H j
 
 -- the steps of t before place k and, for a created t, its New
@@ -44,3 +44,12 @@ HeardBy T m = Reach (Needs T) (OriginOf T m)
 -- what t has heard at place k and what message m has heard, together
 abbrev pub HeardTogether : Run → ℕ → ℕ → ℕ → ℕ → Type 0
 HeardTogether T t k m j = Heard T t k j ⊎ HeardBy T m j
+
+-- the steps of u in H are those before place a
+abbrev pub HoldsStepsBefore : Run → (ℕ → Type 0) → ℕ → ℕ → Type 0
+HoldsStepsBefore T H u a = (j : ℕ) → ActsAt T u j → H j ↔ (j < a)
+
+-- a is the bound of H at u: the steps of u in H are those before a, and a is 0 or follows the last of them
+pub record Bound (T : Run) (H : ℕ → Type 0) (u a : ℕ) : Type 0 where
+  pub steps : HoldsStepsBefore T H u a
+  pub last : (a ≡ 0) ⊎ ((j : ℕ) × (a ≡ suc j) × ActsAt T u j × H j)

@@ -9,18 +9,14 @@ use Rattle.tau_trace.specs.Run.{Run, step_at, ActsAt, Does}
 use Rattle.tau_trace.specs.Numbering.{born, sent, IsNew, IsOrigin}
 use Rattle.tau_trace.specs.Histories.{history, Closes}
 use Rattle.tau_trace.specs.Points.{point_at, IsOpeningPoint}
-use Rattle.tau_trace.specs.Turns.{Turn, IsOpenTurn}
+use Rattle.tau_trace.specs.Turns.{Turn, IsOpenTurn, HasOpenTurn}
 use Rattle.tau_trace.specs.Known.{WellFormed}
 use Rattle.tau_past.specs.Carried.{touches, Pending, Carried, SentWith}
-use Rattle.tau_past.specs.Heard.{heard_by, IsClosed, Heard, HeardBy, HeardTogether}
+use Rattle.tau_past.specs.Heard.{heard_by, IsCausallyClosed, Heard, HeardBy, HeardTogether, HoldsStepsBefore, Bound}
 use Rattle.tau_past.specs.Pasts.{Past, PastIn, Is, StabilizedIn}
 use Rattle.tau_past.specs.Safety.{RolledBack, KeepsRules}
 
 -- Pending points.
-
--- some turn is open for t at place k
-abbrev pub HasOpenTurn : Run → ℕ → ℕ → Type 0
-HasOpenTurn T t k = (place : ℕ) × IsOpenTurn T t k (Some place)
 
 -- the same turns are open for t at place k and one step later
 abbrev pub KeepsTurns : Run → ℕ → ℕ → Type 0
@@ -79,7 +75,7 @@ PendingPointsWereTouched = (T : Run) (t k : ℕ) (q : Point) → Pending T t k q
 
 -- each point that a place of the closed set H carries was the point of a touching step in H
 abbrev pub CarriedPointsWereTouched : (ℕ → Type 0) → Type 0
-CarriedPointsWereTouched H = (T : Run) (j : ℕ) (q : Point) → IsClosed T H → H j → Carried T j q → TouchedIn T H q
+CarriedPointsWereTouched H = (T : Run) (j : ℕ) (q : Point) → IsCausallyClosed T H → H j → Carried T j q → TouchedIn T H q
 
 -- each point that a message carries was the point of a touching step that the message has heard of
 abbrev pub SentPointsWereTouched : Type 0
@@ -109,16 +105,16 @@ With H k j = H j ⊎ (j ≡ k)
 
 -- what transactors and messages have heard is closed
 pub record HeardSetsAreClosed (T : Run) : Type 0 where
-  pub transactor : (t k : ℕ) → IsClosed T (Heard T t k)
-  pub message : (m : ℕ) → IsClosed T (HeardBy T m)
-  pub together : (t k m : ℕ) → IsClosed T (HeardTogether T t k m)
+  pub transactor : (t k : ℕ) → IsCausallyClosed T (Heard T t k)
+  pub message : (m : ℕ) → IsCausallyClosed T (HeardBy T m)
+  pub together : (t k m : ℕ) → IsCausallyClosed T (HeardTogether T t k m)
 
 abbrev pub WhatIsHeardIsClosed : Type 0
 WhatIsHeardIsClosed = (T : Run) → HeardSetsAreClosed T
 
 -- the union of two closed sets is closed
 abbrev pub UnionsAreClosed : (ℕ → Type 0) → (ℕ → Type 0) → Type 0
-UnionsAreClosed H G = (T : Run) → IsClosed T H → IsClosed T G → IsClosed T (Union H G)
+UnionsAreClosed H G = (T : Run) → IsCausallyClosed T H → IsCausallyClosed T G → IsCausallyClosed T (Union H G)
 
 -- H holds what the actor of the step at place j had heard there, and what the message that the step hears of has heard
 pub record HoldsHeardAt (T : Run) (H : ℕ → Type 0) (j : ℕ) : Type 0 where
@@ -127,7 +123,7 @@ pub record HoldsHeardAt (T : Run) (H : ℕ → Type 0) (j : ℕ) : Type 0 where
 
 -- with a step the closed set H holds all that was heard there
 abbrev pub ClosedSetsHoldWhatWasHeard : (ℕ → Type 0) → Type 0
-ClosedSetsHoldWhatWasHeard H = (T : Run) (j : ℕ) → IsClosed T H → H j → HoldsHeardAt T H j
+ClosedSetsHoldWhatWasHeard H = (T : Run) (j : ℕ) → IsCausallyClosed T H → H j → HoldsHeardAt T H j
 
 -- what is heard stands before the place where it is heard, and what a message has heard not after its Send; a post has
 -- heard nothing
@@ -163,16 +159,7 @@ HeardGrows = (T : Run) (t j k : ℕ) → j ≤ k → IsWithin (Heard T t j) (Hea
 
 -- with a step of u the closed set H holds each earlier step of u
 abbrev pub ClosedSetsHoldEarlierSteps : (ℕ → Type 0) → Type 0
-ClosedSetsHoldEarlierSteps H = (T : Run) (u j k : ℕ) → IsClosed T H → H k → ActsAt T u k → ActsAt T u j → j ≤ k → H j
-
--- the steps of u in H are those before place a
-abbrev pub HoldsStepsBefore : Run → (ℕ → Type 0) → ℕ → ℕ → Type 0
-HoldsStepsBefore T H u a = (j : ℕ) → ActsAt T u j → H j ↔ (j < a)
-
--- a is the bound of H at u: the steps of u in H are those before a, and a is 0 or follows the last of them
-pub record Bound (T : Run) (H : ℕ → Type 0) (u a : ℕ) : Type 0 where
-  pub steps : HoldsStepsBefore T H u a
-  pub last : (a ≡ 0) ⊎ ((j : ℕ) × (a ≡ suc j) × ActsAt T u j × H j)
+ClosedSetsHoldEarlierSteps H = (T : Run) (u j k : ℕ) → IsCausallyClosed T H → H k → ActsAt T u k → ActsAt T u j → j ≤ k → H j
 
 -- H has at most one bound at u
 abbrev pub BoundsAreUnique : (ℕ → Type 0) → Type 0

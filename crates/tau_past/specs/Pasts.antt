@@ -35,7 +35,7 @@ abbrev pub Past : Run → Point → Point → Type 0
 Past T p = PastIn T Everywhere (Is p)
 
 -- a falling step at point q is in H
-pub record FallenIn (T : Run) (H : ℕ → Type 0) (q : Point) : Type 0 where
+pub record FellIn (T : Run) (H : ℕ → Type 0) (q : Point) : Type 0 where
   pub place : ℕ
   pub held : H place
   pub falls : Falls T q.who place
@@ -50,5 +50,5 @@ pub record StabilizedIn (T : Run) (H : ℕ → Type 0) (q : Point) : Type 0 wher
 
 -- q is known firm in H: not known fallen, and a Stabilize at it is in H or it is the opening point of a start
 pub record FirmIn (T : Run) (H : ℕ → Type 0) (q : Point) : Type 0 where
-  pub not_fallen : ¬ FallenIn T H q
+  pub not_fallen : ¬ FellIn T H q
   pub settled : StabilizedIn T H q ⊎ IsOpeningPoint T q

@@ -6,12 +6,12 @@ use Rattle.tau_trace.specs.Run.{Run, step_at, Does}
 use Rattle.tau_trace.specs.Histories.{history, Closes}
 use Rattle.tau_trace.specs.Points.{point_at}
 use Rattle.tau_past.specs.Carried.{is_set}
-use Rattle.tau_past.specs.Pasts.{Past, Everywhere, FallenIn}
+use Rattle.tau_past.specs.Pasts.{Past, Everywhere, FellIn}
 use Rattle.tau_past.specs.Decisions.{FallsBy, Free}
 
 -- some falling step of the trace, anywhere, was made at the point
 abbrev pub RolledBack : Run → Point → Type 0
-RolledBack T q = FallenIn T Everywhere q
+RolledBack T q = FellIn T Everywhere q
 
 -- for each Checkpoint, the past of the point at which it was made holds no point that is rolled back
 abbrev pub Safe : Run → Type 0

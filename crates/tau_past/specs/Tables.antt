@@ -6,7 +6,7 @@ use Rattle.tau_trace.specs.Run.{Run, len, ActsAt, Does}
 use Rattle.tau_trace.specs.Numbering.{born, sent, IsNew, IsOrigin}
 use Rattle.tau_trace.specs.Histories.{history, Falls}
 use Rattle.tau_trace.specs.Points.{point_at}
-use Rattle.tau_trace.specs.Turns.{IsOpenTurn}
+use Rattle.tau_trace.specs.Turns.{IsOpenTurn, HasOpenTurn}
 use Rattle.tau_trace.specs.Known.{WellFormed}
 use Rattle.tau_past.specs.declared.carrying.Carrying.{Carrying}
 use Rattle.tau_past.specs.declared.made.Made.{Made}
@@ -24,7 +24,7 @@ CarriedFrom T None q = ⊥
 CarriedFrom T (Some j) q = Carried T j q
 
 -- c tells the set P of points: the one that was touched last, and all that the step at an earlier place carries
-pub record Tells (T : Run) (k : ℕ) (P : Point → Type 0) (c : Carrying) : Type 0 where
+pub record TellsPoints (T : Run) (k : ℕ) (P : Point → Type 0) (c : Carrying) : Type 0 where
   pub points : (q : Point) → P q ↔ ((c.touched ≡ Some q) ⊎ CarriedFrom T c.rest q)
   pub earlier : (j : ℕ) → c.rest ≡ Some j → j < k
 
@@ -32,14 +32,10 @@ pub record Tells (T : Run) (k : ℕ) (P : Point → Type 0) (c : Carrying) : Typ
 abbrev pub nothing : Carrying
 nothing = record { touched = None; rest = None }
 
--- some turn is open for t at place k
-abbrev pub HasTurn : Run → ℕ → ℕ → Type 0
-HasTurn T t k = (place : ℕ) × IsOpenTurn T t k (Some place)
-
 -- what a step of t at place k would carry; None where no turn is open
 abbrev pub TellsTurn : Run → ℕ → ℕ → Option Carrying → Type 0
 TellsTurn T k t None = IsOpenTurn T t k None
-TellsTurn T k t (Some c) = HasTurn T t k × Tells T k (Pending T t k) c
+TellsTurn T k t (Some c) = HasOpenTurn T t k × TellsPoints T k (Pending T t k) c
 
 -- the transactor's history at place k
 abbrev pub TellsHistory : Run → ℕ → ℕ → Stored → Type 0
@@ -52,7 +48,7 @@ TellsOrigin T m (Some j) = (by : ℕ) × IsOrigin T j by m
 
 -- what the step at place k carries
 abbrev pub TellsCarried : Run → ℕ → Carrying → Type 0
-TellsCarried T k c = Tells T k (Carried T k) c
+TellsCarried T k c = TellsPoints T k (Carried T k) c
 
 -- the point at which the step at place k was made, and whether it is a falling step; None where nobody made it
 abbrev pub TellsMade : Run → ℕ → Option Made → Type 0

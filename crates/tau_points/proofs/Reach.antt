@@ -3,12 +3,12 @@ use Rattle.std.proofs.lemmas.List.{get_or_default, get_or_append_left}
 use Rattle.std.proofs.lemmas.List.Quantifiers.{all_pairs_push}
 use Rattle.std.proofs.Common.{◌≡◌, ◌<◌, ◌⊎◌, arith, length, get_or, length-append, List, [], ◌∷◌, ◌++◌, refl, sym, ◌∙◌, inl, inr, ⊎_elim, subst, ap}
 use Rattle.std.specs.List.{Contains, AllPairs}
-use Rattle.tau_points.specs.Reach.{Reach, start, next, IsClosed, Path, SimplePath, LeadsAlong, HasDecidableEquality}
+use Rattle.tau_points.specs.Reach.{Reach, start, next, IsClosedUnder, Path, SimplePath, LeadsAlong, HasDecidableEquality}
 use Rattle.tau_points.specs.ReachLaws.{IsLeast, IsMonotone, ReachesUnion, IsNested, IsRestricted, IsReachedByPath, IsReachedBySimplePath}
 use Rattle.tau_points.proofs.Membership.{Contains-head, Contains-later, Contains-none, Contains-cons_cases}
 
 module _ {A : Type 0} where
-  pub closed : (L : A → A → Type 0) (P : A → Type 0) → IsClosed L P (Reach L P)
+  pub closed : (L : A → A → Type 0) (P : A → Type 0) → IsClosedUnder L P (Reach L P)
   closed L P = record { starts = λ x p. start p; follows = λ x y r l. next r l }
 
   pub least : (L : A → A → Type 0) (P H : A → Type 0) → IsLeast L P H
@@ -29,7 +29,7 @@ module _ {A : Type 0} where
   )
 
   -- in a set that L keeps, links that M has too reach by M
-  along : (L M : A → A → Type 0) (P H : A → Type 0) → IsClosed L P H → ((x y : A) → H x → L x y → M x y) → (x : A) → Reach L P x → H x × Reach M P x
+  along : (L M : A → A → Type 0) (P H : A → Type 0) → IsClosedUnder L P H → ((x y : A) → H x → L x y → M x y) → (x : A) → Reach L P x → H x × Reach M P x
   along L M P H c same = least L P (λ x. H x × Reach M P x) (record { starts = λ x p. (c.starts x p, start p); follows = λ x y h l. (c.follows x y h.0 l, next h.1 (same x y h.0 l)) })
 
   pub restricted : (L M : A → A → Type 0) (P H : A → Type 0) → IsRestricted L M P H
@@ -37,7 +37,7 @@ module _ {A : Type 0} where
     (λ r. (along L M P H c (λ y z h. (same y z h).0) x r).1, λ r. (along M L P H back (λ y z h. (same y z h).1) x r).1),
     λ r. (along L M P H c (λ y z h. (same y z h).0) x r).0,
   ) where
-    back : IsClosed M P H
+    back : IsClosedUnder M P H
     back = record { starts = c.starts; follows = λ y z h m. c.follows y z h ((same y z h).1 m) }
 
   -- paths

@@ -15,7 +15,7 @@ abbrev pub IsWithin : {A : Type 0} → (A → Type 0) → (A → Type 0) → Typ
 IsWithin {A} P Q = (x : A) → P x → Q x
 
 -- H holds P and, with x, each y to which L leads from x
-pub record IsClosed {A : Type 0} (L : A → A → Type 0) (P : A → Type 0) (H : A → Type 0) : Type 0 where
+pub record IsClosedUnder {A : Type 0} (L : A → A → Type 0) (P : A → Type 0) (H : A → Type 0) : Type 0 where
   pub starts : IsWithin P H
   pub follows : (x y : A) → H x → L x y → H y
 

@@ -1,11 +1,11 @@
 -- The laws of what is reached, for a relation L and a set P of any carrier A.
 use Rattle.std.specs.Prelude.{◌↔◌, ◌⊎◌}
-use Rattle.tau_points.specs.Reach.{Reach, IsWithin, IsClosed, Path, SimplePath, HasDecidableEquality}
+use Rattle.tau_points.specs.Reach.{Reach, IsWithin, IsClosedUnder, Path, SimplePath, HasDecidableEquality}
 
 module _ {A : Type 0} where
   -- what is reached lies in each closed set
   abbrev pub IsLeast : (A → A → Type 0) → (A → Type 0) → (A → Type 0) → Type 0
-  IsLeast L P H = IsClosed L P H → IsWithin (Reach L P) H
+  IsLeast L P H = IsClosedUnder L P H → IsWithin (Reach L P) H
 
   -- more links and more starts reach more
   abbrev pub IsMonotone : (A → A → Type 0) → (A → A → Type 0) → (A → Type 0) → (A → Type 0) → Type 0
@@ -21,7 +21,7 @@ module _ {A : Type 0} where
 
   -- in a set H that is closed under L, links that are the same from its members reach the same, and all of it is in H
   abbrev pub IsRestricted : (A → A → Type 0) → (A → A → Type 0) → (A → Type 0) → (A → Type 0) → Type 0
-  IsRestricted L M P H = IsClosed L P H → ((x y : A) → H x → (L x y ↔ M x y)) → (x : A) → (Reach L P x ↔ Reach M P x) × (Reach L P x → H x)
+  IsRestricted L M P H = IsClosedUnder L P H → ((x y : A) → H x → (L x y ↔ M x y)) → (x : A) → (Reach L P x ↔ Reach M P x) × (Reach L P x → H x)
 
   -- a point is reached where a path leads to it
   abbrev pub IsReachedByPath : (A → A → Type 0) → (A → Type 0) → Type 0

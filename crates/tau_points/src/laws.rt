@@ -4,7 +4,7 @@ ghost use Rattle.std.specs.Prelude.{◌≡◌, List};
 ghost use Rattle.tau_points.specs.declared.point.Point.{Point};
 ghost use Rattle.tau_points.specs.Order.{IsAscending, IsAscendingInPairs};
 ghost use Rattle.tau_points.specs.Members.{SameMembers};
-ghost use Rattle.tau_points.specs.Reach.{Reach, IsClosed};
+ghost use Rattle.tau_points.specs.Reach.{Reach, IsClosedUnder};
 ghost use Rattle.tau_points.specs.ReachLaws.{IsLeast, IsMonotone, ReachesUnion, IsNested, IsRestricted, IsReachedByPath, IsReachedBySimplePath};
 
 /// Any relation on `A`, for the laws of what is reached.
@@ -29,7 +29,7 @@ pub fn pairs_by_members()
 
 /// What is reached holds the starts `P` and, with each value, all to which `L` leads from it.
 pub fn reach_is_closed<A, L: AnyRelation<A>, P: AnySet<A>>()
-    ensures { IsClosed L.leads P.holds (Reach L.leads P.holds) }
+    ensures { IsClosedUnder L.leads P.holds (Reach L.leads P.holds) }
 {}
 
 /// What is reached lies in every set `H` that holds the starts and, with each value, all to which `L` leads from it.

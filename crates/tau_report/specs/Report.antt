@@ -1,10 +1,11 @@
 -- The report of a program and a trace (docs/formats.md, "Report").
 use Rattle.std.specs.Prelude.{◌≡◌, ℕ, suc, ◌<◌, ◌≤◌, Bool, true, false, List, [], ◌∷◌, ◌++◌, option_and_then, codes}
 use Rattle.std.specs.Option.{option_map_or}
-use Rattle.tau_sexpr.specs.Tree.{Tree, word, list, inside}
+use Rattle.tau_sexpr.specs.Tree.{Tree, word, list, inside, headed}
 use Rattle.tau_sexpr.specs.Printing.{printed}
 use Rattle.tau_history.specs.Timeline.{interval}
 use Rattle.tau_value.specs.declared.shared.Value.{Value}
+use Rattle.tau_value.specs.Written.{count_form}
 use Rattle.tau_tree.specs.declared.programs.Program.{Program}
 use Rattle.tau_trace.specs.declared.step.Step.{Step}
 use Rattle.tau_trace.specs.declared.step.Step.TheVariants.{Drop, Hold, Lose}
@@ -13,7 +14,7 @@ use Rattle.tau_trace.specs.Places.{count_below}
 use Rattle.tau_trace.specs.Run.{Run, len, step_at}
 use Rattle.tau_trace.specs.Numbering.{born}
 use Rattle.tau_trace.specs.Histories.{history, IsLiving, move_at, is_fall}
-use Rattle.tau_trace.specs.StepForms.{who_form, count_form, value_form}
+use Rattle.tau_trace.specs.StepForms.{who_form, value_form}
 use Rattle.tau_past.specs.States.{SavedWith}
 use Rattle.tau_states.specs.Opening.{opening_states}
 
@@ -22,10 +23,6 @@ pub record HasSaved (T : Run) (t : ℕ) : Type 0 where
   pub exists : t < born T (len T)
   pub closed : 1 ≤ interval (history T t (len T))
   pub living : IsLiving T t (len T)
-
--- a list that begins with a word
-abbrev pub headed : List ℕ → List Tree → Tree
-headed h ts = list (inside (word h ∷ ts))
 
 -- the form for transactor t: its name or number, its interval, and what it saved with the interval before
 pub record IsSavedForm (P : Program) (T : Run) (t : ℕ) (form : Tree) : Type 0 where

@@ -1,19 +1,20 @@
 -- The forms that are written from the records of transactors and from counts.
 use Rattle.std.specs.Prelude.{◌≡◌, ℕ, ◌≤◌, Bool, ◌||◌, ◌==◌, List, [], ◌∷◌, if◌then◌else◌, IsFalse, All, codes}
-use Rattle.tau_sexpr.specs.Tree.{Tree, depths, HasWords}
+use Rattle.tau_sexpr.specs.Tree.{Tree, depths, HasWords, headed}
 use Rattle.tau_value.specs.declared.shared.Value.{Value}
 use Rattle.tau_value.specs.Sizes.{IsInBounds}
 use Rattle.tau_value.specs.Value.{val_of}
+use Rattle.tau_value.specs.Written.{count_form}
 use Rattle.tau_tree.specs.declared.programs.Program.{Program}
 use Rattle.tau_trace.specs.Run.{Run}
 use Rattle.tau_trace.specs.Known.{WellFormed}
 use Rattle.tau_trace.specs.declared.opening.Opening.{Opening}
-use Rattle.tau_trace.specs.StepForms.{who_form, count_form, value_form, IsWritten}
+use Rattle.tau_trace.specs.StepForms.{who_form, value_form, IsWritten}
 use Rattle.tau_states.specs.declared.state_record.StateRecord.{StateRecord}
 use Rattle.tau_report.specs.declared.counts.Counts.{Counts}
 use Rattle.tau_states.specs.Opening.{opening_states}
 use Rattle.tau_states.specs.Table.{Holds}
-use Rattle.tau_report.specs.Report.{headed, count_of, SavedForms}
+use Rattle.tau_report.specs.Report.{count_of, SavedForms}
 
 -- the form of a saved state: who, in which interval, and the value
 abbrev pub saved_form : Opening → ℕ → ℕ → Value → Tree

@@ -3,8 +3,9 @@ ghost use Rattle.std.specs.Prelude.{◌≡◌, ◌∷◌, ◌++◌, [], All, IfO
 ghost use Rattle.tau_sexpr.specs.Bytes.{IsWordByte};
 ghost use Rattle.tau_sexpr.specs.Form.{tree_of};
 ghost use Rattle.tau_sexpr.specs.Tree as tree;
-ghost use Rattle.tau_trace.specs.StepForms.{who_form, count_form};
+ghost use Rattle.tau_trace.specs.StepForms.{who_form};
 ghost use Rattle.tau_report.specs.Report.{count_of};
+ghost use Rattle.tau_value.specs.Written.{count_form};
 
 use std::alloc::{AllocError, Global};
 use tau_sexpr::{Form, Forms, Word};

@@ -11,7 +11,8 @@ use Rattle.tau_eval.specs.Turn as jobs
 use Rattle.tau_eval.specs.Turn.{next_in, with_reply}
 use Rattle.tau_legal.specs.Turns.{TurnHas}
 use Rattle.tau_legal.specs.Traces.{Fitting}
-use Rattle.tau_choice.specs.Choices.{IsStepOfTurn, IsChoice}
+use Rattle.tau_legal.specs.Fits.{IsStepOfTurn}
+use Rattle.tau_choice.specs.Choices.{IsChoice}
 use Rattle.tau_choice.specs.declared.choices.Choice.{Choice}
 use Rattle.tau_choice.specs.declared.choices.Choice.TheVariants.{GoesOn, Ends}
 use Rattle.tau_rules.specs.declared.answers.Acted.{Acted}

@@ -12,11 +12,11 @@ use Rattle.tau_trace.specs.Points.{point_at}
 use Rattle.tau_trace.specs.Known.{WellFormed, MayFollow, IsKnownAt}
 use Rattle.tau_trace.proofs.Lists.{same_some}
 use Rattle.tau_trace.proofs.PointLemmas.{stable_at}
+use Rattle.tau_trace.specs.Turns.{HasOpenTurn}
 use Rattle.tau_past.specs.Carried.{touches}
 use Rattle.tau_past.specs.Heard.{heard_by, Heard}
 use Rattle.tau_past.specs.Pasts.{StabilizedIn}
 use Rattle.tau_past.specs.Decisions.{Free}
-use Rattle.tau_past.specs.KnownLaws.{HasOpenTurn}
 use Rattle.tau_past.proofs.Known.{heard_before}
 use Rattle.tau_past.proofs.Safety.{nothing_at_opening}
 use Rattle.tau_eval.specs.Eff.{Eff}

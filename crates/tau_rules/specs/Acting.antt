@@ -7,7 +7,8 @@ use Rattle.tau_trace.specs.Steps.{ends_turn}
 use Rattle.tau_trace.specs.Run.{Run, len, step_at}
 use Rattle.tau_states.specs.Opening.{opening_states}
 use Rattle.tau_legal.specs.Turns.{Replies}
-use Rattle.tau_choice.specs.Choices.{IsStepOfTurn, goes_on}
+use Rattle.tau_legal.specs.Fits.{IsStepOfTurn}
+use Rattle.tau_choice.specs.Choices.{goes_on}
 use Rattle.tau_choice.specs.declared.choices.Choice.{Choice}
 use Rattle.tau_choice.specs.declared.choices.Choice.TheVariants.{GoesOn, Ends}
 use Rattle.tau_rules.specs.declared.answers.Acted.{Acted}

@@ -1,4 +1,4 @@
--- Which entry of a script is due, and where the cursor stands (docs/rules.md, "Scripts").
+-- Which entry of a script is due, and where the cursor stands (docs/definitions.md, "Due step").
 use Rattle.std.specs.Prelude.{◌≡◌, ◌⊎◌, ℕ, zero, suc, ◌+◌, ◌≤◌, List, Option, Some, None, slice_get}
 use Rattle.tau_tree.specs.declared.entries.Entry.{Entry}
 use Rattle.tau_tree.specs.declared.entries.Failure.{Failure}

@@ -1,4 +1,4 @@
--- Due steps, what a script allows, and complete runs (docs/rules.md, "Scripts", "Complete").
+-- Due steps, what a script allows, and complete runs (docs/definitions.md, "Due step", "Complete").
 use Rattle.std.specs.Prelude.{ℕ, ◌<◌, ◌⊎◌, Bool, true, false, IsFalse, List, Option, Some, None}
 use Rattle.tau_tree.specs.declared.entries.Entry.{Entry}
 use Rattle.tau_trace.specs.declared.step.Step.{Step}

@@ -44,10 +44,10 @@ is_busy-not busy q says h =
 
 -- who is in no turn isn't busy, and the other way round
 pub idle_free : (T : Run) (busy : List ℕ) (t : ℕ) → AreBusy T busy → IsOpenTurn T t (len T) None → ¬ Contains busy t
-idle_free T busy t are idle c = let f = (are t).0 c in idle f.place f.message f.turn
+idle_free T busy t are idle c = let f = (are t).0 c in idle f.0 f.1.0 f.1.1
 
 pub free_idle : (T : Run) (busy : List ℕ) (t : ℕ) → AreBusy T busy → ¬ Contains busy t → IsOpenTurn T t (len T) None
-free_idle T busy t are none place m u = none ((are t).1 (record { place = place; message = m; turn = u }))
+free_idle T busy t are none place m u = none ((are t).1 (place, (m, u)))
 
 -- the messages of ascending letters ascend
 ascends : (ls : List Letter) → IsAscending ls → AllPairs (λ a b. a < b) (map (λ l. l.message) ls)

@@ -8,7 +8,7 @@ use Rattle.tau_trace.specs.declared.step.Step.{Step}
 use Rattle.tau_trace.specs.declared.step.Step.TheVariants.{Take, Get, Set, Skip, Send, New, Stabilize, Ask}
 use Rattle.tau_trace.specs.Steps.{actor, ends_turn}
 use Rattle.tau_trace.specs.Run.{Run, len, step_at, appended, Does}
-use Rattle.tau_trace.specs.Turns.{Turn, IsOpenTurn}
+use Rattle.tau_trace.specs.Turns.{Turn, IsOpenTurn, HasOpenTurn}
 use Rattle.tau_trace.proofs.Agreement.{agree_appended, step_at-appended, same_at}
 use Rattle.tau_trace.proofs.Indexing.{len-appended}
 use Rattle.tau_trace.proofs.Lists.{same_some}
@@ -21,7 +21,6 @@ use Rattle.tau_choice.specs.Choices.{goes_on}
 use Rattle.tau_check.proofs.Once.{same_taker, same_taken}
 use Rattle.tau_check.proofs.Turns.{BeginsNone, earlier, ended, stays_open}
 use Rattle.tau_scripted.specs.OpenTurns.{IsOpenFrom, AreOpenTurns}
-use Rattle.tau_scripted.specs.ScriptedRun.{IsInTurn}
 use Rattle.tau_scripted.proofs.Members.{contains_filter, filter_contains}
 
 -- another number
@@ -183,33 +182,33 @@ module _ (T : Run) (s : Step) (places : List ℕ) (h : AreOpenTurns T places) wh
 
 -- those in a turn
 abbrev pub AreBusy : Run → List ℕ → Type 0
-AreBusy T busy = (t : ℕ) → Contains busy t ↔ IsInTurn T t
+AreBusy T busy = (t : ℕ) → Contains busy t ↔ HasOpenTurn T t (len T)
 
 module _ (T : Run) (s : Step) (busy : List ℕ) (h : AreBusy T busy) where
   pub busy_stay : TurnsStay T s → AreBusy (appended T s) busy
   busy_stay stays t = (
-    λ c. let f = (h t).0 c in record { place = f.place; message = f.message; turn = (stays t f.place f.message).1 f.turn },
-    λ f. (h t).1 (record { place = f.place; message = f.message; turn = (stays t f.place f.message).0 f.turn }),
+    λ c. let f = (h t).0 c in (f.0, (f.1.0, (stays t f.0 f.1.0).1 f.1.1)),
+    λ f. (h t).1 ((f.0, (f.1.0, (stays t f.0 f.1.0).0 f.1.1))),
   )
 
   pub busy_begin : (who n : ℕ) → TurnsBegin T s who n → AreBusy (appended T s) (busy ++ who ∷ [])
   busy_begin who n begins t = (there, back) where
-    there : Contains (busy ++ who ∷ []) t → IsInTurn (appended T s) t
+    there : Contains (busy ++ who ∷ []) t → HasOpenTurn (appended T s) t (len (appended T s))
     there c = ⊎_elim
-        (λ d. let f = (h t).0 d in record { place = f.place; message = f.message; turn = (begins t f.place f.message).1 (inl f.turn) })
-        (λ (e : who ≡ t). record { place = len T; message = n; turn = (begins t (len T) n).1 (inr (sym e, refl, refl)) })
+        (λ d. let f = (h t).0 d in (f.0, (f.1.0, (begins t f.0 f.1.0).1 (inl f.1.1))))
+        (λ (e : who ≡ t). (len T, (n, (begins t (len T) n).1 (inr (sym e, refl, refl)))))
         (Contains-push_cases busy who t c)
 
-    back : IsInTurn (appended T s) t → Contains (busy ++ who ∷ []) t
+    back : HasOpenTurn (appended T s) t (len (appended T s)) → Contains (busy ++ who ∷ []) t
     back f = ⊎_elim
-        (λ u. Contains-append_left busy (who ∷ []) t ((h t).1 (record { place = f.place; message = f.message; turn = u })))
+        (λ u. Contains-append_left busy (who ∷ []) t ((h t).1 ((f.0, (f.1.0, u)))))
         (λ e. subst (Contains (busy ++ who ∷ [])) (sym e.0) (Contains-push busy who))
-        ((begins t f.place f.message).0 f.turn)
+        ((begins t f.0 f.1.0).0 f.1.1)
 
   pub busy_end : (who : ℕ) → TurnsEnd T s who → AreBusy (appended T s) (filter (is_not who) busy)
   busy_end who ends t = (
-    λ c. let r = filter_contains (is_not who) busy t c in let f = (h t).0 r.0 in record { place = f.place; message = f.message; turn = (ends t f.place f.message).1 (f.turn, not_same who t r.1) },
-    λ f. let r = (ends t f.place f.message).0 f.turn in contains_filter (is_not who) busy t ((h t).1 (record { place = f.place; message = f.message; turn = r.0 })) (is_not-true who t r.1),
+    λ c. let r = filter_contains (is_not who) busy t c in let f = (h t).0 r.0 in (f.0, (f.1.0, (ends t f.0 f.1.0).1 (f.1.1, not_same who t r.1))),
+    λ f. let r = (ends t f.0 f.1.0).0 f.1.1 in contains_filter (is_not who) busy t ((h t).1 ((f.0, (f.1.0, r.0)))) (is_not-true who t r.1),
   )
 
 -- ascending numbers below a bound are no more than it

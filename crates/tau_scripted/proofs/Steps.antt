@@ -19,7 +19,7 @@ use Rattle.tau_script.specs.declared.cursor.Cursor.{Cursor}
 use Rattle.tau_script.specs.Cursors.{CursorAt, IsCurrent, IsDueAt, PassesTo, moved_past_due}
 use Rattle.tau_script.specs.Scripts.{Allows, NoneDue, is_failure}
 use Rattle.tau_legal.specs.Traces.{Fitting, Legal}
-use Rattle.tau_legal.specs.Fits.{Fits}
+use Rattle.tau_legal.specs.Fits.{Fits, is_of_turn}
 use Rattle.tau_legal.specs.Turns.{TurnHas}
 use Rattle.tau_script.proofs.Determined.{one_cursor}
 use Rattle.tau_script.proofs.Passing.{stays, cursor_rests}
@@ -29,7 +29,7 @@ use Rattle.tau_eval.specs.Effect.{eff_of}
 use Rattle.tau_eval.specs.Meaning.{next}
 use Rattle.tau_eval.specs.declared.effects.Effect.{Effect}
 use Rattle.tau_eval.specs.declared.effects.Effect.TheVariants as effects
-use Rattle.tau_choice.specs.Choices.{goes_on, is_of_turn}
+use Rattle.tau_choice.specs.Choices.{goes_on}
 use Rattle.tau_rules.specs.System.{Core, with_step}
 use Rattle.tau_rules.specs.declared.answers.Delivered.{Delivered}
 use Rattle.tau_rules.specs.declared.answers.Delivered.TheVariants.{Began, Dropped, Fell, Voided}

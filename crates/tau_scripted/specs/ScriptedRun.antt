@@ -7,7 +7,7 @@ use Rattle.tau_tree.specs.declared.programs.Program.{Program}
 use Rattle.tau_trace.specs.declared.step.Step.{Step}
 use Rattle.tau_trace.specs.Run.{Run, len}
 use Rattle.tau_trace.specs.Known.{WellFormed}
-use Rattle.tau_trace.specs.Turns.{Turn}
+use Rattle.tau_trace.specs.Turns.{HasOpenTurn}
 use Rattle.tau_script.specs.declared.cursor.Cursor.{Cursor}
 use Rattle.tau_script.specs.Cursors.{CursorAt}
 use Rattle.tau_script.specs.Scripts.{DueStep, NoneDue}
@@ -27,12 +27,6 @@ pub record ScriptedRun : Type 0 where
   pub messages : List ℕ
   pub turns : List ℕ
 
--- transactor t is in a turn
-pub record IsInTurn (T : Run) (t : ℕ) : Type 0 where
-  pub place : ℕ
-  pub message : ℕ
-  pub turn : Turn T t (len T) place message
-
 -- the run is legal, the cursor is the script's, and these are the letters of the messages in flight, the transactors in a turn and the
 -- open turns
 pub record IsScripted (P : Program) (T : Run) (cursor : Cursor) (letters : List Letter) (busy turns : List ℕ) : Type 0 where
@@ -40,7 +34,7 @@ pub record IsScripted (P : Program) (T : Run) (cursor : Cursor) (letters : List 
   pub legal : Legal P T
   pub cursor_is : CursorAt P.script T (len T) cursor
   pub letters_are : AreInFlight T letters
-  pub busy_are : (t : ℕ) → Contains busy t ↔ IsInTurn T t
+  pub busy_are : (t : ℕ) → Contains busy t ↔ HasOpenTurn T t (len T)
   pub turns_are : AreOpenTurns T turns
 
 -- the numbers of the deliverable letters

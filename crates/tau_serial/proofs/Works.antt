@@ -20,10 +20,9 @@ use Rattle.tau_script.specs.Openings.{program_opening}
 use Rattle.tau_script.specs.Scripts.{DueStep, NoneDue, HasObject, fails, loses}
 use Rattle.tau_script.proofs.Determined.{one_step}
 use Rattle.tau_script.proofs.Passing.{object}
-use Rattle.tau_legal.specs.Fits.{Fits}
+use Rattle.tau_legal.specs.Fits.{Fits, IsStepOfTurn}
 use Rattle.tau_legal.specs.Traces.{Legal, Fitting, Complete}
 use Rattle.tau_eval.specs.Turn as jobs
-use Rattle.tau_choice.specs.Choices.{IsStepOfTurn}
 use Rattle.tau_rules.specs.System.{Core, with_step}
 use Rattle.tau_rules.specs.Answers.{IsOpenJob, IsStepped, IsActed, IsDelivered}
 use Rattle.tau_rules.specs.declared.answers.Delivered.{Delivered}

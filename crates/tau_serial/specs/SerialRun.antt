@@ -10,9 +10,8 @@ use Rattle.tau_trace.specs.Run.{Run, len, appended}
 use Rattle.tau_trace.specs.Turns.{Turn}
 use Rattle.tau_script.specs.Openings.{program_opening}
 use Rattle.tau_script.specs.Scripts.{DueStep, NoneDue}
-use Rattle.tau_legal.specs.Fits.{Fits}
+use Rattle.tau_legal.specs.Fits.{Fits, IsStepOfTurn}
 use Rattle.tau_legal.specs.Traces.{Complete}
-use Rattle.tau_choice.specs.Choices.{IsStepOfTurn}
 use Rattle.tau_scripted.specs.OpenTurns.{AreOpenTurns}
 use Rattle.tau_scripted.specs.Flight.{AreDeliverable}
 

@@ -6,7 +6,7 @@ use Rattle.tau_sexpr.specs.Tree.{Tree, Trees, inside, items_of-inside, depth_of_
 use Rattle.tau_sexpr.specs.Spelling.{Spells, at_end, at_closing, a_blank, a_comment, a_word, a_text, a_list, IsSpelling, IsUnlessNoMemory}
 use Rattle.tau_sexpr.specs.Faults.{place_of, IsFirstFault}
 use Rattle.tau_sexpr.specs.Laws.{SpellsOnce, SpellsWithoutFault, HasFormsOrFault, FailsOnce}
-use Rattle.tau_sexpr.specs.Reader.{run, finish, read_all, Tells, Gives}
+use Rattle.tau_sexpr.specs.Reader.{run, finish, read_all, TellsFormFault, Gives}
 use Rattle.tau_sexpr.specs.declared.faults.FormError.{FormError}
 use Rattle.tau_sexpr.specs.declared.faults.FormError.TheVariants.{BadByte, Unopened, Unclosed, BadText, TooDeep, NoMemory}
 use Rattle.tau_sexpr.proofs.RunLemmas.{run_forms}
@@ -59,7 +59,7 @@ pub answer_spelled : (r : Result (List Tree) FormError) (bs : List ℕ) → Give
 answer_spelled (Ok ts) bs h = read_spells bs ts h
 answer_spelled (Err e) bs h = tt
 
-tells : (e : FormError) (r : Result (List Tree) FormError) → Tells e r → e ≢ NoMemory → r ≡ Err e
+tells : (e : FormError) (r : Result (List Tree) FormError) → TellsFormFault e r → e ≢ NoMemory → r ≡ Err e
 tells (BadByte p) r h ne = h
 tells (Unopened p) r h ne = h
 tells (Unclosed p) r h ne = h
@@ -67,7 +67,7 @@ tells (BadText p) r h ne = h
 tells (TooDeep p) r h ne = h
 tells NoMemory r h ne = absurd (ne refl)
 
-tells_or : (e : FormError) (r : Result (List Tree) FormError) → Tells e r → (r ≡ Err e) ⊎ (e ≡ NoMemory)
+tells_or : (e : FormError) (r : Result (List Tree) FormError) → TellsFormFault e r → (r ≡ Err e) ⊎ (e ≡ NoMemory)
 tells_or (BadByte p) r h = inl h
 tells_or (Unopened p) r h = inl h
 tells_or (Unclosed p) r h = inl h

@@ -8,7 +8,7 @@ use Rattle.tau_sexpr.specs.Tree.{Tree, word, text}
 use Rattle.tau_sexpr.specs.Bytes.{IsWordByte, IsTextByte, is_text_byte}
 use Rattle.tau_sexpr.specs.Kinds.{kind_of, is_plain, meaning}
 use Rattle.tau_sexpr.specs.Spelling.{EndsWord, EndsLine, EndsPlain}
-use Rattle.tau_sexpr.specs.Reader.{Stack, Reader, reader, Mode, outside, comment, in_word, in_text, in_pair, with_form, step, step_outside, step_text, step_pair, finish, ended, and_then, run, Tells, TellsStep, Gives}
+use Rattle.tau_sexpr.specs.Reader.{Stack, Reader, reader, Mode, outside, comment, in_word, in_text, in_pair, with_form, step, step_outside, step_text, step_pair, finish, ended, and_then, run, TellsFormFault, TellsStep, Gives}
 use Rattle.tau_sexpr.specs.declared.bytes.ByteKind.{ByteKind}
 use Rattle.tau_sexpr.specs.declared.faults.FormError.{FormError}
 use Rattle.tau_sexpr.specs.declared.faults.FormError.TheVariants.{BadByte, Unopened, Unclosed, BadText, TooDeep, NoMemory}
@@ -116,7 +116,7 @@ comment_read bs at end lt le most begins all ends s =
     (λ p q. ap (λ p. run (drop end bs) p outside s) (q ∙ place))
 
 -- an error of a step is what the reader gives
-pub tells_step : (e : FormError) (r : Result Reader FormError) (bs : List ℕ) (z : Result (List Tree) FormError) → z ≡ and_then r (go_on bs) → TellsStep e r → Tells e z
+pub tells_step : (e : FormError) (r : Result Reader FormError) (bs : List ℕ) (z : Result (List Tree) FormError) → z ≡ and_then r (go_on bs) → TellsStep e r → TellsFormFault e z
 tells_step (BadByte p) r bs z step h = step ∙ ap (λ r. and_then r (go_on bs)) h
 tells_step (Unopened p) r bs z step h = step ∙ ap (λ r. and_then r (go_on bs)) h
 tells_step (Unclosed p) r bs z step h = step ∙ ap (λ r. and_then r (go_on bs)) h

@@ -138,11 +138,11 @@ abbrev pub stack_of : OpenLists → Stack
 stack_of o = stack (reverse o.outer.items) o.forms
 
 -- an error says what the reader gives, but for want of memory
-abbrev pub Tells : FormError → Result (List Tree) FormError → Type 0
-Tells NoMemory r = Unit {0}
-Tells e r = r ≡ Err e
+abbrev pub TellsFormFault : FormError → Result (List Tree) FormError → Type 0
+TellsFormFault NoMemory r = Unit {0}
+TellsFormFault e r = r ≡ Err e
 
 -- an answer is what the reader gives, but for want of memory
 abbrev pub Gives : Result (List Tree) FormError → Result (List Tree) FormError → Type 0
 Gives (Ok ts) r = r ≡ Ok ts
-Gives (Err e) r = Tells e r
+Gives (Err e) r = TellsFormFault e r

@@ -135,3 +135,7 @@ mutual
 
 abbrev pub tree_code : Coded Tree
 tree_code = record { code = tree_gv; inj = tree_gv_inj }
+
+-- a list that begins with a word
+abbrev pub headed : List ℕ → List Tree → Tree
+headed h ts = list (more (word h) (inside ts))

@@ -7,7 +7,7 @@ ghost use Rattle.tau_sexpr.specs.Faults.{IsFirstFault};
 ghost use Rattle.tau_sexpr.specs.declared.faults.FormError.{FormError};
 ghost use Rattle.tau_sexpr.specs.Tree.{Tree, word, text, depths, HasWords};
 ghost use Rattle.tau_sexpr.specs.Form.{tree_of};
-ghost use Rattle.tau_sexpr.specs.Reader.{Stack, stack, stack_of, with_form, step_outside, ended, reading, read_all, outside, in_text, in_pair, IsPairRest, IsPair, IsClosing, ArePlain, IsText, IsWord, Steps, Tells, Gives};
+ghost use Rattle.tau_sexpr.specs.Reader.{Stack, stack, stack_of, with_form, step_outside, ended, reading, read_all, outside, in_text, in_pair, IsPairRest, IsPair, IsClosing, ArePlain, IsText, IsWord, Steps, TellsFormFault, Gives};
 
 use crate::bytes::{ByteKind, is_plain as is_plain_byte, is_word_byte, kind, meaning};
 use crate::{Form, FormError, Forms, Text, Word};
@@ -206,7 +206,7 @@ fn put_plain(text: &mut Vec<u8>, bytes: &[u8], at: usize) -> Result<usize, Alloc
 fn read_text(alloc: Global, bytes: &[u8], start: usize) -> Result<(Text, usize), FormError>
     requires { start ≤ length bytes.now }
     ensures ok { IfOk result (λ r. IsText bytes.now start r.1 r.0) }
-    ensures err { IfErr result (λ e. (s : Stack) → Tells e (reading bytes.now start (in_text []) s)) }
+    ensures err { IfErr result (λ e. (s : Stack) → TellsFormFault e (reading bytes.now start (in_text []) s)) }
 {
     let mut text = Vec::new(alloc);
     let mut at = start;
@@ -245,7 +245,7 @@ fn read_token(
     ensures bounds { IfOk result (λ next. (at < next) × (next ≤ length bytes.now)) }
     ensures ok { IfOk result (λ next. reading bytes.now at outside (stack_of held.old)
         ≡ reading bytes.now next outside (stack_of held.new)) }
-    ensures err { IfErr result (λ e. Tells e (reading bytes.now at outside (stack_of held.old))) }
+    ensures err { IfErr result (λ e. TellsFormFault e (reading bytes.now at outside (stack_of held.old))) }
 {
     match kind(bytes[at]) {
         ByteKind::Blank => Ok(at + 1),

@@ -11,7 +11,7 @@ use Rattle.tau_value.specs.Value.{val_of}
 use Rattle.tau_value.specs.Names.{AreNames, place_of}
 use Rattle.tau_value.specs.Sizes.{IsInBounds}
 use Rattle.tau_value.specs.Meaning.{number_named, counted}
-use Rattle.tau_value.specs.Written.{name_written}
+use Rattle.tau_value.specs.Written.{name_written, count_form}
 use Rattle.tau_value.specs.declared.shared.Value.{Value}
 use Rattle.tau_value.specs.declared.shared.Value.TheVariants as values
 use Rattle.tau_value.proofs.NameLemmas.{place_of-at}
@@ -21,10 +21,9 @@ use Rattle.tau_trace.specs.declared.opening.Opening.{Opening}
 use Rattle.tau_trace.specs.declared.step.Step.{Step}
 use Rattle.tau_trace.specs.declared.step.Step.TheVariants.{Take, Drop, Fall, Void, Get, Set, Skip, Send, New, Stabilize, Ask, Checkpoint, Hold, Rollback, Stay, Done, Trap, Fail, Lose}
 use Rattle.tau_trace.specs.Run.{Run, len, step_at}
-use Rattle.tau_trace.specs.Numbering.{born, sent}
+use Rattle.tau_trace.specs.Numbering.{born, sent, number_made}
 use Rattle.tau_trace.specs.Known.{IsSound, IsKnown, IsKnownValue, WellFormed}
-use Rattle.tau_trace.specs.Stored.{number_made}
-use Rattle.tau_trace.specs.StepForms.{who_form, count_form, truth_form, value_form, step_form, step_form_at, IsWritten, ValueIsWritten, IsWrittenAt}
+use Rattle.tau_trace.specs.StepForms.{who_form, truth_form, value_form, step_form, step_form_at, IsWritten, ValueIsWritten, IsWrittenAt}
 use Rattle.tau_trace.proofs.Indexing.{born-le, sent-le}
 use Rattle.tau_trace.proofs.Lists.{same_some}
 use Rattle.tau_steps.specs.declared.kinds.Kind.{Kind}

@@ -20,7 +20,7 @@ use Rattle.tau_steps.specs.Meaning as item
 use Rattle.tau_steps.specs.Meaning.{Item, MeansItem, MeansItems, items_of}
 use Rattle.tau_steps.specs.Faults as role
 use Rattle.tau_steps.specs.Faults.{Role, roles_of, FaultIn, RowFault}
-use Rattle.tau_steps.specs.Reading.{Tells, TellsItem, TellsRow, both_of}
+use Rattle.tau_steps.specs.Reading.{TellsMeaning, TellsItem, TellsRow, both_of}
 use Rattle.tau_steps.proofs.TellsLemmas.{role_of, told_ok, told_err, tells_one, tells_more}
 
 -- a list of so many items
@@ -94,7 +94,7 @@ message_items b m messages.Void t x = refl
 module _ (p : Place) where
   -- what items tell that have these roles
   abbrev pub TellsItems : {X : Type 0} → List Role → (X → List Item) → Trees → Result X ItemError → Type 0
-  TellsItems rs is fs answer = Tells (λ x. MeansItems p.opening.now p.transactors p.messages (is x) fs) (FaultIn p.opening.now p.transactors p.messages rs fs) answer
+  TellsItems rs is fs answer = TellsMeaning (λ x. MeansItems p.opening.now p.transactors p.messages (is x) fs) (FaultIn p.opening.now p.transactors p.messages rs fs) answer
 
   -- what a reader of one kind makes of what its items tell
   pub record IsRow {X : Type 0} (k : Kind) (fs : Trees) (step : X → Step) (all : Result X ItemError) : Type 0 where
@@ -105,7 +105,7 @@ module _ (p : Place) where
   is_row : {X : Type 0} (k : Kind) (rs : List Role) (fs : Trees) (step : X → Step) (all : Result X ItemError) → roles_of p.transactors p.messages k ≡ Some rs → ((x : X) → kind_of (step x) ≡ k) → TellsItems rs (λ x. items_of p.transactors p.messages (step x)) fs all → IsRow k fs step all
   is_row {X = X} k rs fs step all er ek h = record {
     ok = λ x e. (ek x, told_ok (λ (y : X). MeansItems p.opening.now p.transactors p.messages (items_of p.transactors p.messages (step y)) fs) (FaultIn p.opening.now p.transactors p.messages rs fs) all x e h);
-    err = λ e is. let P : Option (List Role) → Type 0 = λ o. Tells (λ s. (kind_of s ≡ k) × MeansItems p.opening.now p.transactors p.messages (items_of p.transactors p.messages s) fs) (RowFault p.opening.now p.transactors p.messages o fs) (Err e) in
+    err = λ e is. let P : Option (List Role) → Type 0 = λ o. TellsMeaning (λ s. (kind_of s ≡ k) × MeansItems p.opening.now p.transactors p.messages (items_of p.transactors p.messages s) fs) (RowFault p.opening.now p.transactors p.messages o fs) (Err e) in
         subst P (sym er) (told_err (λ (y : X). MeansItems p.opening.now p.transactors p.messages (items_of p.transactors p.messages (step y)) fs) (λ s. (kind_of s ≡ k) × MeansItems p.opening.now p.transactors p.messages (items_of p.transactors p.messages s) fs) (FaultIn p.opening.now p.transactors p.messages rs fs) all e is h);
   }
 

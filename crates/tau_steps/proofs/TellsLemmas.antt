@@ -16,7 +16,7 @@ use Rattle.tau_steps.specs.Meaning as item
 use Rattle.tau_steps.specs.Meaning.{Item, count_at, truth_at, MeansItem, MeansItems}
 use Rattle.tau_steps.specs.Faults as role
 use Rattle.tau_steps.specs.Faults.{Role, count_fault, behaviour_fault, truth_fault, ItemFault, FaultIn}
-use Rattle.tau_steps.specs.Reading.{Tells, TellsItem, both_of}
+use Rattle.tau_steps.specs.Reading.{TellsMeaning, TellsItem, both_of}
 
 -- what is wanted where an item is meant
 abbrev pub role_of : Item → Role
@@ -30,21 +30,21 @@ role_of (item.truth a) = role.truth
 role_of (item.value v) = role.value
 
 -- what an answer tells where it is known
-pub told_ok : {X : Type 0} (M : X → Type 0) (F : Fault → Type 0) (a : Result X ItemError) (x : X) → a ≡ Ok x → Tells M F a → M x
-told_ok M F a x e h = subst (Tells M F) e h
+pub told_ok : {X : Type 0} (M : X → Type 0) (F : Fault → Type 0) (a : Result X ItemError) (x : X) → a ≡ Ok x → TellsMeaning M F a → M x
+told_ok M F a x e h = subst (TellsMeaning M F) e h
 
 -- an error tells the same whatever is meant
-error_of : {X Y : Type 0} (M : X → Type 0) (N : Y → Type 0) (F : Fault → Type 0) (e : ItemError) → Tells M F (Err e) → Tells N F (Err e)
+error_of : {X Y : Type 0} (M : X → Type 0) (N : Y → Type 0) (F : Fault → Type 0) (e : ItemError) → TellsMeaning M F (Err e) → TellsMeaning N F (Err e)
 error_of M N F items.Shape h = h
 error_of M N F items.Unknown h = h
 error_of M N F items.NoMemory h = h
 
 -- what an answer tells where it is an error
-pub told_err : {X Y : Type 0} (M : X → Type 0) (N : Y → Type 0) (F : Fault → Type 0) (a : Result X ItemError) (e : ItemError) → a ≡ Err e → Tells M F a → Tells N F (Err e)
-told_err M N F a e is h = error_of M N F e (subst (Tells M F) is h)
+pub told_err : {X Y : Type 0} (M : X → Type 0) (N : Y → Type 0) (F : Fault → Type 0) (a : Result X ItemError) (e : ItemError) → a ≡ Err e → TellsMeaning M F a → TellsMeaning N F (Err e)
+told_err M N F a e is h = error_of M N F e (subst (TellsMeaning M F) is h)
 
 -- both of two answers
-pub tells_both : {X Y : Type 0} (M : X → Type 0) (N : Y → Type 0) (F G : Fault → Type 0) (a : Result X ItemError) (b : Result Y ItemError) → ((x : X) (f : Fault) → M x → ¬ F f) → ((y : Y) (f : Fault) → N y → ¬ G f) → Tells M F a → Tells N G b → Tells (λ p. M p.0 × N p.1) (λ f. F f ⊎ G f) (both_of a b)
+pub tells_both : {X Y : Type 0} (M : X → Type 0) (N : Y → Type 0) (F G : Fault → Type 0) (a : Result X ItemError) (b : Result Y ItemError) → ((x : X) (f : Fault) → M x → ¬ F f) → ((y : Y) (f : Fault) → N y → ¬ G f) → TellsMeaning M F a → TellsMeaning N G b → TellsMeaning (λ p. M p.0 × N p.1) (λ f. F f ⊎ G f) (both_of a b)
 tells_both M N F G (Ok x) (Ok y) cm cn h k = (h, k)
 tells_both M N F G (Ok x) (Err items.Shape) cm cn h k = inr k
 tells_both M N F G (Ok x) (Err items.Unknown) cm cn h k = (inr k.0, λ z. ⊎_elim (cm x shape h) k.1 z)
@@ -114,14 +114,14 @@ wrong_number o b m (r ∷ rs) (f ∷ fs) ne = inr (wrong_number o b m rs fs (λ 
 
 module _ (p : Place) where
   -- one item
-  pub tells_one : {X : Type 0} (r : Role) (i : X → Item) (f : Tree) (a : Result X ItemError) → TellsItem p r i f a → Tells (λ x. MeansItems p.opening.now p.transactors p.messages (i x ∷ []) (more f none)) (FaultIn p.opening.now p.transactors p.messages (r ∷ []) (more f none)) a
+  pub tells_one : {X : Type 0} (r : Role) (i : X → Item) (f : Tree) (a : Result X ItemError) → TellsItem p r i f a → TellsMeaning (λ x. MeansItems p.opening.now p.transactors p.messages (i x ∷ []) (more f none)) (FaultIn p.opening.now p.transactors p.messages (r ∷ []) (more f none)) a
   tells_one r i f (Ok x) h = (h, tt)
   tells_one r i f (Err items.Shape) h = inl h
   tells_one r i f (Err items.Unknown) h = (inl h.0, λ z. ⊎_elim h.1 (λ n. n) z)
   tells_one r i f (Err items.NoMemory) h = tt
 
   -- one item, and the items after it
-  pub tells_more : {X Y : Type 0} (r : Role) (rs : List Role) (i : X → Item) (is : Y → List Item) (f : Tree) (fs : Trees) (a : Result X ItemError) (c : Result Y ItemError) → ((x : X) → role_of (i x) ≡ r) → ((y : Y) → map role_of (is y) ≡ rs) → TellsItem p r i f a → Tells (λ y. MeansItems p.opening.now p.transactors p.messages (is y) fs) (FaultIn p.opening.now p.transactors p.messages rs fs) c → Tells (λ z. MeansItems p.opening.now p.transactors p.messages (i z.0 ∷ is z.1) (more f fs)) (FaultIn p.opening.now p.transactors p.messages (r ∷ rs) (more f fs)) (both_of a c)
+  pub tells_more : {X Y : Type 0} (r : Role) (rs : List Role) (i : X → Item) (is : Y → List Item) (f : Tree) (fs : Trees) (a : Result X ItemError) (c : Result Y ItemError) → ((x : X) → role_of (i x) ≡ r) → ((y : Y) → map role_of (is y) ≡ rs) → TellsItem p r i f a → TellsMeaning (λ y. MeansItems p.opening.now p.transactors p.messages (is y) fs) (FaultIn p.opening.now p.transactors p.messages rs fs) c → TellsMeaning (λ z. MeansItems p.opening.now p.transactors p.messages (i z.0 ∷ is z.1) (more f fs)) (FaultIn p.opening.now p.transactors p.messages (r ∷ rs) (more f fs)) (both_of a c)
   tells_more {X = X} {Y = Y} r rs i is f fs a c er es h k =
       tells_both (λ (x : X). MeansItem p.opening.now p.transactors p.messages (i x) f) (λ (y : Y). MeansItems p.opening.now p.transactors p.messages (is y) fs) (λ e. ItemFault p.opening.now p.transactors p.messages r f e) (λ e. FaultIn p.opening.now p.transactors p.messages rs fs e) a c
       (λ x e z. let P : Role → Type 0 = λ q. ¬ ItemFault p.opening.now p.transactors p.messages q f e in subst P (er x) (clean_item p.opening.now p.transactors p.messages (i x) f e z))

@@ -22,23 +22,23 @@ pub record IsPlace (p : Place) : Type 0 where
   pub starts : length p.opening.now.names ≤ p.transactors
 
 -- what is meant, or the fault; unknown only where there is no shape
-abbrev pub Tells : {X : Type 0} → (X → Type 0) → (Fault → Type 0) → Result X ItemError → Type 0
-Tells M F (Ok x) = M x
-Tells M F (Err items.Shape) = F shape
-Tells M F (Err items.Unknown) = F unknown × ¬ F shape
-Tells M F (Err items.NoMemory) = Unit {0}
+abbrev pub TellsMeaning : {X : Type 0} → (X → Type 0) → (Fault → Type 0) → Result X ItemError → Type 0
+TellsMeaning M F (Ok x) = M x
+TellsMeaning M F (Err items.Shape) = F shape
+TellsMeaning M F (Err items.Unknown) = F unknown × ¬ F shape
+TellsMeaning M F (Err items.NoMemory) = Unit {0}
 
 -- what an item means that has a role, or its fault
 abbrev pub TellsItem : {X : Type 0} → Place → Role → (X → Item) → Tree → Result X ItemError → Type 0
-TellsItem p r item f answer = Tells (λ x. MeansItem p.opening.now p.transactors p.messages (item x) f) (ItemFault p.opening.now p.transactors p.messages r f) answer
+TellsItem p r item f answer = TellsMeaning (λ x. MeansItem p.opening.now p.transactors p.messages (item x) f) (ItemFault p.opening.now p.transactors p.messages r f) answer
 
 -- the step of this kind that the other items of a form mean, or their fault
 abbrev pub TellsRow : Place → Kind → Trees → Result Step ItemError → Type 0
-TellsRow p k fs answer = Tells (λ s. (kind_of s ≡ k) × MeansItems p.opening.now p.transactors p.messages (items_of p.transactors p.messages s) fs) (RowFault p.opening.now p.transactors p.messages (roles_of p.transactors p.messages k) fs) answer
+TellsRow p k fs answer = TellsMeaning (λ s. (kind_of s ≡ k) × MeansItems p.opening.now p.transactors p.messages (items_of p.transactors p.messages s) fs) (RowFault p.opening.now p.transactors p.messages (roles_of p.transactors p.messages k) fs) answer
 
 -- the step that a form means, or its fault
 abbrev pub TellsStep : Place → Tree → Result Step ItemError → Type 0
-TellsStep p f answer = Tells (MeansStep p.opening.now p.transactors p.messages f) (FormFault p.opening.now p.transactors p.messages f) answer
+TellsStep p f answer = TellsMeaning (MeansStep p.opening.now p.transactors p.messages f) (FormFault p.opening.now p.transactors p.messages f) answer
 
 -- of two errors the one that tells more: unknown gives way
 abbrev pub stronger : ItemError → ItemError → ItemError
@@ -54,7 +54,7 @@ both_of (Err d) (Err e) = Err (stronger d e)
 
 -- the step that a form means at the end of a run, or its fault
 abbrev pub TellsNext : Run → Tree → Result Step ItemError → Type 0
-TellsNext T f answer = Tells (MeansStep T.opening (born T (len T)) (sent T (len T)) f) (FormFault T.opening (born T (len T)) (sent T (len T)) f) answer
+TellsNext T f answer = TellsMeaning (MeansStep T.opening (born T (len T)) (sent T (len T)) f) (FormFault T.opening (born T (len T)) (sent T (len T)) f) answer
 
 -- the error of a step for that of its form
 abbrev pub step_error : ItemError → ℕ → StepError

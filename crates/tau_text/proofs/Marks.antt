@@ -9,8 +9,7 @@ use Rattle.tau_tree.specs.declared.programs.Program.{Program}
 use Rattle.tau_forms.specs.Printed as program_forms
 use Rattle.tau_trace.specs.declared.step.Step.{Step}
 use Rattle.tau_trace.specs.Run.{Run, step_at}
-use Rattle.tau_trace.specs.Numbering.{born, sent}
-use Rattle.tau_trace.specs.Stored.{number_made}
+use Rattle.tau_trace.specs.Numbering.{born, sent, number_made}
 use Rattle.tau_trace.specs.StepForms.{step_form}
 use Rattle.tau_trace.proofs.StepFormLemmas.{no_mark}
 use Rattle.tau_text.specs.RunText.{trace_mark, report_mark, AreStepForms}

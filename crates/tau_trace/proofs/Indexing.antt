@@ -15,13 +15,13 @@ use Rattle.tau_trace.specs.declared.message.Message.{Message}
 use Rattle.tau_trace.specs.Steps.{actor, removed_by, is_new, is_send}
 use Rattle.tau_trace.specs.Run.{Run, len, step_at, starts, appended, Agree}
 use Rattle.tau_trace.specs.Places.{IsFirst}
-use Rattle.tau_trace.specs.Numbering.{born, sent, post, message, start, created, Removes}
+use Rattle.tau_trace.specs.Numbering.{born, sent, post, message, start, created, Removes, number_made}
 use Rattle.tau_trace.specs.Histories.{history, EndsAt}
 use Rattle.tau_trace.specs.Turns.{IsOpenTurn}
 use Rattle.tau_trace.specs.Known.{IsSound, IsKnown, IsKnownAt, MayFollow, WellFormed}
 use Rattle.tau_trace.specs.Tracking.{Tracks, TracksAll, transactor_after, opened_at, created_at}
 use Rattle.tau_trace.specs.Living.{Tracked}
-use Rattle.tau_trace.specs.Stored.{noted_at, noted_of, with_new, transactors_after, sent_to, removed_at, removed_by_record, removed_of, with_sent, messages_after, number_made, TracksMessage, TracksMessages, HasNumbers, IsIndexed}
+use Rattle.tau_trace.specs.Stored.{noted_at, noted_of, with_new, transactors_after, sent_to, removed_at, removed_by_record, removed_of, with_sent, messages_after, TracksMessage, TracksMessages, HasNumbers, IsIndexed}
 use Rattle.tau_trace.proofs.Lists.{same_some, slice_get-set_same, slice_get-set_other, slice_get-front, slice_get-last, slice_get-push_cases}
 use Rattle.tau_trace.proofs.Counts.{count-suc, count-zero, count-le}
 use Rattle.tau_trace.proofs.Counted.{history-zero}

@@ -13,7 +13,7 @@ use Rattle.tau_value.specs.Names.{AreNames}
 use Rattle.tau_value.specs.Numbers.{count_in}
 use Rattle.tau_value.specs.Sizes.{IsInBounds}
 use Rattle.tau_value.specs.Meaning.{counted, named}
-use Rattle.tau_value.specs.Written.{name_written}
+use Rattle.tau_value.specs.Written.{name_written, count_form}
 use Rattle.tau_value.specs.declared.shared.Value.{Value}
 use Rattle.tau_value.proofs.NumberLemmas.{count_in-decimal}
 use Rattle.tau_value.proofs.WrittenLemmas.{reads_back, number_nonempty, decimal_filled}
@@ -22,10 +22,9 @@ use Rattle.tau_trace.specs.declared.opening.Opening.{Opening}
 use Rattle.tau_trace.specs.declared.step.Step.{Step}
 use Rattle.tau_trace.specs.declared.step.Step.TheVariants.{Take, Drop, Fall, Void, Get, Set, Skip, Send, New, Stabilize, Ask, Checkpoint, Hold, Rollback, Stay, Done, Trap, Fail, Lose}
 use Rattle.tau_trace.specs.Run.{Run, step_at}
-use Rattle.tau_trace.specs.Numbering.{born, sent}
+use Rattle.tau_trace.specs.Numbering.{born, sent, number_made}
 use Rattle.tau_trace.specs.Known.{IsSound, IsKnown, IsKnownValue, WellFormed}
-use Rattle.tau_trace.specs.Stored.{number_made}
-use Rattle.tau_trace.specs.StepForms.{kind_word, who_form, count_form, truth_form, value_form, item_forms, step_form, step_form_at, IsWritten, ValueIsWritten, IsWrittenAt}
+use Rattle.tau_trace.specs.StepForms.{kind_word, who_form, truth_form, value_form, item_forms, step_form, step_form_at, IsWritten, ValueIsWritten, IsWrittenAt}
 use Rattle.tau_trace.proofs.Agreement.{born-same}
 use Rattle.tau_trace.proofs.Indexing.{born-le, sent-le}
 use Rattle.tau_trace.proofs.Lists.{same_some}

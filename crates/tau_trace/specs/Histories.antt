@@ -1,4 +1,4 @@
--- The history of a transactor at a place, falling steps, ended transactors (docs/rules.md, "Histories", "Steps").
+-- The history of a transactor at a place, falling steps, ended transactors (docs/definitions.md, "History", "Falling step", "End").
 use Rattle.std.specs.Prelude.{◌≡◌, ◌⊎◌, ◌↔◌, ℕ, zero, suc, ◌+◌, ◌<◌, ◌≤◌, Bool, false, true, Option, Some, None, if◌then◌else◌, ◌==◌, ◌&&◌, nat_lt, IsTrue, IsFalse}
 use Rattle.std.specs.Option.{option_map_or}
 use Rattle.tau_history.specs.Timeline.{Timeline, opening, newborn, interval, Move, keep, stabilize, close, fall, moved}

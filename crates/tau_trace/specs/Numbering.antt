@@ -1,7 +1,8 @@
--- The numbers of transactors and messages, and the messages in flight (docs/rules.md, "Numbers", "Messages in flight").
+-- The numbers of transactors and messages, and the messages in flight (docs/definitions.md, "Opening", "In flight").
 use Rattle.std.specs.Prelude.{◌≡◌, ℕ, ◌+◌, ◌<◌, Bool, false, Option, Some, length, slice_get, option_and_then}
 use Rattle.std.specs.Option.{option_map_or}
 use Rattle.tau_value.specs.declared.shared.Value.{Value}
+use Rattle.tau_trace.specs.declared.step.Step.{Step}
 use Rattle.tau_trace.specs.declared.step.Step.TheVariants.{Send, New}
 use Rattle.tau_trace.specs.Steps.{removed_by, is_new, is_send}
 use Rattle.tau_trace.specs.Run.{Run, step_at, starts}
@@ -48,3 +49,9 @@ Removes T m j = option_and_then removed_by (step_at T j) ≡ Some m
 pub record InFlight (T : Run) (m k : ℕ) : Type 0 where
   pub exists : m < sent T k
   pub not_removed : (j : ℕ) → j < k → ¬ Removes T m j
+
+-- the number that a Send or a New makes, where there are so many transactors and messages
+abbrev pub number_made : Step → ℕ → ℕ → ℕ
+number_made (Send t u v) transactors messages = messages
+number_made (New t b n v) transactors messages = transactors
+number_made s transactors messages = 0

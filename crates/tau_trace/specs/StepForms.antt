@@ -5,13 +5,12 @@ use Rattle.tau_sexpr.specs.Tree.{Tree, word, list, inside, depth_of, HasWords}
 use Rattle.tau_value.specs.Sizes.{levels_of}
 use Rattle.tau_value.specs.declared.shared.Value.{Value}
 use Rattle.tau_value.specs.Value.{val_of}
-use Rattle.tau_value.specs.Written.{name_written, written, ReadsBack}
+use Rattle.tau_value.specs.Written.{name_written, written, ReadsBack, count_form}
 use Rattle.tau_trace.specs.declared.opening.Opening.{Opening}
 use Rattle.tau_trace.specs.declared.step.Step.{Step}
 use Rattle.tau_trace.specs.declared.step.Step.TheVariants.{Take, Drop, Fall, Void, Get, Set, Skip, Send, New, Stabilize, Ask, Checkpoint, Hold, Rollback, Stay, Done, Trap, Fail, Lose}
 use Rattle.tau_trace.specs.Run.{Run, step_at}
-use Rattle.tau_trace.specs.Numbering.{born, sent}
-use Rattle.tau_trace.specs.Stored.{number_made}
+use Rattle.tau_trace.specs.Numbering.{born, sent, number_made}
 
 -- the word that begins the form of a step
 abbrev pub kind_word : Step → List ℕ
@@ -38,9 +37,6 @@ kind_word (Lose m) = codes "lose"
 -- a start by its name and another transactor by its number; a number; a truth; a value
 abbrev pub who_form : Opening → ℕ → Tree
 who_form o t = word (name_written o.names t)
-
-abbrev pub count_form : ℕ → Tree
-count_form n = word (decimal n)
 
 abbrev pub truth_form : Bool → Tree
 truth_form a = word (if a then codes "true" else codes "false")

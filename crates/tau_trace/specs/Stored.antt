@@ -12,7 +12,7 @@ use Rattle.tau_trace.specs.declared.message.Message.{Message}
 use Rattle.tau_trace.specs.Steps.{actor, removed_by}
 use Rattle.tau_trace.specs.Run.{Run, len, step_at}
 use Rattle.tau_trace.specs.Places.{IsFirst}
-use Rattle.tau_trace.specs.Numbering.{born, sent, Receives, Removes}
+use Rattle.tau_trace.specs.Numbering.{born, sent, Receives, Removes, number_made}
 use Rattle.tau_trace.specs.Known.{WellFormed}
 use Rattle.tau_trace.specs.Tracking.{transactor_after, created_at, TracksAll}
 use Rattle.tau_trace.specs.Living.{Tracked}
@@ -71,12 +71,6 @@ with_sent s ms = ms
 -- the records of messages after a step at place k
 abbrev pub messages_after : Step → ℕ → List Message → List Message
 messages_after s k ms = with_sent s (removed_of k ms (removed_by s))
-
--- the number that a Send or a New makes, where there are so many transactors and messages
-abbrev pub number_made : Step → ℕ → ℕ → ℕ
-number_made (Send t u v) transactors messages = messages
-number_made (New t b n v) transactors messages = transactors
-number_made s transactors messages = 0
 
 -- the number that the step at place k made
 abbrev pub IsMadeAt : Run → ℕ → ℕ → Type 0

@@ -1,4 +1,4 @@
--- Turns (docs/rules.md, "Steps").
+-- Turns (docs/definitions.md, "Turn", "Open turn").
 use Rattle.std.specs.Prelude.{◌≡◌, ℕ, ◌<◌, Bool, Option, Some, None, ◌||◌}
 use Rattle.tau_trace.specs.declared.step.Step.{Step}
 use Rattle.tau_trace.specs.declared.step.Step.TheVariants.{Take}
@@ -15,3 +15,7 @@ pub record Turn (T : Run) (t k place message : ℕ) : Type 0 where
 abbrev pub IsOpenTurn : Run → ℕ → ℕ → Option ℕ → Type 0
 IsOpenTurn T t k None = (place message : ℕ) → ¬ Turn T t k place message
 IsOpenTurn T t k (Some place) = (message : ℕ) × Turn T t k place message
+
+-- some turn is open for t at place k
+abbrev pub HasOpenTurn : Run → ℕ → ℕ → Type 0
+HasOpenTurn T t k = (place : ℕ) × IsOpenTurn T t k (Some place)

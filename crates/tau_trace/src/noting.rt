@@ -2,8 +2,9 @@
 ghost use Rattle.std.specs.Prelude.{◌≡◌, ◌<◌, ◌^◌, ℕ, Some, length, vec_len, IsTrue};
 ghost use Rattle.std.specs.Vec.{vec_capacity};
 ghost use Rattle.tau_trace.specs.Steps.{actor, removed_by};
-ghost use Rattle.tau_trace.specs.Stored.{has_room, noted_of, with_new, removed_of, with_sent, number_made};
+ghost use Rattle.tau_trace.specs.Stored.{has_room, noted_of, with_new, removed_of, with_sent};
 ghost use Rattle.tau_trace.specs.Noting.{MakesNodeBelow};
+ghost use Rattle.tau_trace.specs.Numbering.{number_made};
 
 use crate::message::Message;
 use crate::step::Step;

@@ -5,10 +5,10 @@ ghost use Rattle.tau_sexpr.specs.Form.{tree_of};
 ghost use Rattle.tau_sexpr.specs.Tree as tree;
 ghost use Rattle.tau_sexpr.specs.Tree.{depth_of, HasWords};
 ghost use Rattle.tau_value.specs.Names.{AreNames};
-ghost use Rattle.tau_value.specs.Written.{name_written, written};
+ghost use Rattle.tau_value.specs.Written.{name_written, written, count_form};
 ghost use Rattle.tau_value.specs.Value.{val_of};
 ghost use Rattle.tau_trace.specs.Run.{len};
-ghost use Rattle.tau_trace.specs.StepForms.{kind_word, count_form, truth_form, item_forms, step_form, step_form_at, IsWritten, ValueIsWritten, IsWrittenAt};
+ghost use Rattle.tau_trace.specs.StepForms.{kind_word, truth_form, item_forms, step_form, step_form_at, IsWritten, ValueIsWritten, IsWrittenAt};
 
 use crate::opening::Opening;
 use crate::step::Step;

@@ -13,7 +13,7 @@ use Rattle.tau_value.specs.Val.{Val}
 use Rattle.tau_value.specs.Sizes.{parts_of, levels_of, parts_of_all, levels_of_all}
 use Rattle.tau_value.specs.Numbers.{integer_in, capped}
 use Rattle.tau_value.specs.Meaning.{name_word, list_word, number_named, named, counted, counted_all, has_row, is_one, Fault, shape, unknown}
-use Rattle.tau_value.specs.Reading.{scan, scan_all, scan_name, later_by, Tells}
+use Rattle.tau_value.specs.Reading.{scan, scan_all, scan_name, later_by, TellsValueFault}
 use Rattle.tau_value.specs.declared.faults.ValueError.{ValueError}
 use Rattle.tau_value.specs.declared.faults.ValueError.TheVariants as faults
 
@@ -123,12 +123,12 @@ scan_all-push names bound (u ∷ us) t h e =
     rw (both.0, scan_all-push names bound us t both.1 e) refl
 
 -- an error at a later node
-pub tells-later : (found : Option (ℕ × Fault)) (at k node : ℕ) (e : ValueError) → node ≡ capped (at + k) → Tells found node e → Tells (option_map (later_by k) found) at e
+pub tells-later : (found : Option (ℕ × Fault)) (at k node : ℕ) (e : ValueError) → node ≡ capped (at + k) → TellsValueFault found node e → TellsValueFault (option_map (later_by k) found) at e
 tells-later found at k node (faults.Shape m) h t = (k + t.0, ap (option_map (later_by k)) t.1, omega (arith, t.2))
 tells-later found at k node (faults.Unknown m) h t = (k + t.0, ap (option_map (later_by k)) t.1, omega (arith, t.2))
 tells-later found at k node faults.NoMemory h t = tt
 
-pub tells-item : (names : List (List ℕ)) (bound : ℕ) (fs : List Form) (k : ℕ) (f : Form) (at node : ℕ) (e : ValueError) → scan_all names bound (inside (map tree_of (take k fs))) ≡ None → k < length fs → f ≡ get_or fs k f → node ≡ capped (at + size_of_all (inside (map tree_of (take k fs)))) → Tells (scan names bound (tree_of f)) node e → Tells (scan_all names bound (inside (map tree_of fs))) at e
+pub tells-item : (names : List (List ℕ)) (bound : ℕ) (fs : List Form) (k : ℕ) (f : Form) (at node : ℕ) (e : ValueError) → scan_all names bound (inside (map tree_of (take k fs))) ≡ None → k < length fs → f ≡ get_or fs k f → node ≡ capped (at + size_of_all (inside (map tree_of (take k fs)))) → TellsValueFault (scan names bound (tree_of f)) node e → TellsValueFault (scan_all names bound (inside (map tree_of fs))) at e
 tells-item names bound fs k f at node (faults.Shape m) clean lt is h told =
     let before = size_of_all (inside (map tree_of (take k fs))) in
     (before + told.0, scan_all-stop names bound fs k f (told.0, shape) clean lt is told.1, omega (arith, told.2))

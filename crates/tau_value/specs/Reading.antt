@@ -48,17 +48,17 @@ HasHead ts (heads.Name x) = ts ≡ more (word name_word) (more (tree_of x.now) n
 HasHead ts heads.Other = has_row (list ts) ≡ false
 
 -- the error for a fault at node n of a form whose own node is `at`
-abbrev pub Tells : Option (ℕ × Fault) → ℕ → ValueError → Type 0
-Tells found at (faults.Shape node) = (n : ℕ) × (found ≡ Some (n, shape)) × (node ≡ capped (at + n))
-Tells found at (faults.Unknown node) = (n : ℕ) × (found ≡ Some (n, unknown)) × (node ≡ capped (at + n))
-Tells found at faults.NoMemory = Unit {0}
+abbrev pub TellsValueFault : Option (ℕ × Fault) → ℕ → ValueError → Type 0
+TellsValueFault found at (faults.Shape node) = (n : ℕ) × (found ≡ Some (n, shape)) × (node ≡ capped (at + n))
+TellsValueFault found at (faults.Unknown node) = (n : ℕ) × (found ≡ Some (n, unknown)) × (node ≡ capped (at + n))
+TellsValueFault found at faults.NoMemory = Unit {0}
 
 -- a form is passed from node `at` to node `next` and its value told, or its first fault
 abbrev pub Reads : List (List ℕ) → ℕ → Tree → ℕ → ℕ → Result Value ValueError → Type 0
 Reads names bound t at next (Ok v) = (scan names bound t ≡ None) × (val_of v ≡ counted names bound t) × (next ≡ capped (at + size_of t))
-Reads names bound t at next (Err e) = Tells (scan names bound t) at e
+Reads names bound t at next (Err e) = TellsValueFault (scan names bound t) at e
 
 -- the same for the items of a list
 abbrev pub ReadsAll : List (List ℕ) → ℕ → Trees → ℕ → ℕ → Result (List Val) ValueError → Type 0
 ReadsAll names bound ts at next (Ok vs) = (scan_all names bound ts ≡ None) × (val.inside vs ≡ counted_all names bound ts) × (next ≡ capped (at + size_of_all ts))
-ReadsAll names bound ts at next (Err e) = Tells (scan_all names bound ts) at e
+ReadsAll names bound ts at next (Err e) = TellsValueFault (scan_all names bound ts) at e

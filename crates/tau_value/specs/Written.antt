@@ -43,3 +43,7 @@ abbrev mutual
 -- a form is read back as a value that is in bounds, under any bound that its names are below
 abbrev pub ReadsBack : List (List ℕ) → Val → Tree → Type 0
 ReadsBack names v t = (bound : ℕ) → IsInBounds v → NamesBelow bound v → Means names bound t v
+
+-- the form of a number
+abbrev pub count_form : ℕ → Tree
+count_form n = word (decimal n)

@@ -32,13 +32,13 @@ impl FullView {
 
 impl View for FullView {
     ghost use Rattle.tau_view.specs.Stored.{held as held_of};
-    ghost use Rattle.tau_view.specs.Full.{keeps_edges, keeps_roots, settled_edges, closed_roots, for_good};
+    ghost use Rattle.tau_view.specs.Full.{drops_no_edge, drops_no_root, settled_edges, closed_roots, for_good};
 
     ghost held = { held_of };
 
-    ghost drops_edge = { keeps_edges };
+    ghost drops_edge = { drops_no_edge };
 
-    ghost drops_root = { keeps_roots };
+    ghost drops_root = { drops_no_root };
 
     ghost drops_settled_edges = { settled_edges };
 

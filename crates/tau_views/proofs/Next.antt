@@ -19,7 +19,7 @@ use Rattle.tau_trace.proofs.Counts.{count-le}
 use Rattle.tau_trace.proofs.Counted.{counted}
 use Rattle.tau_trace.proofs.Lists.{same_some}
 use Rattle.tau_trace.proofs.Quiet.{known_actor}
-use Rattle.tau_past.specs.KnownLaws.{HasOpenTurn}
+use Rattle.tau_trace.specs.Turns.{HasOpenTurn}
 use Rattle.tau_heard.specs.Views.{IsViewOf, IsMessageView}
 use Rattle.tau_views.specs.declared.views.Views.{Views}
 use Rattle.tau_views.specs.declared.views.ViewChange.{ViewChange}

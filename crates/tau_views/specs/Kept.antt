@@ -9,9 +9,9 @@ use Rattle.tau_trace.specs.Steps.{actor}
 use Rattle.tau_trace.specs.Run.{Run, len}
 use Rattle.tau_trace.specs.Numbering.{born, sent, InFlight}
 use Rattle.tau_trace.specs.Histories.{history}
+use Rattle.tau_trace.specs.Turns.{HasOpenTurn}
 use Rattle.tau_past.specs.Carried.{touches}
 use Rattle.tau_past.specs.Heard.{heard_by}
-use Rattle.tau_past.specs.KnownLaws.{HasOpenTurn}
 use Rattle.tau_heard.specs.Views.{IsViewOf, IsMessageView}
 
 -- what is held is, trimmed, what was heard

@@ -30,10 +30,10 @@ only_ends (Done t) = true
 only_ends s = false
 
 -- the kinds that make a volatile transactor fall, and end the turn of a stable one
-abbrev pub is_failure : Step → Bool
-is_failure (Trap t c) = true
-is_failure (Fail t) = true
-is_failure s = false
+abbrev pub falls_if_volatile : Step → Bool
+falls_if_volatile (Trap t c) = true
+falls_if_volatile (Fail t) = true
+falls_if_volatile s = false
 
 -- the kinds that take a message out of flight of which nobody hears
 abbrev pub only_removes : Step → Bool

@@ -8,7 +8,7 @@ ghost use Rattle.tau_trace.specs.Histories as histories;
 ghost use Rattle.tau_past.specs.Carried.{is_set};
 ghost use Rattle.tau_past.specs.Heard.{heard_by};
 ghost use Rattle.tau_heard.specs.Laws.{only_touches};
-ghost use Rattle.tau_views.specs.Next.{IsNext, AreNext, only_ends, is_failure, only_removes};
+ghost use Rattle.tau_views.specs.Next.{IsNext, AreNext, only_ends, falls_if_volatile, only_removes};
 
 use crate::after::{
     after_leaving, after_merge, after_new, after_set, after_stabilize, after_take, after_touch,
@@ -235,7 +235,7 @@ impl<V: View + Drop> Views<V> {
     ) -> Result<ViewChange<V>, AllocError>
         requires next { IsNext V.drops_edge V.drops_root V.held self.now trace.now.run step.now }
         requires by { actor step.now ≡ Some who }
-        requires kind { IsTrue (is_failure step.now) }
+        requires kind { IsTrue (falls_if_volatile step.now) }
         ensures { IfOk result (AreNext V.drops_edge V.drops_root V.held self.now trace.now.run step.now) }
     {
         if self.own_history(trace, who).is_stable() {

@@ -20,7 +20,7 @@ use Rattle.tau_trace.specs.Turns.{Turn}
 use Rattle.tau_trace.proofs.Lists.{same_some}
 use Rattle.tau_past.specs.Carried.{is_set, Pending, touched, came, by_set, by_new}
 use Rattle.tau_past.specs.Heard.{Heard, own_step}
-use Rattle.tau_past.specs.Pasts.{Link, takes, closing, checkpoint, opening, Is, FallenIn, FirmIn}
+use Rattle.tau_past.specs.Pasts.{Link, takes, closing, checkpoint, opening, Is, FellIn, FirmIn}
 use Rattle.tau_past.specs.Decisions as decisions
 use Rattle.tau_past.specs.Decisions.{Verdict, HasFallen, Free}
 use Rattle.tau_past.specs.States.{StateAt, SavedWith, by_set as state_by_set, by_save, at_opening, at_checkpoint}
@@ -36,7 +36,7 @@ use Rattle.tau_worked.specs.Cell.{cell_body, cell, ten, fifteen, five_to_cell, c
 use Rattle.tau_worked.proofs.Absence.{clash, no_step, no_step_from, only_place, none_falls, FallsAs, falls_as}
 
 -- nothing falls
-nothing_fallen : (H : ℕ → Type 0) (q : Point) → ¬ FallenIn cell_run H q
+nothing_fallen : (H : ℕ → Type 0) (q : Point) → ¬ FellIn cell_run H q
 unfolding count_below
 nothing_fallen H q f = none_falls cell_run 5 refl q.who f.place (slice_get_within cell_run.steps f.place found.step found.stands) f.falls where
   found : FallsAs cell_run q.who f.place

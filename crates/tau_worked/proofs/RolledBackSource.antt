@@ -17,7 +17,7 @@ use Rattle.tau_trace.specs.Points.{point_at}
 use Rattle.tau_trace.specs.Turns.{Turn, IsOpenTurn}
 use Rattle.tau_past.specs.Carried.{is_set, Pending, touched, came, SentWith, by_set, by_new}
 use Rattle.tau_past.specs.Heard.{HeardTogether, Needs, earlier, message as told, Own, own_step}
-use Rattle.tau_past.specs.Pasts.{Link, takes, closing, checkpoint, opening, PastIn, Is, FallenIn}
+use Rattle.tau_past.specs.Pasts.{Link, takes, closing, checkpoint, opening, PastIn, Is, FellIn}
 use Rattle.tau_past.specs.Decisions as decisions
 use Rattle.tau_past.specs.Decisions.{HasFallen, FallsBy, DropsBy}
 use Rattle.tau_legal.specs.Fits.{Fits}
@@ -81,7 +81,7 @@ source_at_rollback : source_point ≡ point_at dropping_run 0 4
 unfolding history
 source_at_rollback = refl
 
-fallen : (H : ℕ → Type 0) → H 4 → FallenIn dropping_run H source_point
+fallen : (H : ℕ → Type 0) → H 4 → FellIn dropping_run H source_point
 fallen H held = record { place = 4; held = held; falls = rollback_falls; at_point = source_at_rollback }
 
 sent_after : Needs dropping_run 9 4

@@ -1,5 +1,5 @@
 use Rattle.std.proofs.Common.{List, below_more, arith}
-use Rattle.tau_eval.specs.Turn.{Turn}
+use Rattle.tau_eval.specs.Turn.{TurnSoFar}
 use Rattle.tau_book.proofs.JobLists.{place_of, not_there}
 use Rattle.tau_book.proofs.jobs.place_of_number.Goals as goal
 
@@ -8,6 +8,6 @@ loop-k-preserved c = below_more _ _ c.loop-k.invariant (not_there c.args.jobs.no
 
 pub unreachable-requires : goal.unreachable-requires
 unreachable-requires c =
-    let jobs : List Turn = c.args.jobs.now in
+    let jobs : List TurnSoFar = c.args.jobs.now in
     let r = place_of jobs c.args.number c.requires in
     c.loop-k.invariant r.0 (omega (arith, r.1.within, c.loop-k-test.false)) r.1

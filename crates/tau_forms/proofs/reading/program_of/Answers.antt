@@ -6,7 +6,7 @@ use Rattle.tau_sexpr.specs.Tree.{sizes, size_of_all-inside}
 use Rattle.tau_tree.specs.Sound.{Sound}
 use Rattle.tau_forms.specs.Faults.{ProgramFaultAt}
 use Rattle.tau_forms.specs.Meaning.{Means}
-use Rattle.tau_forms.specs.Passing.{IsRead, Tells}
+use Rattle.tau_forms.specs.Passing.{IsRead, TellsFault}
 use Rattle.tau_forms.specs.Tops.{limit_of}
 use Rattle.tau_forms.proofs.ProgramLemmas.{nodes_le, starts_le, means_read, fault_read, none_read}
 use Rattle.tau_forms.proofs.SoundLemmas.{sound_of}
@@ -26,10 +26,10 @@ returns-clause-sound c =
 pub returns-clause-fault : goal.returns-clause-fault
 returns-clause-fault c =
     let limits : limit_of c.args.forms.now ≡ None = ap limit_of (sym c.items-items.ensures) ∙ sym c.limit_of.ensures ∙ c.in_default.is in
-    fault_read c.args.forms.now c.read.result limits (subst (λ ts. IfErr c.read.result (Tells (ProgramFaultAt ts) 0)) c.items-items.ensures c.read.ensures.fault)
+    fault_read c.args.forms.now c.read.result limits (subst (λ ts. IfErr c.read.result (TellsFault (ProgramFaultAt ts) 0)) c.items-items.ensures c.read.ensures.fault)
 
 pub returns-clause-read : goal.returns-clause-read
-returns-clause-read c = λ p means. none_read c.args.forms.now p c.read.result means (subst (λ ts. IfErr c.read.result (Tells (ProgramFaultAt ts) 0)) c.items-items.ensures c.read.ensures.fault)
+returns-clause-read c = λ p means. none_read c.args.forms.now p c.read.result means (subst (λ ts. IfErr c.read.result (TellsFault (ProgramFaultAt ts) 0)) c.items-items.ensures c.read.ensures.fault)
 
 pub read-requires-clause-nodes : goal.read-requires-clause-nodes
 read-requires-clause-nodes c = subst (λ n. n ≤ 64) (sym (ap (λ t. t.nodes) c.in_ok-tables.ensures)) (nodes_le (map tree_of c.items-items.result.now))

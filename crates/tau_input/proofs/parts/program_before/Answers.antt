@@ -2,7 +2,7 @@ use Rattle.std.proofs.Common.{◌≡◌, take, codes, ap, ◌∙◌, subst, arit
 use Rattle.std.specs.Prelude.{IfOk, IfErr}
 use Rattle.tau_sexpr.specs.Tree.{depths}
 use Rattle.tau_forms.specs.Meaning.{Means}
-use Rattle.tau_input.specs.Errors.{Tells}
+use Rattle.tau_input.specs.Errors.{TellsInputFault}
 use Rattle.tau_input.specs.Faults.{ProgramFault}
 use Rattle.tau_input.specs.Parts.{program_forms}
 use Rattle.tau_input.proofs.PartLemmas.{before_le, before_taken, before_depth}
@@ -24,4 +24,4 @@ returns-clause-program c =
 pub returns-clause-fault : goal.returns-clause-fault
 returns-clause-fault c =
     let front : c.in_ok-front.front ≡ program_forms c.args.forms.now = c.in_ok-front.ensures ∙ ap (λ n. take n c.args.forms.now) c.requires.mark ∙ before_taken (codes "trace") c.args.forms.now in
-    subst (λ ts. IfErr c.whole_program.result (Tells (ProgramFault ts))) front c.whole_program.ensures.fault
+    subst (λ ts. IfErr c.whole_program.result (TellsInputFault (ProgramFault ts))) front c.whole_program.ensures.fault

@@ -1,6 +1,6 @@
 use Rattle.std.proofs.Common.{drop, sym, subst, ap, ◌∙◌}
 use Rattle.std.proofs.lemmas.Result.{err_from_is_err_and}
-use Rattle.tau_sexpr.specs.Reader.{outside, run, stack_of, Tells}
+use Rattle.tau_sexpr.specs.Reader.{outside, run, stack_of, TellsFormFault}
 use Rattle.tau_sexpr.specs.declared.bytes.ByteKind.TheVariants.{Blank, Opening, Closing, Quote, Other}
 use Rattle.tau_sexpr.proofs.PlaceLemmas.{outside_at, comment_read, tells_step, step_on}
 use Rattle.tau_sexpr.proofs.reader.read_token.Goals as goal
@@ -19,7 +19,7 @@ pub returns-in_err-text-in-Quote-clause-err : goal.returns-in_err-text-in-Quote-
 returns-in_err-text-in-Quote-clause-err c =
     let p = err_from_is_err_and c.from_residual-in_err-text-in-Quote.result c.from_residual-in_err-text-in-Quote.ensures.1 in
     rw (p.1, p.2)
-    (subst (Tells _) (sym (outside_at c.args.bytes.now c.args.at (stack_of c.args.held.now) Quote c.requires (sym c.kind.ensures ∙ c.in-Quote.is))) (c.in_err-text-in-Quote.ensures.err (stack_of c.args.held.now)))
+    (subst (TellsFormFault _) (sym (outside_at c.args.bytes.now c.args.at (stack_of c.args.held.now) Quote c.requires (sym c.kind.ensures ∙ c.in-Quote.is))) (c.in_err-text-in-Quote.ensures.err (stack_of c.args.held.now)))
 
 pub returns-in-Blank-clause-ok : goal.returns-in-Blank-clause-ok
 returns-in-Blank-clause-ok c = outside_at c.args.bytes.now c.args.at (stack_of c.args.held.now) Blank c.requires (sym c.kind.ensures ∙ c.in-Blank.is)

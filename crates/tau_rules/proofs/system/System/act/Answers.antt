@@ -5,7 +5,7 @@ use Rattle.tau_tree.specs.declared.programs.Program.{Program}
 use Rattle.tau_trace.specs.Run.{Run, len}
 use Rattle.tau_trace.specs.Turns.{IsOpenTurn}
 use Rattle.tau_eval.specs.Effect.{eff_of}
-use Rattle.tau_eval.specs.Turn.{Turn, IsTurnOf}
+use Rattle.tau_eval.specs.Turn.{TurnSoFar, IsTurnOf}
 use Rattle.tau_rules.specs.declared.records.Record.{Record}
 use Rattle.tau_rules.specs.Records.{IsRecord}
 use Rattle.tau_rules.specs.System.{Core}
@@ -54,7 +54,7 @@ returns-then-not-is_record-clause-ok g c =
     let T : Run = c.self.inside.trace.run in
     let t : ℕ = c.in-Some.who in
     let r : Record = c.index-own.result.now in
-    let job : Turn = c.in_ok-job_of.field-0 in
+    let job : TurnSoFar = c.in_ok-job_of.field-0 in
     let taker : IsTaker T c.turn-turn.result (Some t) = c.in-Some.ensures in
     let own : IsRecord P T t r = taker_record P T c.self.inside.records.items c.self.invariant.0.well_formed c.self.invariant.0.records_are t c.turn-turn.result taker r c.index-own.ensures in
     let opened : IsOpenTurn T t (len T) (Some c.turn-turn.result) = c.is_open.ensures.0 c.if-not-is_open.false in
@@ -76,7 +76,7 @@ make_step-requires-clause-effect g c =
     let T : Run = c.self.inside.trace.run in
     let t : ℕ = c.in-Some.who in
     let r : Record = c.index-own.result.now in
-    let job : Turn = c.args.pending.now in
+    let job : TurnSoFar = c.args.pending.now in
     let taker : IsTaker T c.turn-turn.result (Some t) = c.in-Some.ensures in
     let own : IsRecord P T t r = taker_record P T c.self.inside.records.items c.self.invariant.0.well_formed c.self.invariant.0.records_are t c.turn-turn.result taker r c.index-own.ensures in
     let opened : IsOpenTurn T t (len T) (Some job.place) = subst (λ p. IsOpenTurn T t (len T) (Some p)) c.turn-turn.ensures (c.is_open.ensures.0 c.if-not-is_open.false) in
@@ -90,7 +90,7 @@ returns-clause-ok g c =
     let T : Run = c.self.inside.trace.run in
     let t : ℕ = c.in-Some.who in
     let r : Record = c.index-own.result.now in
-    let job : Turn = c.args.pending.now in
+    let job : TurnSoFar = c.args.pending.now in
     let taker : IsTaker T c.turn-turn.result (Some t) = c.in-Some.ensures in
     let own : IsRecord P T t r = taker_record P T c.self.inside.records.items c.self.invariant.0.well_formed c.self.invariant.0.records_are t c.turn-turn.result taker r c.index-own.ensures in
     let opened : IsOpenTurn T t (len T) (Some job.place) = subst (λ p. IsOpenTurn T t (len T) (Some p)) c.turn-turn.ensures (c.is_open.ensures.0 c.if-not-is_open.false) in

@@ -2,8 +2,9 @@ use Rattle.std.proofs.Common.{◌≡◌, ◌<◌, ◌^◌, ◌∙◌, ap, length
 use Rattle.tau_trace.specs.Run.{Run, len}
 use Rattle.tau_trace.specs.Known.{MayFollow}
 use Rattle.tau_trace.specs.Steps.{removed_by, actor}
-use Rattle.tau_trace.specs.Stored.{number_made, transactors_after, messages_after, with_new, with_sent, noted_of, removed_of}
+use Rattle.tau_trace.specs.Stored.{transactors_after, messages_after, with_new, with_sent, noted_of, removed_of}
 use Rattle.tau_trace.proofs.Indexing.{index_appended, few_transactors, few_numbers, noted_count}
+use Rattle.tau_trace.specs.Numbering.{number_made}
 use Rattle.tau_trace.proofs.trace.Trace.push_spare.Goals as goal
 
 pub overflow_cast-number : goal.overflow_cast-number
