@@ -14,7 +14,7 @@ use Rattle.tau_scripted.proofs.DeliverableLemmas.{contains_any}
 use Rattle.tau_book.specs.Hands.{is_of}
 use Rattle.tau_book.specs.Books.{AreOfDifferentTurns}
 use Rattle.tau_book.specs.Offers.{open_jobs, without}
-use Rattle.tau_book.specs.Returns.{AreOfTurns}
+use Rattle.tau_book.specs.Inner.Returns.{AreOfTurns}
 
 -- Numbers that differ are no more than those among which they are.
 

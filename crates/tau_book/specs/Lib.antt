@@ -4,5 +4,4 @@ pub mod Offers
 pub mod Nexts
 pub mod Tolds
 pub mod Places
-pub mod Jobs
-pub mod Returns
+pub mod Inner

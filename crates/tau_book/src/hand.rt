@@ -6,7 +6,7 @@ ghost use Rattle.rand_pcg.specs.Pcg.{pcg32, pcg32_of_seed};
 ghost use Rattle.tau_book.specs.Hands.{joined, IsNumbered};
 ghost use Rattle.tau_book.specs.Books.{AreOfDifferentTurns};
 ghost use Rattle.tau_book.specs.Offers.{open_jobs, stored};
-ghost use Rattle.tau_book.specs.Returns.{AreOfTurns};
+ghost use Rattle.tau_book.specs.Inner.Returns.{AreOfTurns};
 ghost use Rattle.tau_book.specs.Nexts.{begun_with};
 
 use crate::jobs::{count_open, keep_open, place_of_number};

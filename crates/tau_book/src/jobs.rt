@@ -6,7 +6,7 @@ ghost use Rattle.tau_eval.specs.Turn.{TurnSoFar};
 ghost use Rattle.tau_book.specs.Hands.{is_earlier, is_of};
 ghost use Rattle.tau_book.specs.Books.{AreOfDifferentTurns};
 ghost use Rattle.tau_book.specs.Offers.{open_jobs, earliest, without};
-ghost use Rattle.tau_book.specs.Jobs.{IsEarliestFrom};
+ghost use Rattle.tau_book.specs.Inner.Jobs.{IsEarliestFrom};
 
 use tau_eval::Job;
 

@@ -5,7 +5,7 @@ ghost use Rattle.std.specs.Vec.{vec_capacity};
 ghost use Rattle.tau_book.specs.Hands.{is_of};
 ghost use Rattle.tau_book.specs.Books.{AreOfDifferentTurns};
 ghost use Rattle.tau_book.specs.Offers.{stored};
-ghost use Rattle.tau_book.specs.Returns.{AreOfTurns};
+ghost use Rattle.tau_book.specs.Inner.Returns.{AreOfTurns};
 
 use tau_eval::Job;
 

@@ -18,7 +18,7 @@ use Rattle.tau_legal.proofs.TraceLemmas.{legal_same}
 use Rattle.tau_eval.specs.Turn as jobs
 use Rattle.tau_rules.specs.System.{Core}
 use Rattle.tau_check.specs.Legality.{IsFirstIllegal}
-use Rattle.tau_check.specs.Checkers.{IsChecker, GoesOn, HasCome}
+use Rattle.tau_check.specs.Inner.Checkers.{IsChecker, GoesOn, HasCome}
 use Rattle.tau_check.proofs.Endings.{last_step}
 
 -- lists with the same items are the same

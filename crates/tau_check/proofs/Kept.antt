@@ -11,7 +11,7 @@ use Rattle.tau_trace.specs.Turns.{Turn, IsOpenTurn}
 use Rattle.tau_trace.proofs.Lists.{same_some}
 use Rattle.tau_script.specs.Scripts.{HasObject, fails, loses}
 use Rattle.tau_eval.specs.Turn as jobs
-use Rattle.tau_check.specs.Jobs.{HasJobOf, HasJobs, HasOtherJobs, KeepsOthers}
+use Rattle.tau_check.specs.Inner.Jobs.{HasJobOf, HasJobs, HasOtherJobs, KeepsOthers}
 use Rattle.tau_check.proofs.Turns.{BeginsNone, earlier, ended}
 use Rattle.tau_check.proofs.JobLemmas.{job_kept}
 

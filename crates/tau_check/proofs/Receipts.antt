@@ -22,8 +22,8 @@ use Rattle.tau_rules.specs.declared.answers.Delivered.TheVariants.{Began, Droppe
 use Rattle.tau_rules.specs.Answers.{IsOpenJob, IsDelivered}
 use Rattle.tau_rules.proofs.IdleLemmas.{ended_idle}
 use Rattle.tau_check.specs.Families.{received_by}
-use Rattle.tau_check.specs.Jobs.{HasJobs, IsKeptBegun}
-use Rattle.tau_check.specs.Checkers.{HasAsked, GoesOn}
+use Rattle.tau_check.specs.Inner.Jobs.{HasJobs, IsKeptBegun}
+use Rattle.tau_check.specs.Inner.Checkers.{HasAsked, GoesOn}
 use Rattle.tau_check.proofs.Turns.{BeginsNone}
 use Rattle.tau_check.proofs.Kept.{all_jobs, others_after, jobs_after_idle}
 use Rattle.tau_check.proofs.FamilyLemmas.{one_receipt}

@@ -20,8 +20,8 @@ use Rattle.tau_eval.specs.Turn as jobs
 use Rattle.tau_rules.specs.System.{Core, with_step}
 use Rattle.tau_rules.specs.Answers.{IsOpenJob, IsStepped, IsRedone, NoTurnFrom}
 use Rattle.tau_check.specs.Families.{turn_of}
-use Rattle.tau_check.specs.Jobs.{HasJobOf, HasJobs, HasOtherJobs, KeepsOthers, IsTurnStep, IsKeptAfter}
-use Rattle.tau_check.specs.Checkers.{HasAsked, GoesOn}
+use Rattle.tau_check.specs.Inner.Jobs.{HasJobOf, HasJobs, HasOtherJobs, KeepsOthers, IsTurnStep, IsKeptAfter}
+use Rattle.tau_check.specs.Inner.Checkers.{HasAsked, GoesOn}
 use Rattle.tau_check.proofs.Kept.{all_jobs, others_after, jobs_after_end}
 use Rattle.tau_check.proofs.JobLemmas.{job_once}
 use Rattle.tau_check.proofs.FamilyLemmas.{of_effect, one_turn_step}

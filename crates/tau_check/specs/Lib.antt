@@ -1,4 +1,3 @@
 pub mod Legality
 pub mod Families
-pub mod Jobs
-pub mod Checkers
+pub mod Inner

@@ -1,7 +1,7 @@
 //! The jobs of open turns, each at the place of its transactor.
 ghost use Rattle.std.specs.Prelude.{◌≡◌, ◌≤◌, ℕ, Option, Some, OnOk, slice_get, length};
 ghost use Rattle.tau_eval.specs.Turn as turns;
-ghost use Rattle.tau_check.specs.Jobs.{IsKeptFor, KeepsOthers, IsKeptWith, IsKeptBegun, IsKeptAfter};
+ghost use Rattle.tau_check.specs.Inner.Jobs.{IsKeptFor, KeepsOthers, IsKeptWith, IsKeptBegun, IsKeptAfter};
 
 use std::alloc::AllocError;
 use tau_eval::{Job, Pending};

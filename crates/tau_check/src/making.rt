@@ -8,7 +8,7 @@ ghost use Rattle.tau_script.specs.Openings.{program_opening};
 ghost use Rattle.tau_script.specs.Scripts.{HasObject};
 ghost use Rattle.tau_rules.specs.System.{with_step};
 ghost use Rattle.tau_rules.specs.Answers.{IsOpenJob};
-ghost use Rattle.tau_check.specs.Jobs.{IsTurnStep};
+ghost use Rattle.tau_check.specs.Inner.Jobs.{IsTurnStep};
 
 use std::alloc::AllocError;
 use tau_compact::PrunedView;

@@ -10,7 +10,7 @@ use Rattle.tau_view.specs.Held.{Held, Points, fate_in, is_firm, only}
 use Rattle.tau_view.specs.Past.{Link, OpenLink, KnownPast, PastUpToClosed, FallenIn, NotFirmIn, SomeFallen, Settled}
 use Rattle.tau_view.proofs.Sets.{same_self}
 use Rattle.tau_fate.specs.Least.{IsLeast, IsLeastIfAny}
-use Rattle.tau_fate.specs.Found.{IsFound, FallenAmong, NotFirmAmong}
+use Rattle.tau_fate.specs.Inner.Found.{IsFound, FallenAmong, NotFirmAmong}
 
 -- a fate is Closed or isn't
 closed_or_not : (f : Fate) → (f ≡ Closed) ⊎ (f ≢ Closed)

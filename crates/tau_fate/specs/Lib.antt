@@ -1,4 +1,4 @@
 pub mod Least
 pub mod Decisions
-pub mod Found
 pub mod DecisionKinds
+pub mod Inner

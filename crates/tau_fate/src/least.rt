@@ -8,7 +8,7 @@ ghost use Rattle.tau_view.specs.Held.{fate_in, is_firm, only};
 ghost use Rattle.tau_view.specs.Past.{FallenIn, NotFirmIn, SomeFallen, Settled};
 ghost use Rattle.tau_view.specs.Stored.{point_in};
 ghost use Rattle.tau_fate.specs.Least.{IsLeastIfAny};
-ghost use Rattle.tau_fate.specs.Found.{IsFound, FallenAmong, NotFirmAmong};
+ghost use Rattle.tau_fate.specs.Inner.Found.{IsFound, FallenAmong, NotFirmAmong};
 
 use std::alloc::{AllocError, Global};
 use tau_history::Fate;

@@ -9,11 +9,11 @@ use Rattle.tau_sexpr.specs.Tree.{Tree, Trees, word, text, list, none, more}
 use Rattle.tau_sexpr.specs.declared.trees.Form.{Form}
 use Rattle.tau_sexpr.specs.declared.trees.Form.TheVariants as trees
 use Rattle.tau_value.specs.Numbers.{count_in, capped}
-use Rattle.tau_forms.specs.Build.{HasParts}
-use Rattle.tau_forms.specs.Building.{behaviour_items, start_items, post_items, entry_items, failure_entry, behaviour_told, start_told, post_told, entry_told, IsTopForm, TellsBehaviour, TellsStart, TellsPost, TellsEntry, TellsFailure, HasBuilt}
+use Rattle.tau_forms.specs.Inner.Build.{HasParts}
+use Rattle.tau_forms.specs.Inner.Building.{behaviour_items, start_items, post_items, entry_items, failure_entry, behaviour_told, start_told, post_told, entry_told, IsTopForm, TellsBehaviour, TellsStart, TellsPost, TellsEntry, TellsFailure, HasBuilt}
 use Rattle.tau_forms.specs.Keywords.{sort_in, failure_in}
 use Rattle.tau_forms.specs.Meaning.{PlainProgram, program_in, plain_start, plain_post, count_of, behaviour_in, start_in, post_in, entry_in, entry_of, failure_of}
-use Rattle.tau_forms.specs.Passing.{is_headed}
+use Rattle.tau_forms.specs.Inner.Passing.{is_headed}
 use Rattle.tau_forms.specs.Roles as roles
 use Rattle.tau_forms.specs.Tops.{is_behaviour, is_start, is_post, is_entry, tables_of}
 use Rattle.tau_forms.specs.declared.build.Parts.{Parts}

@@ -9,7 +9,7 @@ use Rattle.tau_tree.specs.Code.{Code, unit, get, stabilize, checkpoint, rollback
 use Rattle.tau_forms.specs.declared.keywords.Keyword.{Keyword}
 use Rattle.tau_forms.specs.declared.keywords.Keyword.TheVariants as keywords
 use Rattle.tau_forms.specs.declared.tables.Tables.{Tables}
-use Rattle.tau_forms.specs.Build.{IsLong, head_in}
+use Rattle.tau_forms.specs.Inner.Build.{IsLong, head_in}
 use Rattle.tau_forms.specs.Meaning.{list_code, code_in, codes_in}
 
 -- more than four forms

@@ -13,7 +13,7 @@ use Rattle.tau_forms.specs.declared.keywords.Sort.TheVariants as sorts
 use Rattle.tau_forms.specs.declared.tables.Defined.{Defined}
 use Rattle.tau_forms.specs.declared.tables.Definition.{Definition}
 use Rattle.tau_forms.specs.declared.tables.Definition.TheVariants as definitions
-use Rattle.tau_forms.specs.Defined.{IsDefined, Defines, name_told, nodes_told, behaviour_name, start_name, nodes_number}
+use Rattle.tau_forms.specs.Inner.Defined.{IsDefined, Defines, name_told, nodes_told, behaviour_name, start_name, nodes_number}
 use Rattle.tau_forms.specs.Keywords.{sort_in}
 use Rattle.tau_forms.specs.Tops.{sort_of, is_nodes, is_behaviour, is_start, named_by, name_in, with_name, defined_after, behaviours_of, starts_of, is_count_in, nodes_in, nodes_of, count_of, has}
 use Rattle.tau_forms.proofs.WordLemmas.{placed}

@@ -8,9 +8,9 @@ use Rattle.tau_forms.specs.declared.rows.Row.{Row}
 use Rattle.tau_forms.specs.declared.tables.Tables.{Tables}
 use Rattle.tau_forms.specs.declared.wanted.Wanted.{Wanted}
 use Rattle.tau_forms.specs.Faults.{Fault, FaultAt, FaultIn, IsClean}
-use Rattle.tau_forms.specs.Passing.{TellsFault, Passes, roles_along, roles_of}
+use Rattle.tau_forms.specs.Inner.Passing.{TellsFault, Passes, roles_along, roles_of}
 use Rattle.tau_forms.specs.Roles.{Role, value, row}
-use Rattle.tau_forms.specs.Wanted.{role_of}
+use Rattle.tau_forms.specs.Inner.Wanted.{role_of}
 use Rattle.tau_forms.proofs.ListLemmas.{left, left_item, left_all}
 use Rattle.tau_forms.proofs.PassLemmas.{Shift, shift_none, shift_both, shift_clean, shift_tells, item_shift, item_tells, no_items_clean, list_shift, no_row_tells}
 use Rattle.tau_forms.proofs.RowLemmas.{roles_step}

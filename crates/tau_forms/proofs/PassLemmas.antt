@@ -9,9 +9,9 @@ use Rattle.tau_forms.specs.declared.tables.Tables.{Tables}
 use Rattle.tau_forms.specs.declared.wanted.FaultKind.{FaultKind}
 use Rattle.tau_forms.specs.declared.wanted.FaultKind.TheVariants as kinds
 use Rattle.tau_forms.specs.Faults.{Fault, shape, unknown, twice, of_value, unless, own_fault, list_fault, FaultAt, FaultIn, itself, in_value, in_item, here, later, IsClean, IsFirst}
-use Rattle.tau_forms.specs.Passing.{TellsFault, Passes, PassesNode, error_at}
+use Rattle.tau_forms.specs.Inner.Passing.{TellsFault, Passes, PassesNode, error_at}
 use Rattle.tau_forms.specs.Roles.{Role, top, first, mark, known, fresh, count, failure, value, expression, two_names, row}
-use Rattle.tau_forms.specs.Wanted.{fault_in}
+use Rattle.tau_forms.specs.Inner.Wanted.{fault_in}
 
 -- the faults of F are those of G, so many nodes later
 pub record Shift (F G : ℕ → Fault → Type 0) (d : ℕ) : Type 0 where

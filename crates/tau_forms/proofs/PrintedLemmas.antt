@@ -14,7 +14,7 @@ use Rattle.tau_tree.specs.declared.posts.Post.{Post}
 use Rattle.tau_tree.specs.declared.programs.Program.{Program}
 use Rattle.tau_tree.specs.declared.starts.Start.{Start}
 use Rattle.tau_value.specs.Value.{val_of}
-use Rattle.tau_forms.specs.Fitting.{HasFittingInteger, HasFittingNumbers, IsWritten, IsFitting}
+use Rattle.tau_forms.specs.Inner.Fitting.{HasFittingInteger, HasFittingNumbers, IsWritten, IsFitting}
 use Rattle.tau_forms.specs.Printed.{code_form, code_forms}
 
 pub code_forms-inside : (bs ss : List (List ℕ)) (cs : List Code) → code_forms bs ss (code.inside cs) ≡ inside (map (code_form bs ss) cs)

@@ -13,7 +13,7 @@ use Rattle.tau_forms.specs.declared.keywords.Sort.{Sort}
 use Rattle.tau_forms.specs.Faults.{Fault, shape, unknown, twice, ProgramFaultAt, IsClean, IsFirst, IsFault}
 use Rattle.tau_forms.specs.Keywords.{sort_in}
 use Rattle.tau_forms.specs.Meaning.{Means, plain_of, program_in}
-use Rattle.tau_forms.specs.Passing.{TellsFault, PassesForms, IsRead}
+use Rattle.tau_forms.specs.Inner.Passing.{TellsFault, PassesForms, IsRead}
 use Rattle.tau_forms.specs.Tops.{sort_of, is_nodes, is_behaviour, is_start, is_post, is_entry, has, name_in, named_by, with_name, defined_after, starts_of, is_count_in, nodes_in, nodes_of, count_of, limit_of}
 use Rattle.tau_forms.proofs.DefinedLemmas.{count_push}
 

@@ -18,7 +18,7 @@ use Rattle.tau_tree.specs.declared.expressions.Operation.TheVariants as prims
 use Rattle.tau_forms.specs.declared.keywords.Keyword.{Keyword}
 use Rattle.tau_forms.specs.declared.keywords.Keyword.TheVariants as keywords
 use Rattle.tau_forms.specs.declared.tables.Tables.{Tables}
-use Rattle.tau_forms.specs.Fitting.{HasFittingInteger}
+use Rattle.tau_forms.specs.Inner.Fitting.{HasFittingInteger}
 use Rattle.tau_forms.specs.Keywords.{keyword_in}
 use Rattle.tau_forms.specs.Tops.{has}
 use Rattle.tau_forms.specs.Roles.{Role, first, known, fresh, expression, two_names, every, count_of, word_of, names_in, has_items, parts_of}

@@ -31,7 +31,7 @@ use Rattle.tau_tree.proofs.SoundLemmas.{All-unmap, PassesChecks, checks_from_sou
 use Rattle.tau_tree.proofs.SplitLemmas.{throughout_both}
 use Rattle.tau_forms.specs.declared.keywords.Sort.{Sort}
 use Rattle.tau_forms.specs.declared.tables.Tables.{Tables}
-use Rattle.tau_forms.specs.Fitting.{HasFittingInteger, HasFittingNumbers, HasFittingMessage, IsWritten, IsFitting}
+use Rattle.tau_forms.specs.Inner.Fitting.{HasFittingInteger, HasFittingNumbers, HasFittingMessage, IsWritten, IsFitting}
 use Rattle.tau_forms.specs.Tops.{is_behaviour, is_start, is_post, is_entry, is_nodes, named_by, with_name, defined_after, is_count_in, nodes_in, nodes_of, behaviours_of, starts_of, tables_of, count_of, limit_of}
 use Rattle.tau_forms.specs.Roles.{top}
 use Rattle.tau_forms.specs.Faults.{Fault, FaultAt, FaultIn, tops_after, ProgramFaultAt, in_top, no_nodes, IsClean}

@@ -19,7 +19,7 @@ use Rattle.tau_tree.specs.declared.posts.Post.{Post}
 use Rattle.tau_tree.specs.declared.starts.Start.{Start}
 use Rattle.tau_forms.specs.declared.keywords.Sort.{Sort}
 use Rattle.tau_forms.specs.declared.tables.Tables.{Tables}
-use Rattle.tau_forms.specs.Fitting.{HasFittingNumbers, HasFittingMessage}
+use Rattle.tau_forms.specs.Inner.Fitting.{HasFittingNumbers, HasFittingMessage}
 use Rattle.tau_forms.specs.Tops.{sort_of, is_behaviour, is_start, has, named_by, with_name, defined_after, is_count_in, nodes_in, nodes_of, behaviours_of, starts_of, count_of}
 use Rattle.tau_forms.specs.Roles.{Role, top, first, mark, known, fresh, count, failure, value, expression, with_first, top_first, top_items, row}
 use Rattle.tau_forms.specs.Faults.{Fault, shape, unless, FaultAt, FaultIn, here, later, IsClean, tops_after}

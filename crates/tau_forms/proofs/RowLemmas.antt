@@ -12,9 +12,9 @@ use Rattle.tau_forms.specs.declared.tables.Tables.{Tables}
 use Rattle.tau_forms.specs.declared.wanted.Wanted.{Wanted}
 use Rattle.tau_forms.specs.declared.wanted.Wanted.TheVariants as wanteds
 use Rattle.tau_forms.specs.Keywords.{keyword_in, failure_in}
-use Rattle.tau_forms.specs.Passing.{is_headed, roles_along, bound_by}
+use Rattle.tau_forms.specs.Inner.Passing.{is_headed, roles_along, bound_by}
 use Rattle.tau_forms.specs.Roles.{Role, top, first, known, fresh, count, failure, value, expression, two_names, row, every, count_of, word_of, words_of, names_in, with_first, failure_items, has_items, expression_items, parts_of}
-use Rattle.tau_forms.specs.Wanted.{role_of}
+use Rattle.tau_forms.specs.Inner.Wanted.{role_of}
 
 pub count_of-inside : (fs : List Form) → count_of (inside (map tree_of fs)) ≡ length fs
 count_of-inside [] = refl

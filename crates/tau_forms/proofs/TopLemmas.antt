@@ -11,10 +11,10 @@ use Rattle.tau_forms.specs.declared.keywords.Sort.{Sort}
 use Rattle.tau_forms.specs.declared.keywords.Sort.TheVariants as sorts
 use Rattle.tau_forms.specs.declared.tables.Tables.{Tables}
 use Rattle.tau_forms.specs.declared.wanted.FaultKind.TheVariants as kinds
-use Rattle.tau_forms.specs.Defined.{nodes_told}
+use Rattle.tau_forms.specs.Inner.Defined.{nodes_told}
 use Rattle.tau_forms.specs.Faults.{Fault, shape, unknown, twice, FaultAt, FaultIn, tops_after, ProgramFaultAt, in_top, no_nodes, IsClean, IsFirst}
 use Rattle.tau_forms.specs.Keywords.{sort_in}
-use Rattle.tau_forms.specs.Passing.{TellsFault, Passes, has_top_items, nodes_first}
+use Rattle.tau_forms.specs.Inner.Passing.{TellsFault, Passes, has_top_items, nodes_first}
 use Rattle.tau_forms.specs.Roles.{Role, top, first, mark, value, row, top_items, top_first, with_first, count_of}
 use Rattle.tau_forms.specs.Tops.{is_nodes, nodes_in, nodes_of, tables_of}
 use Rattle.tau_forms.proofs.DefinedLemmas.{nodes_in_list}

@@ -10,7 +10,7 @@ use Rattle.tau_forms.specs.declared.wanted.FaultKind.TheVariants as kinds
 use Rattle.tau_forms.specs.Faults.{Fault, shape, unknown, twice, unless, is_constant, word_fault}
 use Rattle.tau_forms.specs.Roles.{known, fresh, expression}
 use Rattle.tau_forms.specs.Tops.{has}
-use Rattle.tau_forms.specs.Wanted.{fault_in}
+use Rattle.tau_forms.specs.Inner.Wanted.{fault_in}
 
 one_more : (n m : ℕ) → ltb (1 + n) (m + 1) ≡ ltb n m
 one_more n m = grind (arith, nat_tests)

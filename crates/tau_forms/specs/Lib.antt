@@ -4,11 +4,5 @@ pub mod Roles
 pub mod Faults
 pub mod Meaning
 pub mod Printed
-pub mod Scopes
-pub mod Wanted
-pub mod Passing
-pub mod Defined
-pub mod Build
-pub mod Building
-pub mod Fitting
 pub mod Laws
+pub mod Inner

@@ -5,7 +5,7 @@ ghost use Rattle.tau_sexpr.specs.Tree.{word, list, none, more, inside};
 ghost use Rattle.tau_tree.specs.Code.{unit, inside as codes};
 ghost use Rattle.tau_tree.specs.Expr.{code_of, codes_of};
 ghost use Rattle.tau_forms.specs.Meaning.{number_of as number_in, word_code, list_code, code_in, codes_in};
-ghost use Rattle.tau_forms.specs.Build.{HasParts, head_in, two_words_in};
+ghost use Rattle.tau_forms.specs.Inner.Build.{HasParts, head_in, two_words_in};
 
 use crate::keywords::{Keyword, keyword_of};
 use crate::tables::Tables;

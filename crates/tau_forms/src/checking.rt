@@ -4,10 +4,10 @@ ghost use Rattle.tau_sexpr.specs.Form.{tree_of};
 ghost use Rattle.tau_sexpr.specs.Tree.{inside, list as list_tree, size_of, size_of_all};
 ghost use Rattle.tau_forms.specs.Faults.{FaultAt};
 ghost use Rattle.tau_forms.specs.Keywords.{keyword_in};
-ghost use Rattle.tau_forms.specs.Passing.{Passes, PassesNode, IsRow, IsExpression, bound_by};
+ghost use Rattle.tau_forms.specs.Inner.Passing.{Passes, PassesNode, IsRow, IsExpression, bound_by};
 ghost use Rattle.tau_forms.specs.Roles.{Role, value, expression, names_in, words_of};
-ghost use Rattle.tau_forms.specs.Scopes.{names_of};
-ghost use Rattle.tau_forms.specs.Wanted.{role_of};
+ghost use Rattle.tau_forms.specs.Inner.Scopes.{names_of};
+ghost use Rattle.tau_forms.specs.Inner.Wanted.{role_of};
 ghost use Rattle.tau_forms.specs.declared.keywords.Keyword.TheVariants as keywords;
 ghost use Rattle.tau_forms.specs.declared.tables.Tables.{Tables};
 

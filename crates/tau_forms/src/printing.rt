@@ -7,7 +7,7 @@ ghost use Rattle.tau_value.specs.Value.{val_of};
 ghost use Rattle.tau_value.specs.Written.{written, count_form};
 ghost use Rattle.tau_tree.specs.Parts.{Throughout};
 ghost use Rattle.tau_tree.specs.Sound.{Sound, behaviour_names as names_of_behaviours, start_names as names_of_starts};
-ghost use Rattle.tau_forms.specs.Fitting.{HasFittingInteger, HasFittingNumbers, IsFitting, IsWritten};
+ghost use Rattle.tau_forms.specs.Inner.Fitting.{HasFittingInteger, HasFittingNumbers, IsFitting, IsWritten};
 ghost use Rattle.tau_forms.specs.Meaning.{Means};
 ghost use Rattle.tau_forms.specs.Printed.{printed, behaviour_form, start_form, post_form, failure_form, entry_form};
 

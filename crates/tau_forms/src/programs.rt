@@ -5,7 +5,7 @@ ghost use Rattle.tau_sexpr.specs.Form.{tree_of};
 ghost use Rattle.tau_sexpr.specs.Tree.{Tree, inside};
 ghost use Rattle.tau_value.specs.Meaning.{counted};
 ghost use Rattle.tau_value.specs.Value.{val_of};
-ghost use Rattle.tau_forms.specs.Building.{HasBuilt, IsTopForm, TellsBehaviour, TellsEntry, TellsFailure, TellsPost, TellsStart, entry_part, post_part, start_part};
+ghost use Rattle.tau_forms.specs.Inner.Building.{HasBuilt, IsTopForm, TellsBehaviour, TellsEntry, TellsFailure, TellsPost, TellsStart, entry_part, post_part, start_part};
 ghost use Rattle.tau_forms.specs.Meaning.{code_in, count_of as count_meant, plain_of, plain_post, plain_start, program_in};
 ghost use Rattle.tau_forms.specs.Tops.{tables_of};
 ghost use Rattle.tau_forms.specs.declared.tables.Tables.{Tables};

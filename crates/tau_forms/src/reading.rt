@@ -5,7 +5,7 @@ ghost use Rattle.tau_sexpr.specs.Tree.{depths, inside, size_of_all};
 ghost use Rattle.tau_tree.specs.Sound.{Sound};
 ghost use Rattle.tau_forms.specs.Faults.{IsFault, ProgramFaultAt};
 ghost use Rattle.tau_forms.specs.Meaning.{Means};
-ghost use Rattle.tau_forms.specs.Passing.{IsRead, TellsFault};
+ghost use Rattle.tau_forms.specs.Inner.Passing.{IsRead, TellsFault};
 ghost use Rattle.tau_forms.specs.Tops.{tables_of};
 
 use crate::ProgramError;

@@ -3,10 +3,10 @@ ghost use Rattle.std.specs.Prelude.{◌≡◌, [], ◌∷◌, true, ◌++◌, �
 ghost use Rattle.tau_sexpr.specs.Form.{tree_of};
 ghost use Rattle.tau_sexpr.specs.Tree.{Tree, Trees, inside, none, more};
 ghost use Rattle.tau_tree.specs.Parts.{arity as arity_of};
-ghost use Rattle.tau_forms.specs.Passing.{IsHeaded, IsRow, roles_of, bound_by};
+ghost use Rattle.tau_forms.specs.Inner.Passing.{IsHeaded, IsRow, roles_of, bound_by};
 ghost use Rattle.tau_forms.specs.Roles.{failure, first, count, two_names, has_items as items_test, count_of, parts_of};
-ghost use Rattle.tau_forms.specs.Scopes.{names_of};
-ghost use Rattle.tau_forms.specs.Wanted.{role_of};
+ghost use Rattle.tau_forms.specs.Inner.Scopes.{names_of};
+ghost use Rattle.tau_forms.specs.Inner.Wanted.{role_of};
 
 use crate::keywords::{FailureWord, Keyword, failure_of};
 use crate::scopes::Scope;

@@ -3,7 +3,7 @@ ghost use Rattle.std.specs.Prelude.{◌≡◌, map};
 ghost use Rattle.tau_sexpr.specs.Form.{tree_of};
 ghost use Rattle.tau_sexpr.specs.Tree.{inside};
 ghost use Rattle.tau_forms.specs.Roles.{word_of, words_of};
-ghost use Rattle.tau_forms.specs.Scopes.{names_of};
+ghost use Rattle.tau_forms.specs.Inner.Scopes.{names_of};
 ghost use Rattle.tau_forms.specs.Tops.{has as is_among};
 
 use tau_sexpr::{Form, Word};

@@ -2,7 +2,7 @@
 ghost use Rattle.std.specs.Prelude.{◌≡◌, [], ◌∷◌, ◌++◌, List, Some, map, option_map, IfOk, OnOk};
 ghost use Rattle.tau_sexpr.specs.Form.{tree_of};
 ghost use Rattle.tau_sexpr.specs.Tree.{Tree, inside};
-ghost use Rattle.tau_forms.specs.Defined.{Defines, IsDefined, name_told as name_in_items, nodes_told as nodes_in_items};
+ghost use Rattle.tau_forms.specs.Inner.Defined.{Defines, IsDefined, name_told as name_in_items, nodes_told as nodes_in_items};
 ghost use Rattle.tau_forms.specs.Tops.{sort_of as sort_in_tree, tables_of, with_name};
 
 use crate::keywords::{Sort, sort_of};

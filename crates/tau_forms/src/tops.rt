@@ -2,13 +2,13 @@
 ghost use Rattle.std.specs.Prelude.{◌≡◌, ◌≢◌, ◌+◌, ◌<◌, ◌≤◌, ◌^◌, [], true, List, length, map, Some};
 ghost use Rattle.tau_sexpr.specs.Form.{tree_of};
 ghost use Rattle.tau_sexpr.specs.Tree.{Tree, Trees, inside, list as list_tree, more, size_of, size_of_all};
-ghost use Rattle.tau_forms.specs.Defined.{IsDefined, nodes_told as nodes_in_items};
+ghost use Rattle.tau_forms.specs.Inner.Defined.{IsDefined, nodes_told as nodes_in_items};
 ghost use Rattle.tau_forms.specs.Faults.{FaultAt};
-ghost use Rattle.tau_forms.specs.Passing.{IsRow, Passes, PassesForms, has_top_items as top_items_test, nodes_first, roles_of};
+ghost use Rattle.tau_forms.specs.Inner.Passing.{IsRow, Passes, PassesForms, has_top_items as top_items_test, nodes_first, roles_of};
 ghost use Rattle.tau_forms.specs.Roles.{top, top_items, with_first, count_of};
-ghost use Rattle.tau_forms.specs.Scopes.{names_of};
+ghost use Rattle.tau_forms.specs.Inner.Scopes.{names_of};
 ghost use Rattle.tau_forms.specs.Tops.{nodes_of, tables_of};
-ghost use Rattle.tau_forms.specs.Wanted.{role_of};
+ghost use Rattle.tau_forms.specs.Inner.Wanted.{role_of};
 
 use crate::ProgramError;
 use crate::checking::check_items;

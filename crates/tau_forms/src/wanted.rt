@@ -1,10 +1,10 @@
 //! What is wanted at each place of a program's forms.
 ghost use Rattle.std.specs.Prelude.{◌≡◌, ◌<◌, ◌^◌, None, Some, option_map, if◌then◌else◌};
 ghost use Rattle.tau_forms.specs.Faults.{is_constant as constant_test, word_fault, text_fault};
-ghost use Rattle.tau_forms.specs.Passing.{error_at};
+ghost use Rattle.tau_forms.specs.Inner.Passing.{error_at};
 ghost use Rattle.tau_forms.specs.Tops.{is_count_in as count_test};
 ghost use Rattle.tau_value.specs.Names.{is_name as name_test};
-ghost use Rattle.tau_forms.specs.Wanted.{role_of, fault_in};
+ghost use Rattle.tau_forms.specs.Inner.Wanted.{role_of, fault_in};
 
 use crate::ProgramError;
 use crate::scopes::{Scope, are_among};

@@ -6,7 +6,7 @@ ghost use Rattle.tau_sexpr.specs.Tree.{word, list, none, more, headed};
 ghost use Rattle.tau_tree.specs.Code.{let_in, if_else, fold, set, send, new, inside as codes_in};
 ghost use Rattle.tau_tree.specs.Expr.{code_of, codes_of};
 ghost use Rattle.tau_tree.specs.Parts.{Throughout, AllThroughout};
-ghost use Rattle.tau_forms.specs.Fitting.{HasFittingInteger};
+ghost use Rattle.tau_forms.specs.Inner.Fitting.{HasFittingInteger};
 ghost use Rattle.tau_forms.specs.Printed.{prim_word, name_of, code_form, code_forms};
 ghost use Rattle.tau_value.specs.Written.{count_form};
 

@@ -6,7 +6,7 @@ use Rattle.tau_tree.specs.declared.programs.Program.{Program}
 use Rattle.tau_trace.specs.declared.step.Step.{Step}
 use Rattle.tau_trace.specs.declared.step.Step.TheVariants.{Take, Drop, Fall, Void, Get, Set, Skip, Send, New, Stabilize, Ask, Checkpoint, Hold, Rollback, Stay, Done, Trap, Fail, Lose}
 use Rattle.tau_trace.specs.Steps.{actor}
-use Rattle.tau_trace.specs.Run.{Run}
+use Rattle.tau_trace.specs.Run.{Run, len}
 use Rattle.tau_trace.specs.Numbering.{born, Receives, InFlight}
 use Rattle.tau_trace.specs.Histories.{history, Ended, IsLiving}
 use Rattle.tau_trace.specs.Turns.{IsOpenTurn}

@@ -6,7 +6,7 @@ use Rattle.tau_past.specs.Audits.{IsAudit}
 use Rattle.tau_past.specs.declared.findings.Audit.{Audit}
 use Rattle.tau_past.specs.declared.findings.Audit.TheVariants as audits
 use Rattle.tau_output.specs.Audits.{IsAudited}
-use Rattle.tau_output.specs.Ends.{end_of_audit, line_of_audit}
+use Rattle.tau_output.specs.Inner.Ends.{end_of_audit, line_of_audit}
 
 pub is_audited : (T : Run) (found : Audit) → IsAudit T found → ((found ≡ audits.Safe) ↔ Safe T) → IsAudited T (end_of_audit found) (line_of_audit T.opening.names found)
 is_audited T audits.Safe h safe = (h, refl)

@@ -9,7 +9,7 @@ use Rattle.tau_check.specs.Legality.{IsLegality}
 use Rattle.tau_check.specs.declared.checking.Legality.{Legality}
 use Rattle.tau_check.specs.declared.checking.Legality.TheVariants as checks
 use Rattle.tau_output.specs.Checks.{IsLegalLine, IsChecked}
-use Rattle.tau_output.specs.Ends.{end_of_check, line_of_check}
+use Rattle.tau_output.specs.Inner.Ends.{end_of_check, line_of_check}
 
 -- the line for a legal run
 legal_line : (P : Program) (T : Run) (complete : Bool) → (IsTrue complete ↔ Complete P T) → IsLegalLine P T (line_of_check (checks.Legal complete))

@@ -18,7 +18,7 @@ use Rattle.tau_input.specs.Meaning.{IsProgram}
 use Rattle.tau_input.proofs.ReadBack.{run_texts_read_back}
 use Rattle.tau_output.specs.declared.outputs.End.{End}
 use Rattle.tau_output.specs.declared.outputs.End.TheVariants.{Done, Stopped}
-use Rattle.tau_output.specs.Ends.{end_of_run}
+use Rattle.tau_output.specs.Inner.Ends.{end_of_run}
 use Rattle.tau_output.specs.Runs.{EndsAs, IsDecided, IsReportLine, RunsAs, RunsSerially}
 use Rattle.tau_output.specs.Checks.{IsChecked}
 use Rattle.tau_output.specs.Laws.{TextsTellRuns, RunTextsAreAccepted, line_after}

@@ -5,6 +5,6 @@ pub mod Audits
 pub mod Reports
 pub mod Printing
 pub mod Drills
-pub mod Ends
 pub mod Writing
 pub mod Laws
+pub mod Inner

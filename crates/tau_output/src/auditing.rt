@@ -4,7 +4,7 @@ ghost use Rattle.tau_input.specs.Errors.{TellsInputFault};
 ghost use Rattle.tau_input.specs.Faults.{IsRunFault};
 ghost use Rattle.tau_value.specs.Written.{name_written};
 ghost use Rattle.tau_output.specs.Audits.{AuditsAs, broken_line as line_of_broken};
-ghost use Rattle.tau_output.specs.Ends.{end_of_audit, line_of_audit};
+ghost use Rattle.tau_output.specs.Inner.Ends.{end_of_audit, line_of_audit};
 
 use crate::{End, Output};
 use std::alloc::{AllocError, Global};

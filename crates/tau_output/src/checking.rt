@@ -3,7 +3,7 @@ ghost use Rattle.std.specs.Prelude.{◌≡◌, IfOk, IfErr};
 ghost use Rattle.tau_input.specs.Errors.{TellsInputFault};
 ghost use Rattle.tau_input.specs.Faults.{IsRunFault};
 ghost use Rattle.tau_output.specs.Checks.{ChecksAs};
-ghost use Rattle.tau_output.specs.Ends.{end_of_check, line_of_check};
+ghost use Rattle.tau_output.specs.Inner.Ends.{end_of_check, line_of_check};
 
 use crate::{End, Output};
 use std::alloc::{AllocError, Global};

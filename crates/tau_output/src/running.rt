@@ -3,7 +3,7 @@ ghost use Rattle.std.specs.Prelude.{◌≡◌, ◌≤◌, IfOk, IfErr};
 ghost use Rattle.tau_input.specs.Errors.{TellsInputFault};
 ghost use Rattle.tau_input.specs.Faults.{IsProgramFault};
 ghost use Rattle.tau_output.specs.Runs.{RunsSerially};
-ghost use Rattle.tau_output.specs.Ends.{end_of_run};
+ghost use Rattle.tau_output.specs.Inner.Ends.{end_of_run};
 
 use crate::{End, Output};
 use std::alloc::Global;

@@ -29,7 +29,7 @@ use Rattle.tau_past.specs.Pasts.{Past}
 use Rattle.tau_past.specs.Safety.{RolledBack, Safe}
 use Rattle.tau_past.specs.Tables.{TellsMade}
 use Rattle.tau_past.specs.TableSteps.{checked_point}
-use Rattle.tau_past.specs.Searching.{AddsPast, PastHasFallen, FoundNoFallen}
+use Rattle.tau_past.specs.Inner.Searching.{AddsPast, PastHasFallen, FoundNoFallen}
 use Rattle.tau_past.specs.Audits.{ChecksAt, Breaks, IsBrokenAt, IsNotAfter, RollsBackAt, IsBroken, IsAudit, IsFirstBreach, AddsSafely, Checked, IsLeastFallen}
 use Rattle.tau_past.proofs.Endings.{falls_within}
 

@@ -16,7 +16,7 @@ use Rattle.tau_past.specs.Carried.{Carried, TakesBy, by_set, by_new}
 use Rattle.tau_past.specs.Pasts.{Link, takes, closing, Everywhere}
 use Rattle.tau_past.specs.Tables.{CarriedFrom, TellsCarried, TellsEarlier, TakesAt, IsLast, ClosesBefore}
 use Rattle.tau_past.specs.Tables as tables
-use Rattle.tau_past.specs.Searching.{IsPassed, IsListed, Adds, AddsCarried, TakesSome, AddsTaken, IsOrFollows, AddsFollowing}
+use Rattle.tau_past.specs.Inner.Searching.{IsPassed, IsListed, Adds, AddsCarried, TakesSome, AddsTaken, IsOrFollows, AddsFollowing}
 
 -- a place that may be named next is within the trace
 abbrev pub IsWithin : Run → Option ℕ → Type 0

@@ -16,7 +16,7 @@ use Rattle.std.specs.Result.{IfOk}
 use Rattle.tau_trace.specs.Run.{Run}
 use Rattle.tau_past.specs.Pasts.{Link, Past, Is, Everywhere}
 use Rattle.tau_past.specs.Safety.{RolledBack}
-use Rattle.tau_past.specs.Searching.{IsListed, AddsFollowing, IsComplete, AddsPast, PastHasFallen, FoundNoFallen, Visits, known, fresh}
+use Rattle.tau_past.specs.Inner.Searching.{IsListed, AddsFollowing, IsComplete, AddsPast, PastHasFallen, FoundNoFallen, Visits, known, fresh}
 
 -- found holds the points that were visited, left those that are to be
 pub record Searched (T : Run) (p : Point) (found0 found : List Point) (passed : List Bool) (left : List Point) : Type 0 where

@@ -11,7 +11,7 @@ use Rattle.tau_past.specs.declared.findings.Audit.{Audit}
 use Rattle.tau_past.specs.declared.findings.Audit.TheVariants as audits
 use Rattle.tau_past.specs.declared.findings.Breach.{Breach}
 use Rattle.tau_past.specs.Pasts.{Past}
-use Rattle.tau_past.specs.Searching.{PastHasFallen, FoundNoFallen}
+use Rattle.tau_past.specs.Inner.Searching.{PastHasFallen, FoundNoFallen}
 use Rattle.tau_past.specs.Safety.{RolledBack, Safe}
 
 -- a Checkpoint stands at place k, made at point p

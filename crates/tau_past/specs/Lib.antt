@@ -7,7 +7,7 @@ pub mod Safety
 pub mod Laws
 pub mod Tables
 pub mod TableSteps
-pub mod Searching
 pub mod Audits
 pub mod LocalLaws
 pub mod KnownLaws
+pub mod Inner

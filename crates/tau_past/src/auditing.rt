@@ -4,7 +4,7 @@ ghost use Rattle.tau_points.specs.Order.{IsAscending};
 ghost use Rattle.tau_trace.specs.Run.{len};
 ghost use Rattle.tau_trace.specs.Places.{IsFirst};
 ghost use Rattle.tau_past.specs.Safety.{Safe};
-ghost use Rattle.tau_past.specs.Searching.{IsComplete};
+ghost use Rattle.tau_past.specs.Inner.Searching.{IsComplete};
 ghost use Rattle.tau_past.specs.Audits.{IsAudit, IsUnsafe, IsFirstBreach, RollsBackAt, IsLeastFallen, Checked};
 
 use crate::findings::{Audit, Breach};

@@ -4,7 +4,7 @@ ghost use Rattle.tau_points.specs.declared.point.Point.{Point};
 ghost use Rattle.tau_points.specs.Members.{AddsAll};
 ghost use Rattle.tau_trace.specs.Run.{len};
 ghost use Rattle.tau_past.specs.Carried.{Carried};
-ghost use Rattle.tau_past.specs.Searching.{AddsCarried, AddsTaken, AddsFollowing};
+ghost use Rattle.tau_past.specs.Inner.Searching.{AddsCarried, AddsTaken, AddsFollowing};
 
 use crate::index::Index;
 use std::alloc::{AllocError, Global};

@@ -6,7 +6,7 @@ ghost use Rattle.tau_points.specs.Order.{IsAscending};
 ghost use Rattle.tau_trace.specs.Run.{len};
 ghost use Rattle.tau_past.specs.Pasts.{Past};
 ghost use Rattle.tau_past.specs.Safety.{RolledBack};
-ghost use Rattle.tau_past.specs.Searching.{IsComplete, AddsPast, PastHasFallen, FoundNoFallen, Visits, IsPassed};
+ghost use Rattle.tau_past.specs.Inner.Searching.{IsComplete, AddsPast, PastHasFallen, FoundNoFallen, Visits, IsPassed};
 
 use crate::found::Found;
 use crate::index::Index;

@@ -30,8 +30,8 @@ use Rattle.tau_states.proofs.Reading as reading
 use Rattle.tau_states.proofs.Bounds.{saved_bounded}
 use Rattle.tau_report.specs.declared.counts.Counts.{Counts}
 use Rattle.tau_report.specs.Report.{HasSaved, IsSavedForm, SavedForms, none, without, with_one, count_of, IsReport}
-use Rattle.tau_report.specs.Rows.{saved_form, is_unlisted, saved_row, IsRowWritten, counts_tree, ArePrintable, AreRows}
-use Rattle.tau_report.specs.Counted.{IsSurvey}
+use Rattle.tau_report.specs.Inner.Rows.{saved_form, is_unlisted, saved_row, IsRowWritten, counts_tree, ArePrintable, AreRows}
+use Rattle.tau_report.specs.Inner.Counted.{IsSurvey}
 use Rattle.tau_report.proofs.Counting.{counts_fit}
 
 -- words

@@ -10,7 +10,7 @@ use Rattle.tau_states.specs.declared.state_record.StateRecord.{StateRecord}
 use Rattle.tau_states.specs.Table.{Holds, Advances, opened_run}
 use Rattle.tau_report.specs.declared.counts.Counts.{Counts}
 use Rattle.tau_report.specs.Report.{falls_at}
-use Rattle.tau_report.specs.Counted.{no_counts, counts_after, AreFew, IsSurvey, AdvancesSurvey}
+use Rattle.tau_report.specs.Inner.Counted.{no_counts, counts_after, AreFew, IsSurvey, AdvancesSurvey}
 use Rattle.tau_report.proofs.Prefixes.{prefix_next, prefix_whole, well_formed_prefix}
 use Rattle.tau_report.proofs.Counting.{counts_next, counts_opened, are_few}
 

@@ -8,7 +8,7 @@ use Rattle.tau_past.specs.States.{SavedWith}
 use Rattle.tau_states.specs.Opening.{opening_states}
 use Rattle.tau_states.proofs.Uniqueness.{saved_once}
 use Rattle.tau_report.specs.Report.{IsSavedForm, SavedForms, none, without, with_one, counts_form, IsReport}
-use Rattle.tau_report.specs.Rows.{saved_form}
+use Rattle.tau_report.specs.Inner.Rows.{saved_form}
 
 form_once : (P : Program) (T : Run) (t : ℕ) (f g : Tree) → IsSavedForm P T t f → IsSavedForm P T t g → f ≡ g
 form_once P T t f g a b =

@@ -1,4 +1,3 @@
 pub mod Report
-pub mod Counted
-pub mod Rows
 pub mod Laws
+pub mod Inner

@@ -1,7 +1,7 @@
 //! Counts of steps.
 ghost use Rattle.std.specs.Prelude.{◌≡◌};
 ghost use Rattle.tau_trace.specs.Steps as steps;
-ghost use Rattle.tau_report.specs.Counted.{no_counts, counts_after, AreFew};
+ghost use Rattle.tau_report.specs.Inner.Counted.{no_counts, counts_after, AreFew};
 ghost use Rattle.tau_report.specs.Report as kinds;
 
 use tau_trace::Step;

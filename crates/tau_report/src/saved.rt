@@ -3,8 +3,8 @@ ghost use Rattle.std.specs.Prelude.{◌≡◌, ◌<◌, ◌^◌, ◌++◌, lengt
 ghost use Rattle.tau_sexpr.specs.Form.{tree_of};
 ghost use Rattle.tau_value.specs.Names.{AreNames};
 ghost use Rattle.tau_trace.specs.StepForms.{IsWritten};
-ghost use Rattle.tau_report.specs.Rows as rows;
-ghost use Rattle.tau_report.specs.Rows.{saved_form, saved_row, IsRowWritten, AreRows};
+ghost use Rattle.tau_report.specs.Inner.Rows as rows;
+ghost use Rattle.tau_report.specs.Inner.Rows.{saved_form, saved_row, IsRowWritten, AreRows};
 
 use crate::parts::{add, form_of_count, form_of_who, headed};
 use std::alloc::{AllocError, Global};

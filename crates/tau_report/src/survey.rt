@@ -7,7 +7,7 @@ ghost use Rattle.tau_trace.specs.Known.{MayFollow, WellFormed};
 ghost use Rattle.tau_states.specs.Opening.{opening_states};
 ghost use Rattle.tau_states.specs.Table.{Holds};
 ghost use Rattle.tau_report.specs.Report.{falls_at};
-ghost use Rattle.tau_report.specs.Counted.{AreFew, IsSurvey, AdvancesSurvey};
+ghost use Rattle.tau_report.specs.Inner.Counted.{AreFew, IsSurvey, AdvancesSurvey};
 
 use crate::counts::Counts;
 use std::alloc::{AllocError, Global};

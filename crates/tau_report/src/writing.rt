@@ -5,7 +5,7 @@ ghost use Rattle.tau_sexpr.specs.Tree.{depths, HasWords};
 ghost use Rattle.tau_tree.specs.Sound.{Sound};
 ghost use Rattle.tau_script.specs.Openings.{program_opening};
 ghost use Rattle.tau_report.specs.Report.{IsReport, IsReportText};
-ghost use Rattle.tau_report.specs.Rows.{counts_tree};
+ghost use Rattle.tau_report.specs.Inner.Rows.{counts_tree};
 
 use crate::counts::Counts;
 use crate::parts::{add, form_of_named, headed};

@@ -8,7 +8,7 @@ use Rattle.tau_trace.specs.Turns.{Turn, IsOpenTurn}
 use Rattle.tau_trace.proofs.Lists.{same_some}
 use Rattle.tau_legal.proofs.TraceLemmas.{below_length}
 use Rattle.tau_rules.specs.Answers.{NoTurnFrom, IsTurnEnd, ended}
-use Rattle.tau_rules.specs.Acting.{IsTaker}
+use Rattle.tau_rules.specs.Inner.Acting.{IsTaker}
 
 -- a step that begins or ends its transactor's turn
 abbrev pub Bounds : Run → ℕ → ℕ → Type 0

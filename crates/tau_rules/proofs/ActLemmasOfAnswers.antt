@@ -19,7 +19,7 @@ use Rattle.tau_rules.specs.declared.answers.Acted.{Acted}
 use Rattle.tau_rules.specs.declared.answers.Acted.TheVariants.{Reply, TurnOver, Redo}
 use Rattle.tau_rules.specs.System.{Core}
 use Rattle.tau_rules.specs.Answers.{IsOpenJob, IsStepped, IsActed}
-use Rattle.tau_rules.specs.Acting.{IsMade, IsMadeBy, step_of}
+use Rattle.tau_rules.specs.Inner.Acting.{IsMade, IsMadeBy, step_of}
 use Rattle.tau_rules.proofs.ActLemmasOfJobs.{job_effect}
 use Rattle.tau_rules.proofs.ActLemmasOfSteps.{step_known, job_goes_on}
 

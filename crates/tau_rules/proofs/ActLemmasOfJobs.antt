@@ -22,7 +22,7 @@ use Rattle.tau_legal.proofs.TraceLemmas.{below_length}
 use Rattle.tau_rules.specs.declared.records.Record.{Record}
 use Rattle.tau_rules.specs.Records.{IsRecord, AreRecords}
 use Rattle.tau_rules.specs.Answers.{IsOpenJob}
-use Rattle.tau_rules.specs.Acting.{IsTaker}
+use Rattle.tau_rules.specs.Inner.Acting.{IsTaker}
 use Rattle.tau_rules.proofs.OpeningLemmas.{length-map}
 use Rattle.tau_rules.proofs.DeliverLemmas.{index_get}
 

@@ -1,4 +1,4 @@
 pub mod Records
 pub mod System
 pub mod Answers
-pub mod Acting
+pub mod Inner

@@ -11,7 +11,7 @@ ghost use Rattle.tau_eval.specs.Turn.{IsTurnOf};
 ghost use Rattle.tau_legal.specs.Turns.{TurnHas};
 ghost use Rattle.tau_choice.specs.Choices.{asks_freedom as asks_freedom_by, IsChoice};
 ghost use Rattle.tau_rules.specs.Answers.{IsActed, IsUnacted};
-ghost use Rattle.tau_rules.specs.Acting.{IsMade, step_of};
+ghost use Rattle.tau_rules.specs.Inner.Acting.{IsMade, step_of};
 
 use crate::records::{Record, RecordChange};
 use crate::turns::{is_open, taker, turn_end};

@@ -4,7 +4,7 @@ ghost use Rattle.tau_trace.specs.Steps.{ends_turn, is_take};
 ghost use Rattle.tau_trace.specs.Run.{len, Does};
 ghost use Rattle.tau_trace.specs.Turns.{IsOpenTurn};
 ghost use Rattle.tau_rules.specs.Answers.{NoTurnFrom, IsTurnEnd};
-ghost use Rattle.tau_rules.specs.Acting.{IsTaker};
+ghost use Rattle.tau_rules.specs.Inner.Acting.{IsTaker};
 
 use tau_trace::{Step, Trace};
 

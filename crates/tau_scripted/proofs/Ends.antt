@@ -16,7 +16,7 @@ use Rattle.tau_script.proofs.Passing.{stays, cursor_rests}
 use Rattle.tau_script.proofs.Same.{goes_on as cursors_go_on}
 use Rattle.tau_legal.specs.Traces.{Fitting}
 use Rattle.tau_legal.proofs.TraceLemmas.{legal_grows}
-use Rattle.tau_check.specs.Checkers.{HasAsked, NothingLeft}
+use Rattle.tau_check.specs.Inner.Checkers.{HasAsked, NothingLeft}
 use Rattle.tau_check.proofs.Endings.{fits_at_end}
 use Rattle.tau_scripted.specs.OpenTurns.{AreOpenTurns}
 use Rattle.tau_scripted.specs.Flight.{AreInFlight}

@@ -14,7 +14,7 @@ use Rattle.tau_trace.proofs.Once.{receives_once}
 use Rattle.tau_script.specs.declared.cursor.Cursor.{Cursor}
 use Rattle.tau_script.specs.Cursors.{CursorAt}
 use Rattle.tau_script.specs.Openings.{program_opening}
-use Rattle.tau_scripted.specs.Posted.{ArePosted}
+use Rattle.tau_scripted.specs.Inner.Posted.{ArePosted}
 use Rattle.tau_scripted.specs.Flight.{AreInFlight}
 use Rattle.tau_scripted.specs.ScriptedRun.{IsScripted}
 use Rattle.tau_scripted.proofs.Members.{contains_nothing}

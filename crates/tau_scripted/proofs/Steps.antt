@@ -36,11 +36,11 @@ use Rattle.tau_rules.specs.declared.answers.Delivered.TheVariants.{Began, Droppe
 use Rattle.tau_rules.specs.declared.answers.Acted.{Acted}
 use Rattle.tau_rules.specs.declared.answers.Acted.TheVariants.{Reply, TurnOver, Redo}
 use Rattle.tau_rules.specs.Answers.{IsDelivered, IsActed, IsStepped, IsOpenJob}
-use Rattle.tau_check.specs.Checkers.{HasAsked}
+use Rattle.tau_check.specs.Inner.Checkers.{HasAsked}
 use Rattle.tau_check.proofs.Endings.{fits_at_end, turn_no_failure}
 use Rattle.tau_check.proofs.FamilyLemmas.{IsRow, of_effect, effect_once}
 use Rattle.tau_check.proofs.TurnSteps.{acts_in_turn}
-use Rattle.tau_scripted.specs.Index.{receiver_of, with_letter, letters_received, busy_received, turns_received, busy_ended, turns_ended, letters_acted, busy_acted, turns_acted}
+use Rattle.tau_scripted.specs.Inner.Index.{receiver_of, with_letter, letters_received, busy_received, turns_received, busy_ended, turns_ended, letters_acted, busy_acted, turns_acted}
 use Rattle.tau_scripted.specs.Flight.{IsWaiting, AreInFlight}
 use Rattle.tau_scripted.specs.OpenTurns.{AreOpenTurns}
 use Rattle.tau_scripted.specs.ScriptedRun.{IsScripted, IsUnchangedAtRedo, messages_of}

@@ -7,7 +7,7 @@ use Rattle.tau_rules.specs.declared.answers.Acted.{Acted}
 use Rattle.tau_rules.specs.declared.answers.Acted.TheVariants.{Reply, TurnOver, Redo}
 use Rattle.tau_rules.specs.declared.answers.Delivered.{Delivered}
 use Rattle.tau_rules.specs.declared.answers.Delivered.TheVariants.{Began, Dropped, Fell, Voided}
-use Rattle.tau_scripted.specs.Index.{turns_received, turns_ended, turns_acted}
+use Rattle.tau_scripted.specs.Inner.Index.{turns_received, turns_ended, turns_acted}
 
 pub fewer_ended : (turns : List ℕ) (turn : Option ℕ) → length (turns_ended turns turn) ≤ length turns
 fewer_ended turns None = omega arith

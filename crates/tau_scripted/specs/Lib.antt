@@ -1,5 +1,4 @@
 pub mod OpenTurns
 pub mod Flight
 pub mod ScriptedRun
-pub mod Index
-pub mod Posted
+pub mod Inner

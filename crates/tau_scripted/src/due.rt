@@ -3,7 +3,7 @@ ghost use Rattle.std.specs.Prelude.{◌≡◌, ◌<◌, ◌≤◌, ℕ, Some, If
 ghost use Rattle.tau_trace.specs.declared.step.Step.TheVariants as steps;
 ghost use Rattle.tau_trace.specs.Run.{len};
 ghost use Rattle.tau_rules.specs.System.{with_step};
-ghost use Rattle.tau_check.specs.Checkers.{HasAsked};
+ghost use Rattle.tau_check.specs.Inner.Checkers.{HasAsked};
 ghost use Rattle.tau_scripted.specs.ScriptedRun.{IsDueMade};
 
 use crate::Scripted;

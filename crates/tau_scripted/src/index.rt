@@ -3,7 +3,7 @@ ghost use Rattle.std.specs.Prelude.{◌≡◌, ◌<◌, ◌≤◌, [], ◌∷◌
 ghost use Rattle.std.specs.Vec.{vec_capacity};
 ghost use Rattle.tau_waiting.specs.Letters.{is_other, AllBelow};
 ghost use Rattle.tau_waiting.specs.MailState.{is_busy, is_not, room};
-ghost use Rattle.tau_scripted.specs.Index.{IsSame, receiver_of, with_letter, letters_received, busy_received, turns_received, busy_ended, turns_ended, letters_acted, busy_acted, turns_acted};
+ghost use Rattle.tau_scripted.specs.Inner.Index.{IsSame, receiver_of, with_letter, letters_received, busy_received, turns_received, busy_ended, turns_ended, letters_acted, busy_acted, turns_acted};
 
 use std::alloc::{AllocError, Global};
 use tau_eval::{Effect, Pending};

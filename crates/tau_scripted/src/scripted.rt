@@ -7,7 +7,7 @@ ghost use Rattle.tau_trace.specs.Known.{WellFormed};
 ghost use Rattle.tau_script.specs.Cursors.{CursorAt};
 ghost use Rattle.tau_script.specs.Openings.{program_opening};
 ghost use Rattle.tau_legal.specs.Traces.{Legal, Complete};
-ghost use Rattle.tau_check.specs.Checkers.{HasAsked, NothingLeft};
+ghost use Rattle.tau_check.specs.Inner.Checkers.{HasAsked, NothingLeft};
 ghost use Rattle.tau_scripted.specs.OpenTurns.{AreOpenTurns};
 ghost use Rattle.tau_scripted.specs.Flight.{AreInFlight, AreDeliverable};
 

@@ -18,7 +18,7 @@ use Rattle.tau_scripted.proofs.Members.{contains_nothing, contains_here, contain
 use Rattle.tau_book.specs.Hands.{Held, is_earlier, is_of, IsNumbered}
 use Rattle.tau_book.specs.Offers.{open_jobs, earliest, without, taken_up, jobs_with, store_without, options}
 use Rattle.tau_serial.specs.SerialRun.{Choosable, turn, message}
-use Rattle.tau_serial.specs.Working.{HasJobFrom, AreJobs, AreOtherJobs}
+use Rattle.tau_serial.specs.Inner.Working.{HasJobFrom, AreJobs, AreOtherJobs}
 use Rattle.tau_serial.proofs.Counts.{AreDistinct, count_none, count_map, count_all, same_counts, place_of, ascending_distinct}
 
 -- elements of two lists in a row

@@ -40,7 +40,7 @@ use Rattle.tau_book.specs.Offers.{Offer, open_jobs, jobs_with, store_without, op
 use Rattle.tau_book.specs.Nexts.{IsDueMade, IsIdle, IsHandedOut, IsReceived, begun_with}
 use Rattle.tau_book.specs.Tolds.{IsTurnStep as IsTurnMade, goes_on, is_over, IsStale, IsRedoneWith, IsFinished}
 use Rattle.tau_serial.specs.SerialRun.{IsSerialRun, ComesAbout, begins, due, chooses, turn, message, AreOptions, IsReceipt, take, drop, fall, void, of_turn, of_message}
-use Rattle.tau_serial.specs.Working.{HasJobFrom, AreJobs, AreOtherJobs, IsAtWork, HasChosen, IsSameWork}
+use Rattle.tau_serial.specs.Inner.Working.{HasJobFrom, AreJobs, AreOtherJobs, IsAtWork, HasChosen, IsSameWork}
 use Rattle.tau_serial.proofs.Chosen.{AreApart, apart_front, apart_back, apart_others, others_in, with_none, store_none, open_apart, are_open, job_from, lengths, numbered, taken, options_of, turn_chosen, message_chosen}
 use Rattle.tau_serial.proofs.Kept.{jobs_stay, jobs_begun, jobs_ended, jobs_going}
 

@@ -1,3 +1,3 @@
 pub mod SerialRun
 pub mod Laws
-pub mod Working
+pub mod Inner

@@ -6,7 +6,7 @@ ghost use Rattle.tau_trace.specs.Known.{WellFormed};
 ghost use Rattle.tau_legal.specs.Traces.{Legal, Complete};
 ghost use Rattle.tau_book.specs.Books.{IsComplete, IsAtLimit};
 ghost use Rattle.tau_serial.specs.SerialRun.{IsSerialRun};
-ghost use Rattle.tau_serial.specs.Working.{IsAtWork, HasChosen, Works, WorksOn, IsSameWork};
+ghost use Rattle.tau_serial.specs.Inner.Working.{IsAtWork, HasChosen, Works, WorksOn, IsSameWork};
 
 use std::alloc::{AllocError, Global};
 use tau_book::{Book, Hand, Next, Told};

@@ -5,7 +5,7 @@ use Rattle.tau_sexpr.specs.Tree.{Tree, word, text}
 use Rattle.tau_sexpr.specs.Kinds.{kind_of, is_plain, meaning}
 use Rattle.tau_sexpr.specs.Faults.{Part, in_comment, in_quotes, after_backslash, Lexical, lexical, moved_outside, moved, moved_by, state_at, place_of, IsBadInQuotes, IsBad, IsOpen, IsFault, a_byte, the_end, IsFirstFault}
 use Rattle.tau_sexpr.specs.Faults as faults
-use Rattle.tau_sexpr.specs.Reader.{Stack, stack, Reader, reader, Mode, outside, comment, in_word, in_text, in_pair, with_form, step, step_outside, step_word, step_pair, ended, closed, finish, and_then, run, read_all}
+use Rattle.tau_sexpr.specs.Inner.Reader.{Stack, stack, Reader, reader, Mode, outside, comment, in_word, in_text, in_pair, with_form, step, step_outside, step_word, step_pair, ended, closed, finish, and_then, run, read_all}
 use Rattle.tau_sexpr.specs.declared.bytes.ByteKind.{ByteKind}
 use Rattle.tau_sexpr.specs.declared.bytes.ByteKind.TheVariants.{Blank, Semicolon, Opening, Closing, Quote, OfWord, Other}
 use Rattle.tau_sexpr.specs.declared.faults.FormError.{FormError}

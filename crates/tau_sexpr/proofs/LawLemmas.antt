@@ -6,7 +6,7 @@ use Rattle.tau_sexpr.specs.Tree.{Tree, Trees, inside, items_of-inside, depth_of_
 use Rattle.tau_sexpr.specs.Spelling.{Spells, at_end, at_closing, a_blank, a_comment, a_word, a_text, a_list, IsSpelling, IsUnlessNoMemory}
 use Rattle.tau_sexpr.specs.Faults.{place_of, IsFirstFault}
 use Rattle.tau_sexpr.specs.Laws.{SpellsOnce, SpellsWithoutFault, HasFormsOrFault, FailsOnce}
-use Rattle.tau_sexpr.specs.Reader.{run, finish, read_all, TellsFormFault, Gives}
+use Rattle.tau_sexpr.specs.Inner.Reader.{run, finish, read_all, TellsFormFault, Gives}
 use Rattle.tau_sexpr.specs.declared.faults.FormError.{FormError}
 use Rattle.tau_sexpr.specs.declared.faults.FormError.TheVariants.{BadByte, Unopened, Unclosed, BadText, TooDeep, NoMemory}
 use Rattle.tau_sexpr.proofs.RunLemmas.{run_forms}

@@ -8,7 +8,7 @@ use Rattle.tau_sexpr.specs.Tree.{Tree, word, text}
 use Rattle.tau_sexpr.specs.Bytes.{IsWordByte, IsTextByte, is_text_byte}
 use Rattle.tau_sexpr.specs.Kinds.{kind_of, is_plain, meaning}
 use Rattle.tau_sexpr.specs.Spelling.{EndsWord, EndsLine, EndsPlain}
-use Rattle.tau_sexpr.specs.Reader.{Stack, Reader, reader, Mode, outside, comment, in_word, in_text, in_pair, with_form, step, step_outside, step_text, step_pair, finish, ended, and_then, run, TellsFormFault, TellsStep, Gives}
+use Rattle.tau_sexpr.specs.Inner.Reader.{Stack, Reader, reader, Mode, outside, comment, in_word, in_text, in_pair, with_form, step, step_outside, step_text, step_pair, finish, ended, and_then, run, TellsFormFault, TellsStep, Gives}
 use Rattle.tau_sexpr.specs.declared.bytes.ByteKind.{ByteKind}
 use Rattle.tau_sexpr.specs.declared.faults.FormError.{FormError}
 use Rattle.tau_sexpr.specs.declared.faults.FormError.TheVariants.{BadByte, Unopened, Unclosed, BadText, TooDeep, NoMemory}

@@ -8,7 +8,7 @@ use Rattle.tau_sexpr.specs.Tree.{Tree, Trees, word, text, list, items_of, inside
 use Rattle.tau_sexpr.specs.Bytes.{IsWordByte}
 use Rattle.tau_sexpr.specs.Kinds.{kind_of, is_plain}
 use Rattle.tau_sexpr.specs.Spelling.{EndsWord, EndsLine, Quotes, closing, plain, pair, Spells, at_end, at_closing, a_blank, a_comment, a_word, a_text, a_list}
-use Rattle.tau_sexpr.specs.Reader.{Stack, stack, Reader, reader, outside, comment, in_word, in_text, with_form, step, step_outside, step_word, step_pair, finish, and_then, run}
+use Rattle.tau_sexpr.specs.Inner.Reader.{Stack, stack, Reader, reader, outside, comment, in_word, in_text, with_form, step, step_outside, step_word, step_pair, finish, and_then, run}
 use Rattle.tau_sexpr.specs.declared.bytes.ByteKind.{ByteKind}
 use Rattle.tau_sexpr.specs.declared.bytes.ByteKind.TheVariants.{Blank, Semicolon, Opening, Closing, Quote, OfWord, Other}
 use Rattle.tau_sexpr.specs.declared.faults.FormError.{FormError}

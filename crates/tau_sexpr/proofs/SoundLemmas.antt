@@ -8,7 +8,7 @@ use Rattle.tau_sexpr.specs.Tree.{Tree, Trees, word, text, list, none, more, insi
 use Rattle.tau_sexpr.specs.Bytes.{is_word_byte, IsWordByte}
 use Rattle.tau_sexpr.specs.Kinds.{kind_of, is_plain, meaning}
 use Rattle.tau_sexpr.specs.Spelling.{EndsWord, EndsLine, Quotes, closing, plain, pair, Spells, at_end, at_closing, a_blank, a_comment, a_word, a_text, a_list, IsSpelling}
-use Rattle.tau_sexpr.specs.Reader.{stack, reader, outside, comment, in_word, in_text, in_pair, step, step_outside, step_pair, ended, closed, finish, and_then, run, read_all}
+use Rattle.tau_sexpr.specs.Inner.Reader.{stack, reader, outside, comment, in_word, in_text, in_pair, step, step_outside, step_pair, ended, closed, finish, and_then, run, read_all}
 use Rattle.tau_sexpr.specs.declared.bytes.ByteKind.{ByteKind}
 use Rattle.tau_sexpr.specs.declared.bytes.ByteKind.TheVariants.{Blank, Semicolon, Opening, Closing, Quote, OfWord, Other}
 use Rattle.tau_sexpr.specs.declared.faults.FormError.TheVariants.{BadText, TooDeep}

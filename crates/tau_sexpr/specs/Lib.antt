@@ -6,5 +6,5 @@ pub mod Kinds
 pub mod Spelling
 pub mod Faults
 pub mod Printing
-pub mod Reader
 pub mod Laws
+pub mod Inner

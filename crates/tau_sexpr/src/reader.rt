@@ -7,7 +7,7 @@ ghost use Rattle.tau_sexpr.specs.Faults.{IsFirstFault};
 ghost use Rattle.tau_sexpr.specs.declared.faults.FormError.{FormError};
 ghost use Rattle.tau_sexpr.specs.Tree.{Tree, word, text, depths, HasWords};
 ghost use Rattle.tau_sexpr.specs.Form.{tree_of};
-ghost use Rattle.tau_sexpr.specs.Reader.{Stack, stack, stack_of, with_form, step_outside, ended, reading, read_all, outside, in_text, in_pair, IsPairRest, IsPair, IsClosing, ArePlain, IsText, IsWord, Steps, TellsFormFault, Gives};
+ghost use Rattle.tau_sexpr.specs.Inner.Reader.{Stack, stack, stack_of, with_form, step_outside, ended, reading, read_all, outside, in_text, in_pair, IsPairRest, IsPair, IsClosing, ArePlain, IsText, IsWord, Steps, TellsFormFault, Gives};
 
 use crate::bytes::{ByteKind, is_plain as is_plain_byte, is_word_byte, kind, meaning};
 use crate::{Form, FormError, Forms, Text, Word};

@@ -24,7 +24,7 @@ use Rattle.tau_steps.specs.declared.errors.StepError.{StepError}
 use Rattle.tau_steps.specs.declared.errors.StepError.TheVariants as errors
 use Rattle.tau_steps.specs.Meaning.{MeansStep, MeansSteps}
 use Rattle.tau_steps.specs.Faults.{FormFault, begins_with, transactors_before, messages_before, StepFault, in_form, too_many, IsFirst, IsFault}
-use Rattle.tau_steps.specs.Reading.{GoesOn, NextFault, AddsStep}
+use Rattle.tau_steps.specs.Inner.Reading.{GoesOn, NextFault, AddsStep}
 use Rattle.tau_steps.proofs.StepLemmas.{clean_step}
 
 -- an element below the length

@@ -20,7 +20,7 @@ use Rattle.tau_steps.specs.Meaning as item
 use Rattle.tau_steps.specs.Meaning.{Item, MeansItem, MeansItems, items_of}
 use Rattle.tau_steps.specs.Faults as role
 use Rattle.tau_steps.specs.Faults.{Role, roles_of, FaultIn, RowFault}
-use Rattle.tau_steps.specs.Reading.{TellsMeaning, TellsItem, TellsRow, both_of}
+use Rattle.tau_steps.specs.Inner.Reading.{TellsMeaning, TellsItem, TellsRow, both_of}
 use Rattle.tau_steps.proofs.TellsLemmas.{role_of, told_ok, told_err, tells_one, tells_more}
 
 -- a list of so many items

@@ -30,7 +30,7 @@ use Rattle.tau_steps.specs.Kinds.{kind_in, kind_of}
 use Rattle.tau_steps.specs.Meaning as item
 use Rattle.tau_steps.specs.Meaning.{Item, items_of, named_at, place_at, MeansItem, MeansItems, MeansStep}
 use Rattle.tau_steps.specs.Faults.{Role, roles_of, RowFault, FormFault}
-use Rattle.tau_steps.specs.Reading.{TellsRow, TellsStep}
+use Rattle.tau_steps.specs.Inner.Reading.{TellsRow, TellsStep}
 use Rattle.tau_steps.proofs.KindLemmas.{word_of_kind, kind_of-word}
 use Rattle.tau_steps.proofs.TellsLemmas.{role_of, clean_items}
 

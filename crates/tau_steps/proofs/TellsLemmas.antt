@@ -16,7 +16,7 @@ use Rattle.tau_steps.specs.Meaning as item
 use Rattle.tau_steps.specs.Meaning.{Item, count_at, truth_at, MeansItem, MeansItems}
 use Rattle.tau_steps.specs.Faults as role
 use Rattle.tau_steps.specs.Faults.{Role, count_fault, behaviour_fault, truth_fault, ItemFault, FaultIn}
-use Rattle.tau_steps.specs.Reading.{TellsMeaning, TellsItem, both_of}
+use Rattle.tau_steps.specs.Inner.Reading.{TellsMeaning, TellsItem, both_of}
 
 -- what is wanted where an item is meant
 abbrev pub role_of : Item → Role

@@ -1,5 +1,5 @@
 pub mod Kinds
 pub mod Meaning
 pub mod Faults
-pub mod Reading
 pub mod Laws
+pub mod Inner

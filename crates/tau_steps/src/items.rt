@@ -6,7 +6,7 @@ ghost use Rattle.tau_value.specs.Value.{val_of};
 ghost use Rattle.tau_steps.specs.Faults as role;
 ghost use Rattle.tau_steps.specs.Meaning as item;
 ghost use Rattle.tau_steps.specs.Meaning.{count_at};
-ghost use Rattle.tau_steps.specs.Reading.{IsPlace, TellsItem, both_of};
+ghost use Rattle.tau_steps.specs.Inner.Reading.{IsPlace, TellsItem, both_of};
 ghost use Rattle.tau_steps.specs.declared.items.Place.{Place};
 
 use crate::errors::ItemError;

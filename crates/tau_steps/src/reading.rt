@@ -5,7 +5,7 @@ ghost use Rattle.tau_trace.specs.Known.{IsSound, MayFollow};
 ghost use Rattle.tau_trace.specs.Run.{Run, appended};
 ghost use Rattle.tau_steps.specs.Faults.{IsFault};
 ghost use Rattle.tau_steps.specs.Meaning.{MeansSteps};
-ghost use Rattle.tau_steps.specs.Reading.{AddsStep, TellsNext, step_error};
+ghost use Rattle.tau_steps.specs.Inner.Reading.{AddsStep, TellsNext, step_error};
 
 use crate::StepError;
 use crate::errors::ItemError;

@@ -2,7 +2,7 @@
 ghost use Rattle.std.specs.Prelude.{map};
 ghost use Rattle.tau_sexpr.specs.Form.{tree_of};
 ghost use Rattle.tau_sexpr.specs.Tree.{inside};
-ghost use Rattle.tau_steps.specs.Reading.{IsPlace, TellsRow, TellsStep};
+ghost use Rattle.tau_steps.specs.Inner.Reading.{IsPlace, TellsRow, TellsStep};
 
 use crate::errors::ItemError;
 use crate::items::{self, Place, both};

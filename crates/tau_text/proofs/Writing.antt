@@ -15,7 +15,7 @@ use Rattle.tau_trace.proofs.Sequences.{cases_last}
 use Rattle.tau_trace.proofs.Lists.{slice_get-front, slice_get-last}
 use Rattle.tau_report.specs.Report.{IsReport}
 use Rattle.tau_text.specs.RunText.{trace_mark, report_mark, AreStepForms}
-use Rattle.tau_text.specs.Written.{AddsSteps, AreWritten}
+use Rattle.tau_text.specs.Inner.Written.{AddsSteps, AreWritten}
 
 -- no steps
 pub steps_none : (T : Run) (old : List Tree) → AddsSteps T 0 old old

@@ -1,3 +1,3 @@
 pub mod RunText
-pub mod Written
 pub mod Laws
+pub mod Inner

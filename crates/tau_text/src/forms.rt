@@ -6,7 +6,7 @@ ghost use Rattle.tau_tree.specs.Sound.{Sound};
 ghost use Rattle.tau_trace.specs.Run.{len};
 ghost use Rattle.tau_script.specs.Openings.{program_opening};
 ghost use Rattle.tau_text.specs.RunText.{mark as mark_of, IsRunText, IsReadBack};
-ghost use Rattle.tau_text.specs.Written.{AddsSteps, AreWritten};
+ghost use Rattle.tau_text.specs.Inner.Written.{AddsSteps, AreWritten};
 
 use std::alloc::{AllocError, Global};
 use tau_forms::forms_of;

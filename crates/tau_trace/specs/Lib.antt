@@ -11,6 +11,6 @@ pub mod Ascending
 pub mod Tracking
 pub mod Living
 pub mod Stored
-pub mod Noting
 pub mod Nodes
 pub mod StepForms
+pub mod Inner

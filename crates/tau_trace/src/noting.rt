@@ -3,7 +3,7 @@ ghost use Rattle.std.specs.Prelude.{◌≡◌, ◌<◌, ◌^◌, ℕ, Some, leng
 ghost use Rattle.std.specs.Vec.{vec_capacity};
 ghost use Rattle.tau_trace.specs.Steps.{actor, removed_by};
 ghost use Rattle.tau_trace.specs.Stored.{has_room, noted_of, with_new, removed_of, with_sent};
-ghost use Rattle.tau_trace.specs.Noting.{MakesNodeBelow};
+ghost use Rattle.tau_trace.specs.Inner.Noting.{MakesNodeBelow};
 ghost use Rattle.tau_trace.specs.Numbering.{number_made};
 
 use crate::message::Message;

@@ -6,7 +6,7 @@ use Rattle.tau_value.specs.Value.{val_of}
 use Rattle.tau_value.specs.Sizes.{IsInBounds, NamesBelow}
 use Rattle.tau_value.specs.Numbers.{capped}
 use Rattle.tau_value.specs.Meaning.{counted, Means, IsFault, IsFirstFault, Fault, shape, unknown, too_large}
-use Rattle.tau_value.specs.Reading.{scan, Reads}
+use Rattle.tau_value.specs.Inner.Reading.{scan, Reads}
 use Rattle.tau_value.specs.declared.shared.Value.{Value}
 use Rattle.tau_value.specs.declared.faults.ValueError.{ValueError}
 use Rattle.tau_value.specs.declared.faults.ValueError.TheVariants as errors

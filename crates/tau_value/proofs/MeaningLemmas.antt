@@ -12,7 +12,7 @@ use Rattle.tau_value.specs.Names.{place_of}
 use Rattle.tau_value.specs.Numbers.{count_in, integer_in}
 use Rattle.tau_value.specs.Sizes.{parts_of, parts_of_all, levels_of_all, IsInBounds, NamesBelow, AllNamesBelow, levels_of}
 use Rattle.tau_value.specs.Meaning.{name_word, list_word, word_value, between, number_named, named, counted, counted_all, has_row, name_fault, Fault, shape, FaultAt, FaultIn, too_large, no_row, in_name, in_list, here, later, IsFirstFault}
-use Rattle.tau_value.specs.Reading.{scan, scan_all, later_by}
+use Rattle.tau_value.specs.Inner.Reading.{scan, scan_all, later_by}
 use Rattle.tau_value.proofs.ReadingLemmas.{small_word, parts_of-named, scan-no_row}
 
 -- a form has a node

@@ -13,7 +13,7 @@ use Rattle.tau_value.specs.Val.{Val}
 use Rattle.tau_value.specs.Sizes.{parts_of, levels_of, parts_of_all, levels_of_all}
 use Rattle.tau_value.specs.Numbers.{integer_in, capped}
 use Rattle.tau_value.specs.Meaning.{name_word, list_word, number_named, named, counted, counted_all, has_row, is_one, Fault, shape, unknown}
-use Rattle.tau_value.specs.Reading.{scan, scan_all, scan_name, later_by, TellsValueFault}
+use Rattle.tau_value.specs.Inner.Reading.{scan, scan_all, scan_name, later_by, TellsValueFault}
 use Rattle.tau_value.specs.declared.faults.ValueError.{ValueError}
 use Rattle.tau_value.specs.declared.faults.ValueError.TheVariants as faults
 

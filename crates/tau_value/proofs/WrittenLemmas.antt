@@ -20,7 +20,7 @@ use Rattle.tau_value.specs.Names.{is_small_letter, is_name_byte, is_reserved, Is
 use Rattle.tau_value.specs.Numbers.{in_i64, integer_in}
 use Rattle.tau_value.specs.Sizes.{levels_of, levels_of_all, IsInBounds, NamesBelow, AllNamesBelow}
 use Rattle.tau_value.specs.Meaning.{word_value, number_named, counted, counted_all}
-use Rattle.tau_value.specs.Reading.{scan, scan_all, later_by}
+use Rattle.tau_value.specs.Inner.Reading.{scan, scan_all, later_by}
 use Rattle.tau_value.specs.Written.{name_written, written, written_all, NumbersFit, AllNumbersFit, ReadsBack}
 use Rattle.tau_value.proofs.NameLemmas.{apart_bytes, place_of-at}
 use Rattle.tau_value.proofs.NumberLemmas.{decimal_digits, count_in-decimal, integer_in-decimal, pos_fits}

@@ -6,6 +6,6 @@ pub mod Falls
 pub mod Names
 pub mod Numbers
 pub mod Meaning
-pub mod Reading
 pub mod Written
 pub mod Places
+pub mod Inner

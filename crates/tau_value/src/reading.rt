@@ -5,7 +5,7 @@ ghost use Rattle.tau_sexpr.specs.Tree as tree;
 ghost use Rattle.tau_sexpr.specs.Tree.{inside, more, none};
 ghost use Rattle.tau_value.specs.Meaning.{Means, IsFault, name_word, word_value, number_named, named, counted, counted_all};
 ghost use Rattle.tau_value.specs.Numbers.{capped};
-ghost use Rattle.tau_value.specs.Reading.{HasHead, Reads, ReadsAll};
+ghost use Rattle.tau_value.specs.Inner.Reading.{HasHead, Reads, ReadsAll};
 ghost use Rattle.tau_value.specs.Sizes.{IsInBounds, NamesBelow, parts_of, levels_of, parts_of_all, levels_of_all};
 ghost use Rattle.tau_value.specs.Val.{Val};
 ghost use Rattle.tau_value.specs.Value.{val_of};

@@ -5,7 +5,7 @@ use Rattle.std.proofs.lemmas.Bool.{cases_eq}
 use Rattle.tau_history.specs.Timeline.{Timeline}
 use Rattle.tau_history.specs.Order.{later_of}
 use Rattle.tau_view.specs.Stored.{AscendsFrom, history_in}
-use Rattle.tau_view.specs.Places.{Between, IsAt, IsGap, blank}
+use Rattle.tau_view.specs.Inner.Places.{Between, IsAt, IsGap, blank}
 use Rattle.tau_view.specs.Rules.{later_history}
 
 abbrev pub Entries : Type 0

@@ -5,7 +5,7 @@ use Rattle.std.specs.Cmp.{ranked}
 use Rattle.std.proofs.lemmas.List.{get_or-map, length-map, map-append, map-set, take-map, drop-map}
 use Rattle.tau_view.specs.declared.entry.Entry.{Entry}
 use Rattle.tau_view.specs.Entries.{entry_of, entries_of}
-use Rattle.tau_view.specs.Places.{Between, IsAt, IsGap, blank}
+use Rattle.tau_view.specs.Inner.Places.{Between, IsAt, IsGap, blank}
 use Rattle.std.specs.List.{insert}
 use Rattle.tau_view.specs.Rules.{noted_in}
 use Rattle.tau_view.specs.Stored.{AscendsFrom, history_in}

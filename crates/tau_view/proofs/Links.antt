@@ -12,7 +12,7 @@ use Rattle.tau_points.specs.Reach.{Reach, start, next, Leads}
 use Rattle.tau_points.proofs.Reach.{monotone}
 use Rattle.tau_view.specs.Held.{Held, Histories, Points, fate_in}
 use Rattle.tau_view.specs.Past.{Link, edge, before, OpenLink, number_in, KnownPast, PastUpToClosed}
-use Rattle.tau_view.specs.Before.{before_in}
+use Rattle.tau_view.specs.Inner.Before.{before_in}
 use Rattle.tau_view.specs.Stored.{Stored, point_in, pair_in, held}
 use Rattle.tau_view.proofs.Sets.{point_in-Contains, Contains-point_in, pair_in-Contains, Contains-pair_in}
 

@@ -8,7 +8,7 @@ use Rattle.std.proofs.lemmas.Bool.{cases_eq}
 use Rattle.tau_history.specs.Timeline.{Timeline}
 use Rattle.tau_view.specs.declared.entry.Entry.{Entry}
 use Rattle.tau_view.specs.Entries.{entry_of, entries_of}
-use Rattle.tau_view.specs.Places.{Between, blank}
+use Rattle.tau_view.specs.Inner.Places.{Between, blank}
 use Rattle.tau_history.specs.Order.{AreComparable, later_of}
 use Rattle.tau_view.specs.Held.{AllComparable}
 use Rattle.tau_view.specs.Rules.{later_history, merged_in}

@@ -7,8 +7,7 @@ pub mod Stays
 pub mod Stored
 pub mod Full
 pub mod Entries
-pub mod Places
 pub mod Edges
-pub mod Before
 pub mod Dropping
 pub mod Seen
+pub mod Inner

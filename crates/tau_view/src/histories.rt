@@ -6,7 +6,7 @@ ghost use Rattle.tau_view.specs.Rules.{noted_in, merged_in};
 ghost use Rattle.tau_history.specs.Fates.{fate};
 ghost use Rattle.tau_history.specs.Order.{AreComparable, later_of};
 ghost use Rattle.tau_view.specs.Entries.{entries_of};
-ghost use Rattle.tau_view.specs.Places.{IsAt, IsGap};
+ghost use Rattle.tau_view.specs.Inner.Places.{IsAt, IsGap};
 ghost use Rattle.tau_view.specs.Stored.{AscendsFrom, history_in};
 
 use crate::entry::Entry;

@@ -3,7 +3,7 @@ ghost use Rattle.tau_points.specs.declared.point.Point.{Point};
 ghost use Rattle.tau_points.specs.Order.{IsAscending};
 ghost use Rattle.tau_view.specs.Held.{fate_in};
 ghost use Rattle.tau_view.specs.Past.{KnownPast, PastUpToClosed};
-ghost use Rattle.tau_view.specs.Before.{before_in};
+ghost use Rattle.tau_view.specs.Inner.Before.{before_in};
 ghost use Rattle.tau_view.specs.Stored.{history_in, point_in, held};
 
 use crate::facts::Facts;

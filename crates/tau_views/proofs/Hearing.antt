@@ -20,8 +20,8 @@ use Rattle.tau_heard.specs.Views.{IsViewOf, IsMessageView}
 use Rattle.tau_views.specs.declared.views.Views.{Views}
 use Rattle.tau_views.specs.declared.views.ViewChange.{ViewChange}
 use Rattle.tau_views.specs.Kept.{AreViews, held_of, letters_of}
-use Rattle.tau_views.specs.Trims.{IsAfter, IsAfterBoth}
-use Rattle.tau_views.specs.Next.{IsNext, AreNext}
+use Rattle.tau_views.specs.Inner.Trims.{IsAfter, IsAfterBoth}
+use Rattle.tau_views.specs.Inner.Next.{IsNext, AreNext}
 use Rattle.tau_heard.proofs.HeardLaws.{views_have_the_own_history}
 use Rattle.tau_views.proofs.Trimmed.{same_history}
 use Rattle.tau_views.proofs.Appended.{here, born_then, well_formed_then, message_stays, after_step}

@@ -18,7 +18,7 @@ use Rattle.tau_past.specs.Decisions.{Verdict as VerdictAt, Free}
 use Rattle.tau_past.specs.Safety.{KeepsRules}
 use Rattle.tau_judgement.specs.Laws.{judged, AreViewsOf, IsFreedomOf}
 use Rattle.tau_views.specs.Kept.{AreViews}
-use Rattle.tau_views.specs.Trims.{IsAfterBoth}
+use Rattle.tau_views.specs.Inner.Trims.{IsAfterBoth}
 use Rattle.tau_judgement.proofs.JudgementLaws.{views_are_settled, merged_views_are_settled, verdicts_agree, freedom_agrees}
 
 module _ (de : EdgeTest) (dr : RootTest) (T : Run) (own : List Held) (letters : List (Option Held)) (views : AreViews de dr T own letters) (w : WellFormed T) (rules : KeepsRules T) (t : ℕ) (h : Held) (exists : t < born T (len T)) (e : slice_get own t ≡ Some h) where

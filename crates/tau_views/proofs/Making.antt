@@ -17,8 +17,8 @@ use Rattle.tau_heard.specs.Laws.{ViewAfterStep, with_newborn}
 use Rattle.tau_views.specs.declared.views.Views.{Views}
 use Rattle.tau_views.specs.declared.views.ViewChange.{ViewChange}
 use Rattle.tau_views.specs.Kept.{AreViews, held_of, letters_of}
-use Rattle.tau_views.specs.Trims.{IsAfter}
-use Rattle.tau_views.specs.Next.{IsNext, AreNext, only_removes}
+use Rattle.tau_views.specs.Inner.Trims.{IsAfter}
+use Rattle.tau_views.specs.Inner.Next.{IsNext, AreNext, only_removes}
 use Rattle.tau_views.proofs.Appended.{here, born_here, sent_here, after_step}
 use Rattle.tau_views.proofs.Next.{actor_exists, unborn_history, next_by}
 

@@ -25,7 +25,7 @@ use Rattle.tau_views.specs.declared.views.Views.{Views}
 use Rattle.tau_views.specs.declared.views.ViewChange.{ViewChange}
 use Rattle.tau_views.specs.Kept.{IsTrimmed, AreViews, held_of, letters_of}
 use Rattle.tau_views.specs.Changes.{own_after, letters_after, with_last, with_item, without_item, with_letter}
-use Rattle.tau_views.specs.Next.{IsNext, AreNext}
+use Rattle.tau_views.specs.Inner.Next.{IsNext, AreNext}
 use Rattle.tau_heard.proofs.HeardLaws.{views_have_the_own_history, views_lack_the_unborn, views_are_comparable}
 use Rattle.tau_views.proofs.Trimmed.{same_history, comparable_trimmed}
 use Rattle.tau_views.proofs.Lists.{numbered, map-with_item, map-with_last, map-without_item, map-with_letter}

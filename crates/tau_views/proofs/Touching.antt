@@ -20,8 +20,8 @@ use Rattle.tau_heard.specs.Laws.{only_touches}
 use Rattle.tau_views.specs.declared.views.Views.{Views}
 use Rattle.tau_views.specs.declared.views.ViewChange.{ViewChange}
 use Rattle.tau_views.specs.Kept.{held_of}
-use Rattle.tau_views.specs.Trims.{IsAfter}
-use Rattle.tau_views.specs.Next.{IsNext, AreNext}
+use Rattle.tau_views.specs.Inner.Trims.{IsAfter}
+use Rattle.tau_views.specs.Inner.Next.{IsNext, AreNext}
 use Rattle.tau_views.proofs.Appended.{here, does_here, after_step}
 use Rattle.tau_views.proofs.Next.{IsPlain, own_change, actor_exists, turn_then, history_then, next_own}
 

@@ -1,5 +1,3 @@
 pub mod Kept
 pub mod Changes
-pub mod Trims
-pub mod Next
-pub mod Opened
+pub mod Inner

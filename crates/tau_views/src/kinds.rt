@@ -8,7 +8,7 @@ ghost use Rattle.tau_trace.specs.Histories as histories;
 ghost use Rattle.tau_past.specs.Carried.{is_set};
 ghost use Rattle.tau_past.specs.Heard.{heard_by};
 ghost use Rattle.tau_heard.specs.Laws.{only_touches};
-ghost use Rattle.tau_views.specs.Next.{IsNext, AreNext, only_ends, falls_if_volatile, only_removes};
+ghost use Rattle.tau_views.specs.Inner.Next.{IsNext, AreNext, only_ends, falls_if_volatile, only_removes};
 
 use crate::after::{
     after_leaving, after_merge, after_new, after_set, after_stabilize, after_take, after_touch,

@@ -6,7 +6,7 @@ ghost use Rattle.tau_view.specs.Trim.{trim};
 ghost use Rattle.tau_trace.specs.declared.opening.Opening.{Opening};
 ghost use Rattle.tau_trace.specs.Known.{IsSound};
 ghost use Rattle.tau_views.specs.Kept.{AreViews, held_of, letters_of};
-ghost use Rattle.tau_views.specs.Opened.{AreStarts, ArePosts};
+ghost use Rattle.tau_views.specs.Inner.Opened.{AreStarts, ArePosts};
 
 use crate::views::Views;
 use std::alloc::{AllocError, Global};

@@ -4,7 +4,7 @@ ghost use Rattle.tau_trace.specs.Run.{appended};
 ghost use Rattle.tau_trace.specs.Known.{MayFollow};
 ghost use Rattle.tau_views.specs.Kept.{AreViews, IsReady, held_of, letters_of};
 ghost use Rattle.tau_views.specs.Changes.{own_after, letters_after};
-ghost use Rattle.tau_views.specs.Next.{IsNext, AreNext};
+ghost use Rattle.tau_views.specs.Inner.Next.{IsNext, AreNext};
 
 use crate::views::{ViewChange, Views};
 use std::alloc::{AllocError, Global};

@@ -1,1 +1,1 @@
-pub mod Hands
+pub mod Inner

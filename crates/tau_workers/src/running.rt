@@ -4,7 +4,7 @@ ghost use Rattle.tau_tree.specs.Sound.{Sound};
 ghost use Rattle.tau_trace.specs.Run.{len};
 ghost use Rattle.tau_trace.specs.Known.{WellFormed};
 ghost use Rattle.tau_legal.specs.Traces.{Legal, Complete};
-ghost use Rattle.tau_workers.specs.Hands.{opening_hand, opening_hands};
+ghost use Rattle.tau_workers.specs.Inner.Hands.{opening_hand, opening_hands};
 
 use crate::gates::Gate;
 use crate::locked::LockedBook;

@@ -1,6 +1,6 @@
 use Rattle.std.proofs.Common.{◌≡◌, ◌≤◌, ◌+◌, ◌∙◌, ℕ, Option, length, get_or, List, ap, subst, arith}
 use Rattle.tau_eval.specs.Turn.{TurnSoFar}
-use Rattle.tau_book.specs.Jobs.{IsEarliestFrom}
+use Rattle.tau_book.specs.Inner.Jobs.{IsEarliestFrom}
 use Rattle.tau_book.proofs.JobLists.{earliest_at_end, earliest_kept, earliest_taken, same_default}
 use Rattle.tau_book.proofs.jobs.earlier.Goals as goal
 

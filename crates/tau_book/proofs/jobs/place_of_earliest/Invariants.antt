@@ -1,4 +1,4 @@
-use Rattle.tau_book.specs.Jobs.{IsEarliestFrom}
+use Rattle.tau_book.specs.Inner.Jobs.{IsEarliestFrom}
 use Rattle.std.proofs.Common.{◌≤◌, length}
 use Rattle.tau_book.proofs.jobs.place_of_earliest.Given as goal
 

@@ -2,7 +2,7 @@ use Rattle.std.proofs.Common.{◌≡◌, vec_len, fold}
 use Rattle.std.specs.Vec.{vec_capacity}
 use Rattle.tau_book.specs.Books.{AreOfDifferentTurns}
 use Rattle.tau_book.specs.Offers.{stored}
-use Rattle.tau_book.specs.Returns.{AreOfTurns}
+use Rattle.tau_book.specs.Inner.Returns.{AreOfTurns}
 use Rattle.tau_book.proofs.returns.give_all.Given as goal
 
 abbrev pub invariant-jobs : goal.invariant-jobs

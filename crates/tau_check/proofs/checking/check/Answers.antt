@@ -1,7 +1,7 @@
 use Rattle.std.proofs.Common.{◌≡◌, Bool, sym, subst, arith}
 use Rattle.tau_trace.specs.Run.{Run, len}
 use Rattle.tau_tree.specs.declared.programs.Program.{Program}
-use Rattle.tau_check.specs.Checkers.{IsChecked}
+use Rattle.tau_check.specs.Inner.Checkers.{IsChecked}
 use Rattle.tau_check.proofs.Coming.{come_to_first, next_follows, first_illegal, come_after, all_legal, completeness}
 use Rattle.tau_check.proofs.checking.check.Goals as goal
 

@@ -1,4 +1,4 @@
-use Rattle.tau_check.specs.Checkers.{HasCome}
+use Rattle.tau_check.specs.Inner.Checkers.{HasCome}
 use Rattle.tau_check.proofs.checking.check.Given as goal
 
 abbrev pub invariant-loop-place : goal.invariant-loop-place

@@ -5,7 +5,7 @@ use Rattle.tau_history.specs.declared.fate.Fate.TheVariants.{Fallen}
 use Rattle.tau_history.specs.contracts.fate.Fate.{the_type}
 use Rattle.tau_points.specs.declared.point.Point.{Point}
 use Rattle.tau_view.specs.Held.{fate_in}
-use Rattle.tau_fate.specs.Found.{FallenAmong}
+use Rattle.tau_fate.specs.Inner.Found.{FallenAmong}
 use Rattle.tau_fate.specs.Least.{IsLeast}
 use Rattle.tau_fate.proofs.Firsts.{first_least}
 use denote.Enum.Bare.{same_true}

@@ -3,7 +3,7 @@ use Rattle.std.specs.Prelude.{Contains, IsFalse}
 use Rattle.std.proofs.lemmas.List.Elements.{Contains-get_or}
 use Rattle.tau_points.specs.declared.point.Point.{Point}
 use Rattle.tau_view.specs.Held.{fate_in, is_firm}
-use Rattle.tau_fate.specs.Found.{NotFirmAmong}
+use Rattle.tau_fate.specs.Inner.Found.{NotFirmAmong}
 use Rattle.tau_fate.specs.Least.{IsLeast}
 use Rattle.tau_fate.proofs.Firsts.{first_least, not_firm}
 use Rattle.tau_fate.proofs.least.first_not_firm.Goals as goal

@@ -1,6 +1,6 @@
 use Rattle.std.proofs.Common.{◌≡◌, ◌++◌, map, take, All}
 use Rattle.tau_tree.specs.Parts.{Throughout}
-use Rattle.tau_forms.specs.Fitting.{HasFittingInteger}
+use Rattle.tau_forms.specs.Inner.Fitting.{HasFittingInteger}
 use Rattle.tau_forms.specs.Printed.{behaviour_form}
 use Rattle.tau_forms.proofs.printing.add_behaviours.Given as goal
 

@@ -1,6 +1,6 @@
 use Rattle.std.proofs.Common.{◌<◌, length, arith}
 use Rattle.std.proofs.lemmas.List.Elements.{All-more}
-use Rattle.tau_forms.specs.Fitting.{HasFittingNumbers}
+use Rattle.tau_forms.specs.Inner.Fitting.{HasFittingNumbers}
 use Rattle.tau_forms.specs.Printed.{entry_form}
 use Rattle.tau_forms.proofs.PrintedLemmas.{forms_more_at}
 use Rattle.tau_forms.proofs.printing.add_entries.Goals as goal

@@ -1,5 +1,5 @@
 use Rattle.std.proofs.Common.{◌≡◌, ◌++◌, map, take, All}
-use Rattle.tau_forms.specs.Fitting.{HasFittingNumbers}
+use Rattle.tau_forms.specs.Inner.Fitting.{HasFittingNumbers}
 use Rattle.tau_forms.specs.Printed.{entry_form}
 use Rattle.tau_forms.proofs.printing.add_entries.Given as goal
 

@@ -1,7 +1,7 @@
 use Rattle.std.proofs.Common.{◌<◌, length, subst, arith}
 use Rattle.std.proofs.lemmas.List.Elements.{All-more}
 use Rattle.tau_value.specs.Value.{val_of}
-use Rattle.tau_forms.specs.Fitting.{IsWritten}
+use Rattle.tau_forms.specs.Inner.Fitting.{IsWritten}
 use Rattle.tau_forms.specs.Printed.{start_form}
 use Rattle.tau_forms.proofs.PrintedLemmas.{forms_more}
 use Rattle.tau_forms.proofs.printing.add_starts.Goals as goal

@@ -1,6 +1,6 @@
 use Rattle.std.proofs.Common.{◌≡◌, ◌++◌, map, take, All}
 use Rattle.tau_value.specs.Value.{val_of}
-use Rattle.tau_forms.specs.Fitting.{IsWritten}
+use Rattle.tau_forms.specs.Inner.Fitting.{IsWritten}
 use Rattle.tau_forms.specs.Printed.{start_form}
 use Rattle.tau_forms.proofs.printing.add_starts.Given as goal
 

@@ -6,7 +6,7 @@ use Rattle.tau_sexpr.specs.Tree.{sizes, size_of_all-inside}
 use Rattle.tau_tree.specs.Sound.{Sound}
 use Rattle.tau_forms.specs.Faults.{ProgramFaultAt}
 use Rattle.tau_forms.specs.Meaning.{Means}
-use Rattle.tau_forms.specs.Passing.{IsRead, TellsFault}
+use Rattle.tau_forms.specs.Inner.Passing.{IsRead, TellsFault}
 use Rattle.tau_forms.specs.Tops.{limit_of}
 use Rattle.tau_forms.proofs.ProgramLemmas.{nodes_le, starts_le, means_read, fault_read, none_read}
 use Rattle.tau_forms.proofs.SoundLemmas.{sound_of}

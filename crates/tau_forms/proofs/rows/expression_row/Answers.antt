@@ -1,5 +1,5 @@
 use Rattle.std.proofs.Common.{refl}
-use Rattle.tau_forms.specs.Scopes.{names_of}
+use Rattle.tau_forms.specs.Inner.Scopes.{names_of}
 use Rattle.tau_forms.proofs.RowLemmas.{row_of_name, row_of_new, row_of_let, row_of_fold, row_of_plain}
 use Rattle.tau_forms.proofs.rows.expression_row.Goals as goal
 

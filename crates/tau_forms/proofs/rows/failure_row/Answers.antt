@@ -2,7 +2,7 @@ use Rattle.std.proofs.Common.{◌≡◌, ◌^◌, refl, sym, ap, ◌∙◌, map}
 use Rattle.tau_sexpr.specs.Form.{tree_of}
 use Rattle.tau_sexpr.specs.Tree.{inside}
 use Rattle.tau_forms.specs.declared.keywords.FailureWord.TheVariants as failures
-use Rattle.tau_forms.specs.Passing.{roles_of}
+use Rattle.tau_forms.specs.Inner.Passing.{roles_of}
 use Rattle.tau_forms.proofs.RowLemmas.{count_of-inside, row_of_failure, roles_of_failure}
 use Rattle.tau_forms.proofs.rows.failure_row.Goals as goal
 

@@ -2,7 +2,7 @@ use Rattle.std.proofs.Common.{◌≡◌, ◌<◌, ◌+◌, ◌++◌, ◌∷◌, 
 use Rattle.std.proofs.lemmas.List.{map_more}
 use Rattle.std.proofs.lemmas.Result.{err_from_is_err_and}
 use Rattle.tau_sexpr.specs.Form.{tree_of}
-use Rattle.tau_forms.specs.Defined.{IsDefined}
+use Rattle.tau_forms.specs.Inner.Defined.{IsDefined}
 use Rattle.tau_forms.proofs.TopLemmas.{tops_more, tops_tells, each_tells, each_clean, each_missing}
 use Rattle.tau_forms.proofs.tops.check_each.Goals as goal
 

@@ -1,6 +1,6 @@
 use Rattle.std.proofs.Common.{map, take}
 use Rattle.tau_sexpr.specs.Form.{tree_of}
-use Rattle.tau_forms.specs.Defined.{IsDefined}
+use Rattle.tau_forms.specs.Inner.Defined.{IsDefined}
 use Rattle.tau_forms.proofs.TopLemmas.{TopsReached}
 use Rattle.tau_forms.proofs.tops.check_each.Given as goal
 

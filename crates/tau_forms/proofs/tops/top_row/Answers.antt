@@ -1,9 +1,9 @@
 use Rattle.std.proofs.Common.{◌≡◌, true, Some, map, sym, ap, ◌∙◌}
 use Rattle.tau_sexpr.specs.Form.{tree_of}
 use Rattle.tau_sexpr.specs.Tree.{Tree, list, inside, more, word}
-use Rattle.tau_forms.specs.Passing.{has_top_items, roles_of}
+use Rattle.tau_forms.specs.Inner.Passing.{has_top_items, roles_of}
 use Rattle.tau_forms.specs.Roles.{count_of, top_first, top_items, with_first}
-use Rattle.tau_forms.specs.Wanted.{role_of}
+use Rattle.tau_forms.specs.Inner.Wanted.{role_of}
 use Rattle.tau_forms.proofs.RowLemmas.{count_of-inside}
 use Rattle.tau_forms.proofs.TopLemmas.{row_of_top, row_of_top_none, first_is_mark, first_is_word}
 use Rattle.tau_forms.proofs.tops.top_row.Goals as goal

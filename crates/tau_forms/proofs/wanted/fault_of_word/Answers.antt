@@ -1,7 +1,7 @@
 use Rattle.std.proofs.Common.{ap, ◌∙◌, sym}
 use Rattle.tau_forms.specs.Faults.{word_fault}
-use Rattle.tau_forms.specs.Scopes.{names_of}
-use Rattle.tau_forms.specs.Wanted.{role_of}
+use Rattle.tau_forms.specs.Inner.Scopes.{names_of}
+use Rattle.tau_forms.specs.Inner.Wanted.{role_of}
 use Rattle.tau_forms.proofs.WordLemmas.{fault_of_known, fault_of_fresh, fault_of_variable}
 use Rattle.tau_forms.proofs.wanted.fault_of_word.Goals as goal
 

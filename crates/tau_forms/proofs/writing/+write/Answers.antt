@@ -3,9 +3,9 @@ use Rattle.std.proofs.lemmas.List.{map_more, map-append, take_all}
 use Rattle.tau_tree.specs.Code.{inside}
 use Rattle.tau_tree.specs.Expr.{code_of, codes_of}
 use Rattle.tau_tree.specs.Parts.{Throughout, AllThroughout}
-use Rattle.tau_tree.specs.Size.{size_of_all, size-at}
+use Rattle.tau_tree.specs.Inner.Size.{size_of_all, size-at}
 use Rattle.tau_tree.proofs.EachLemmas.{each_throughout, each-push}
-use Rattle.tau_forms.specs.Fitting.{HasFittingInteger}
+use Rattle.tau_forms.specs.Inner.Fitting.{HasFittingInteger}
 use Rattle.tau_forms.proofs.PrintedLemmas.{code_forms-inside}
 use Rattle.tau_forms.proofs.writing.+write.Goals as goal
 

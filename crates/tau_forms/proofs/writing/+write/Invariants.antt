@@ -3,8 +3,8 @@ use Rattle.tau_sexpr.specs.Tree.{word}
 use Rattle.tau_tree.specs.Code.{inside}
 use Rattle.tau_tree.specs.Expr.{code_of, codes_of}
 use Rattle.tau_tree.specs.Parts.{AllThroughout}
-use Rattle.tau_tree.specs.Size.{size_of, size_of_all}
-use Rattle.tau_forms.specs.Fitting.{HasFittingInteger}
+use Rattle.tau_tree.specs.Inner.Size.{size_of, size_of_all}
+use Rattle.tau_forms.specs.Inner.Fitting.{HasFittingInteger}
 use Rattle.tau_forms.specs.Printed.{code_form}
 use Rattle.tau_forms.proofs.writing.+write.Given as goal
 

@@ -1,7 +1,7 @@
 use Rattle.std.proofs.Common.{subst, sym, ap, ◌∙◌, arith, length, ◌≡◌, List, Bool, Option}
 use Rattle.tau_points.specs.declared.point.Point.{Point}
 use Rattle.tau_trace.specs.Run.{len}
-use Rattle.tau_past.specs.Searching.{IsComplete}
+use Rattle.tau_past.specs.Inner.Searching.{IsComplete}
 use Rattle.tau_past.specs.Audits.{Checked}
 use Rattle.tau_past.proofs.Breaches.{breach_found, breach_none, checking_first, slice_back}
 use Rattle.tau_past.proofs.auditing.first_breach.Goals as goal

@@ -1,6 +1,6 @@
 use Rattle.std.proofs.Common.{◌≡◌, length}
 use Rattle.tau_trace.specs.Run.{len}
-use Rattle.tau_past.specs.Searching.{IsComplete}
+use Rattle.tau_past.specs.Inner.Searching.{IsComplete}
 use Rattle.tau_past.proofs.Breaches.{Checking}
 use Rattle.tau_past.proofs.auditing.first_breach.Given as goal
 

@@ -1,6 +1,6 @@
 use Rattle.std.proofs.Common.{◌+◌, ◌-◌, ◌*◌, ◌^◌, length, vec_len}
 use Rattle.std.specs.Bool.{OnTrue, OnFalse}
-use Rattle.tau_past.specs.Searching.{PastHasFallen, FoundNoFallen}
+use Rattle.tau_past.specs.Inner.Searching.{PastHasFallen, FoundNoFallen}
 use Rattle.tau_past.proofs.PastSearch.{Searched}
 use Rattle.tau_past.proofs.search.add_past.Given as goal
 

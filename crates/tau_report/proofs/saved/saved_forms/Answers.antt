@@ -1,7 +1,7 @@
 use Rattle.std.proofs.Common.{◌≡◌, ◌+◌, sym, subst, refl, length, Some, arith, add-one}
 use Rattle.std.specs.Prelude.{slice_get}
 use Rattle.std.proofs.lemmas.Option.{slice_get_read}
-use Rattle.tau_report.specs.Rows.{AreRows}
+use Rattle.tau_report.specs.Inner.Rows.{AreRows}
 use Rattle.tau_report.proofs.SavedRows.{rows_none, rows_more}
 use Rattle.tau_report.proofs.saved.saved_forms.Goals as goal
 

@@ -1,4 +1,4 @@
-use Rattle.tau_report.specs.Rows.{AreRows}
+use Rattle.tau_report.specs.Inner.Rows.{AreRows}
 use Rattle.tau_report.proofs.saved.saved_forms.Given as goal
 
 abbrev pub invariant-loop-who : goal.invariant-loop-who

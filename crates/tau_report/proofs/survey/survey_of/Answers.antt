@@ -3,7 +3,7 @@ use Rattle.std.specs.Option.{option_copied}
 use Rattle.tau_trace.specs.Run.{step_at}
 use Rattle.tau_trace.proofs.Prefix.{prefix}
 use Rattle.tau_states.specs.Opening.{opening_states}
-use Rattle.tau_report.specs.Counted.{IsSurvey}
+use Rattle.tau_report.specs.Inner.Counted.{IsSurvey}
 use Rattle.tau_report.proofs.Prefixes.{past_last}
 use Rattle.tau_report.proofs.Surveys.{survey_first, survey_next, survey_few, survey_whole}
 use Rattle.tau_report.proofs.survey.survey_of.Goals as goal

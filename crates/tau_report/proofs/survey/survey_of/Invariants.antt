@@ -1,6 +1,6 @@
 use Rattle.tau_trace.proofs.Prefix.{prefix}
 use Rattle.tau_states.specs.Opening.{opening_states}
-use Rattle.tau_report.specs.Counted.{IsSurvey}
+use Rattle.tau_report.specs.Inner.Counted.{IsSurvey}
 use Rattle.tau_report.proofs.survey.survey_of.Given as goal
 
 abbrev pub invariant-loop-place : goal.invariant-loop-place

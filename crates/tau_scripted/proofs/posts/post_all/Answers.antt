@@ -3,7 +3,7 @@ use Rattle.tau_waiting.specs.declared.letter.Letter.{Letter}
 use Rattle.std.proofs.Common.{List, ◌+◌, arith, ◌≡◌}
 use Rattle.tau_trace.specs.Run.{Run, len}
 use Rattle.tau_trace.specs.Numbering.{sent}
-use Rattle.tau_scripted.specs.Posted.{ArePosted}
+use Rattle.tau_scripted.specs.Inner.Posted.{ArePosted}
 use Rattle.tau_scripted.proofs.PostLemmas.{posted_below, one_posted, all_posted}
 use Rattle.tau_scripted.proofs.posts.post_all.Goals as goal
 

@@ -1,5 +1,5 @@
 use Rattle.std.proofs.Common.{◌≡◌}
-use Rattle.tau_scripted.specs.Posted.{ArePosted}
+use Rattle.tau_scripted.specs.Inner.Posted.{ArePosted}
 use Rattle.tau_scripted.proofs.posts.post_all.Given as goal
 
 abbrev pub invariant-loop-message : goal.invariant-loop-message

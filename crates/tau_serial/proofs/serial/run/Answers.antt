@@ -3,7 +3,7 @@ use Rattle.tau_trace.specs.Run.{Run, len}
 use Rattle.tau_legal.specs.Traces.{Complete}
 use Rattle.tau_book.specs.Books.{Booked}
 use Rattle.tau_serial.specs.SerialRun.{IsSerialRun}
-use Rattle.tau_serial.specs.Working.{IsAtWork}
+use Rattle.tau_serial.specs.Inner.Working.{IsAtWork}
 use Rattle.tau_serial.proofs.Works.{begins_work, is_serial, finished_complete, finished_stopped}
 use Rattle.tau_serial.proofs.serial.run.Goals as goal
 

@@ -1,6 +1,6 @@
 use Rattle.std.proofs.Common.{◌≡◌, ◌⊎◌, ⊎_elim, ℕ, ap, subst}
 use Rattle.tau_book.specs.Nexts.{IsNext, IsHandedOut, IsReceived, IsDueMade}
-use Rattle.tau_serial.specs.Working.{IsAtWork, HasChosen}
+use Rattle.tau_serial.specs.Inner.Working.{IsAtWork, HasChosen}
 use Rattle.tau_serial.proofs.Works.{works_due, works_received, handed_out, not_idle}
 use Rattle.tau_serial.proofs.serial.step.Goals as goal
 

@@ -1,6 +1,6 @@
 use Rattle.std.proofs.Common.{◌≡◌, ℕ}
 use Rattle.tau_trace.specs.Run.{len}
-use Rattle.tau_serial.specs.Working.{IsAtWork, Works, IsSameWork}
+use Rattle.tau_serial.specs.Inner.Working.{IsAtWork, Works, IsSameWork}
 use Rattle.tau_serial.proofs.serial.work.Given as goal
 
 abbrev pub invariant-loop : goal.invariant-loop

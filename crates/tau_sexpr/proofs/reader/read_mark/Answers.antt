@@ -1,5 +1,5 @@
 use Rattle.std.proofs.Common.{◌≡◌, ◌+◌, ◌<◌, [], ◌∷◌, ◌++◌, length, drop, arith, ap, ◌∙◌}
-use Rattle.tau_sexpr.specs.Reader.{in_text, run}
+use Rattle.tau_sexpr.specs.Inner.Reader.{in_text, run}
 use Rattle.tau_sexpr.proofs.PlaceLemmas.{text_unclosed, quote_read, backslash_read, text_bad}
 use Rattle.tau_sexpr.proofs.reader.read_mark.Goals as goal
 

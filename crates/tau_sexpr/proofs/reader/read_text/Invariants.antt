@@ -1,7 +1,7 @@
 use Rattle.std.proofs.Common.{◌≡◌, ◌-◌, ◌≤◌, [], length, drop}
 use Rattle.std.specs.List.{All}
 use Rattle.tau_sexpr.specs.Bytes.{IsTextByte}
-use Rattle.tau_sexpr.specs.Reader.{Stack, in_text, run}
+use Rattle.tau_sexpr.specs.Inner.Reader.{Stack, in_text, run}
 use Rattle.tau_sexpr.proofs.reader.read_text.Given as goal
 
 abbrev pub invariant-loop-text : goal.invariant-loop-text

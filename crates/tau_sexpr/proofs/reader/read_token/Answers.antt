@@ -1,6 +1,6 @@
 use Rattle.std.proofs.Common.{drop, sym, subst, ap, ◌∙◌}
 use Rattle.std.proofs.lemmas.Result.{err_from_is_err_and}
-use Rattle.tau_sexpr.specs.Reader.{outside, run, stack_of, TellsFormFault}
+use Rattle.tau_sexpr.specs.Inner.Reader.{outside, run, stack_of, TellsFormFault}
 use Rattle.tau_sexpr.specs.declared.bytes.ByteKind.TheVariants.{Blank, Opening, Closing, Quote, Other}
 use Rattle.tau_sexpr.proofs.PlaceLemmas.{outside_at, comment_read, tells_step, step_on}
 use Rattle.tau_sexpr.proofs.reader.read_token.Goals as goal

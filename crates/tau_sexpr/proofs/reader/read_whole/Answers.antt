@@ -1,5 +1,5 @@
 use Rattle.std.proofs.Common.{◌∙◌}
-use Rattle.tau_sexpr.specs.Reader.{stack_of}
+use Rattle.tau_sexpr.specs.Inner.Reader.{stack_of}
 use Rattle.tau_sexpr.proofs.PlaceLemmas.{run_end, gives_same}
 use Rattle.tau_sexpr.proofs.reader.read_whole.Goals as goal
 

@@ -1,5 +1,5 @@
 use Rattle.std.proofs.Common.{◌≡◌, ◌-◌, ◌≤◌, length, drop}
-use Rattle.tau_sexpr.specs.Reader.{stack_of, outside, run, read_all}
+use Rattle.tau_sexpr.specs.Inner.Reader.{stack_of, outside, run, read_all}
 use Rattle.tau_sexpr.proofs.reader.read_whole.Given as goal
 
 abbrev pub invariant-loop-at : goal.invariant-loop-at

@@ -2,7 +2,7 @@ use Rattle.std.proofs.Common.{map, subst, arith}
 use Rattle.std.proofs.lemmas.List.{length-map}
 use Rattle.std.proofs.lemmas.Result.{err_from_is_err_and}
 use Rattle.tau_sexpr.specs.Form.{tree_of}
-use Rattle.tau_steps.specs.Reading.{AddsStep}
+use Rattle.tau_steps.specs.Inner.Reading.{AddsStep}
 use Rattle.tau_steps.proofs.LoopLemmas.{item_at, fault_told, one_more, read_whole}
 use Rattle.tau_steps.proofs.reading.read_all.Goals as goal
 

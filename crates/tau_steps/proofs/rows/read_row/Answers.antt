@@ -1,7 +1,7 @@
 use Rattle.std.proofs.Common.{map, sym, subst}
 use Rattle.tau_sexpr.specs.Form.{tree_of}
 use Rattle.tau_sexpr.specs.Tree.{inside}
-use Rattle.tau_steps.specs.Reading.{TellsRow}
+use Rattle.tau_steps.specs.Inner.Reading.{TellsRow}
 use Rattle.tau_steps.proofs.rows.read_row.Goals as goal
 
 pub returns-in-Send : goal.returns-in-Send

@@ -1,4 +1,4 @@
-use Rattle.tau_text.specs.Written.{AddsSteps}
+use Rattle.tau_text.specs.Inner.Written.{AddsSteps}
 use Rattle.tau_text.proofs.forms.add_steps.Given as goal
 
 abbrev pub invariant-loop-place : goal.invariant-loop-place

@@ -3,7 +3,7 @@ use Rattle.std.proofs.lemmas.List.{map_more}
 use Rattle.std.proofs.lemmas.Result.{err_from_is_err_and}
 use Rattle.tau_sexpr.specs.Form.{tree_of}
 use Rattle.tau_sexpr.specs.Tree.{inside}
-use Rattle.tau_value.specs.Reading.{scan, scan_all}
+use Rattle.tau_value.specs.Inner.Reading.{scan, scan_all}
 use Rattle.tau_value.proofs.ReadingLemmas.{size-at, size-push, counted_all-push, scan_all-push, scan-no_row, tells-later, tells-item}
 use Rattle.tau_value.proofs.reading.+read.Goals as goal
 

@@ -4,7 +4,7 @@ use Rattle.tau_sexpr.specs.Tree.{inside, size_of, size_of_all}
 use Rattle.tau_value.specs.Val as val
 use Rattle.tau_value.specs.Meaning.{counted_all}
 use Rattle.tau_value.specs.Numbers.{capped}
-use Rattle.tau_value.specs.Reading.{scan_all}
+use Rattle.tau_value.specs.Inner.Reading.{scan_all}
 use Rattle.tau_value.proofs.reading.+read.Given as goal
 
 abbrev pub decreases-read : goal.decreases-read

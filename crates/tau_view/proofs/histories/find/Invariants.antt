@@ -1,6 +1,6 @@
 use Rattle.std.proofs.Common.{ℕ, ◌+◌, ◌-◌, ◌≤◌, map, take, drop, length}
 use Rattle.tau_view.specs.Entries.{entry_of}
-use Rattle.tau_view.specs.Places.{Between}
+use Rattle.tau_view.specs.Inner.Places.{Between}
 use Rattle.tau_view.specs.Stored.{AscendsFrom}
 use Rattle.tau_view.proofs.histories.find.Given as goal
 

@@ -1,6 +1,6 @@
 use Rattle.std.proofs.Common.{◌≡◌, refl, subst, sym}
 use Rattle.tau_view.specs.Entries.{entries_of}
-use Rattle.tau_view.specs.Places.{IsAt, IsGap}
+use Rattle.tau_view.specs.Inner.Places.{IsAt, IsGap}
 use Rattle.tau_view.specs.Stored.{AscendsFrom, history_in}
 use Rattle.tau_view.specs.Rules.{noted_in}
 use Rattle.tau_view.proofs.Entries.{put_in_place, put_in_gap}

@@ -1,7 +1,7 @@
 use Rattle.std.proofs.Common.{◌∙◌, ◌+◌, sym, ap, subst, map, Some}
 use Rattle.std.specs.Option.{option_map}
 use Rattle.tau_views.specs.Kept.{letters_of}
-use Rattle.tau_views.specs.Opened.{ArePosts}
+use Rattle.tau_views.specs.Inner.Opened.{ArePosts}
 use Rattle.tau_views.proofs.Lists.{map-push}
 use Rattle.tau_views.proofs.Opens.{posts_more}
 use Rattle.tau_views.proofs.opening.post_views.Goals as goal

@@ -1,5 +1,5 @@
 use Rattle.tau_views.specs.Kept.{letters_of}
-use Rattle.tau_views.specs.Opened.{ArePosts}
+use Rattle.tau_views.specs.Inner.Opened.{ArePosts}
 use Rattle.tau_views.proofs.opening.post_views.Given as goal
 
 abbrev pub invariant-loop-post : goal.invariant-loop-post

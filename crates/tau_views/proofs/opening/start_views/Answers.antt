@@ -1,6 +1,6 @@
 use Rattle.std.proofs.Common.{◌∙◌, ◌+◌, sym, ap, subst, map}
 use Rattle.tau_views.specs.Kept.{held_of}
-use Rattle.tau_views.specs.Opened.{AreStarts}
+use Rattle.tau_views.specs.Inner.Opened.{AreStarts}
 use Rattle.tau_views.proofs.Lists.{map-push}
 use Rattle.tau_views.proofs.Opens.{starts_more}
 use Rattle.tau_views.proofs.opening.start_views.Goals as goal

@@ -1,5 +1,5 @@
 use Rattle.tau_views.specs.Kept.{held_of}
-use Rattle.tau_views.specs.Opened.{AreStarts}
+use Rattle.tau_views.specs.Inner.Opened.{AreStarts}
 use Rattle.tau_views.proofs.opening.start_views.Given as goal
 
 abbrev pub invariant-loop-who : goal.invariant-loop-who

@@ -1,5 +1,5 @@
 use Rattle.std.proofs.Common.{◌≡◌, map}
-use Rattle.tau_workers.specs.Hands.{opening_hands}
+use Rattle.tau_workers.specs.Inner.Hands.{opening_hands}
 use Rattle.tau_workers.proofs.running.make_workers.Given as goal
 
 abbrev pub invariant-loop-number : goal.invariant-loop-number

@@ -1,7 +1,7 @@
 use Rattle.std.proofs.Common.{List, subst, sym}
 use Rattle.tau_eval.specs.Turn.{TurnSoFar}
 use Rattle.tau_book.specs.Books.{AreOfDifferentTurns}
-use Rattle.tau_book.specs.Returns.{AreOfTurns}
+use Rattle.tau_book.specs.Inner.Returns.{AreOfTurns}
 use Rattle.tau_book.proofs.StoreLemmas.{differ_open, open_of_turns}
 use Rattle.tau_book.proofs.book.Book.give_back.Goals as goal
 

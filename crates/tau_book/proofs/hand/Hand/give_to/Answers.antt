@@ -1,5 +1,5 @@
 use Rattle.std.proofs.Common.{subst, sym}
-use Rattle.tau_book.specs.Returns.{AreOfTurns}
+use Rattle.tau_book.specs.Inner.Returns.{AreOfTurns}
 use Rattle.tau_book.proofs.StoreLemmas.{open_of_turns}
 use Rattle.tau_book.proofs.hand.Hand.give_to.Goals as goal
 

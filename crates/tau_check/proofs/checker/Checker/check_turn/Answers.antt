@@ -2,7 +2,7 @@ use Rattle.std.proofs.Common.{◌≡◌, ◌∙◌, ℕ, Some, ap, sym, subst}
 use Rattle.tau_eval.specs.Turn as jobs
 use Rattle.tau_rules.specs.System.{Core}
 use Rattle.tau_rules.specs.Answers.{IsOpenJob}
-use Rattle.tau_check.specs.Jobs.{HasOtherJobs}
+use Rattle.tau_check.specs.Inner.Jobs.{HasOtherJobs}
 use Rattle.tau_check.proofs.EndLemmas.{not_in_turn, in_turn}
 use Rattle.tau_check.proofs.TurnSteps.{idle_illegal, kept_job, others_left}
 use Rattle.tau_check.proofs.checker.Checker.check_turn.Goals as goal

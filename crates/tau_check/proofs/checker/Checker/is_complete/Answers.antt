@@ -2,7 +2,7 @@ use Rattle.std.proofs.Common.{◌∙◌, ◌↔◌, IsTrue, sym, subst}
 use Rattle.tau_trace.specs.Run.{Run}
 use Rattle.tau_legal.specs.Traces.{Complete}
 use Rattle.tau_rules.specs.System.{Core}
-use Rattle.tau_check.specs.Checkers.{NothingLeft}
+use Rattle.tau_check.specs.Inner.Checkers.{NothingLeft}
 use Rattle.tau_check.proofs.Endings.{due_incomplete, complete_where}
 use Rattle.tau_check.proofs.checker.Checker.is_complete.Goals as goal
 

@@ -2,7 +2,7 @@ use Rattle.std.proofs.Common.{sym, subst}
 use Rattle.std.specs.Prelude.{IfOk}
 use Rattle.tau_trace.specs.Known.{MayFollow}
 use Rattle.tau_rules.specs.System.{Core}
-use Rattle.tau_check.specs.Checkers.{IsChecked}
+use Rattle.tau_check.specs.Inner.Checkers.{IsChecked}
 use Rattle.tau_check.proofs.checker.Checker.step.Goals as goal
 
 pub check_due-requires-clause-follows : goal.check_due-requires-clause-follows

@@ -1,6 +1,6 @@
 use Rattle.std.specs.Prelude.{Result, Ok, Err, OnOk}
 use Rattle.tau_states.specs.Table.{Advances}
-use Rattle.tau_report.specs.Counted.{AdvancesSurvey}
+use Rattle.tau_report.specs.Inner.Counted.{AdvancesSurvey}
 use Rattle.tau_report.proofs.Surveys.{advances_survey}
 use Rattle.tau_report.proofs.survey.Survey.note.Goals as goal
 

@@ -10,7 +10,7 @@ use Rattle.tau_rules.specs.declared.records.Record.{Record}
 use Rattle.tau_rules.specs.Records.{IsRecord}
 use Rattle.tau_rules.specs.System.{Core}
 use Rattle.tau_rules.specs.Answers.{IsOpenJob, IsActed, NoTurnFrom, IsTurnEnd, no_take}
-use Rattle.tau_rules.specs.Acting.{IsTaker, IsMade}
+use Rattle.tau_rules.specs.Inner.Acting.{IsTaker, IsMade}
 use Rattle.tau_rules.proofs.DeliverLemmas.{behaviour_exists}
 use Rattle.tau_rules.proofs.ActLemmas.{none_without_take}
 use Rattle.tau_rules.proofs.ActLemmasOfJobs.{taker_within_records, taker_record, record_open}

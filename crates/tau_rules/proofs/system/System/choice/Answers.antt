@@ -8,7 +8,7 @@ use Rattle.tau_legal.specs.Turns.{TurnHas}
 use Rattle.tau_choice.specs.Choices.{IsChoiceOf}
 use Rattle.tau_choice.specs.declared.choices.Choice.{Choice}
 use Rattle.tau_rules.specs.System.{Core}
-use Rattle.tau_rules.specs.Acting.{step_of}
+use Rattle.tau_rules.specs.Inner.Acting.{step_of}
 use Rattle.tau_rules.proofs.ActLemmasOfJobs.{turn_exists}
 use Rattle.tau_rules.proofs.ActLemmasOfAnswers.{IsKept, choice_known}
 use Rattle.tau_rules.proofs.system.System.choice.Goals as goal

@@ -1,7 +1,7 @@
 use Rattle.std.proofs.Common.{◌∙◌, rules, sym, ap}
 use Rattle.std.proofs.lemmas.Fn.{filter_same}
 use Rattle.tau_waiting.specs.MailState.{is_not}
-use Rattle.tau_scripted.specs.Index.{turns_ended}
+use Rattle.tau_scripted.specs.Inner.Index.{turns_ended}
 use Rattle.tau_scripted.proofs.index.Index.end.Goals as goal
 
 pub returns-in-Some-clause-turns : goal.returns-in-Some-clause-turns

@@ -8,7 +8,7 @@ use Rattle.tau_eval.specs.Turn as jobs
 use Rattle.tau_rules.specs.System.{Core}
 use Rattle.tau_rules.specs.Answers.{IsActed}
 use Rattle.tau_scripted.specs.ScriptedRun.{ScriptedRun, IsUnchangedAtRedo, messages_of}
-use Rattle.tau_scripted.specs.Index.{letters_acted, busy_acted, turns_acted}
+use Rattle.tau_scripted.specs.Inner.Index.{letters_acted, busy_acted, turns_acted}
 use Rattle.tau_scripted.proofs.FlightLemmas.{letters_below}
 use Rattle.tau_scripted.proofs.Steps.{after_act, redo_same, of_lists}
 use Rattle.tau_scripted.proofs.TurnCounts.{fewer_acted}

@@ -7,7 +7,7 @@ use Rattle.tau_script.specs.Scripts.{NoneDue}
 use Rattle.tau_rules.specs.System.{Core}
 use Rattle.tau_rules.specs.Answers.{IsDelivered}
 use Rattle.tau_scripted.specs.ScriptedRun.{ScriptedRun}
-use Rattle.tau_scripted.specs.Index.{letters_received, busy_received, turns_received}
+use Rattle.tau_scripted.specs.Inner.Index.{letters_received, busy_received, turns_received}
 use Rattle.tau_scripted.proofs.DeliverableLemmas.{letter_waits, receiver_free, receiver_idle, message_is, not_busy}
 use Rattle.tau_scripted.proofs.Steps.{after_receipt, of_lists}
 use Rattle.tau_scripted.proofs.TurnCounts.{front_received, one_received}

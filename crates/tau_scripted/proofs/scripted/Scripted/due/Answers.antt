@@ -1,7 +1,7 @@
 use Rattle.std.proofs.Common.{◌<◌, length, subst}
 use Rattle.std.specs.Prelude.{IfSome}
 use Rattle.tau_trace.specs.declared.step.Step.{Step}
-use Rattle.tau_check.specs.Checkers.{HasAsked}
+use Rattle.tau_check.specs.Inner.Checkers.{HasAsked}
 use Rattle.tau_scripted.specs.ScriptedRun.{ScriptedRun}
 use Rattle.tau_scripted.proofs.Ends.{asked_at, due_entry}
 use Rattle.tau_scripted.proofs.scripted.Scripted.due.Goals as goal

@@ -3,9 +3,9 @@ use Rattle.tau_trace.specs.declared.step.Step.TheVariants.{Fail}
 use Rattle.tau_trace.specs.Run.{Run, len}
 use Rattle.tau_trace.specs.Turns.{IsOpenTurn}
 use Rattle.tau_rules.specs.System.{Core}
-use Rattle.tau_check.specs.Checkers.{HasAsked}
+use Rattle.tau_check.specs.Inner.Checkers.{HasAsked}
 use Rattle.tau_scripted.specs.ScriptedRun.{ScriptedRun}
-use Rattle.tau_scripted.specs.Index.{busy_ended, turns_ended}
+use Rattle.tau_scripted.specs.Inner.Index.{busy_ended, turns_ended}
 use Rattle.tau_scripted.proofs.Steps.{after_fail, of_lists}
 use Rattle.tau_scripted.proofs.TurnCounts.{fewer_ended}
 use Rattle.tau_scripted.proofs.scripted.Scripted.fail.Goals as goal

@@ -1,5 +1,5 @@
 use Rattle.std.proofs.Common.{◌≡◌, ◌∙◌, true, false, sym, subst}
-use Rattle.tau_check.specs.Checkers.{NothingLeft}
+use Rattle.tau_check.specs.Inner.Checkers.{NothingLeft}
 use Rattle.tau_scripted.specs.ScriptedRun.{ScriptedRun}
 use Rattle.tau_scripted.proofs.Ends.{nothing_left, no_turns_left, no_letters_left}
 use Rattle.tau_scripted.proofs.scripted.Scripted.has_nothing_left.Goals as goal

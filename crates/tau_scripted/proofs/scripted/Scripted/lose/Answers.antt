@@ -2,7 +2,7 @@ use Rattle.std.proofs.Common.{Some, filter, sym, ap, subst}
 use Rattle.tau_waiting.specs.Letters.{is_other}
 use Rattle.tau_trace.specs.declared.step.Step.TheVariants.{Lose}
 use Rattle.tau_rules.specs.System.{Core}
-use Rattle.tau_check.specs.Checkers.{HasAsked}
+use Rattle.tau_check.specs.Inner.Checkers.{HasAsked}
 use Rattle.tau_scripted.specs.ScriptedRun.{ScriptedRun}
 use Rattle.tau_scripted.proofs.Steps.{after_lose, of_lists}
 use Rattle.tau_scripted.proofs.scripted.Scripted.lose.Goals as goal

@@ -1,6 +1,6 @@
 use Rattle.std.proofs.Common.{ap, sym, ◌∙◌, subst}
 use Rattle.tau_view.specs.Entries.{entries_of}
-use Rattle.tau_view.specs.Places.{IsAt, IsGap}
+use Rattle.tau_view.specs.Inner.Places.{IsAt, IsGap}
 use Rattle.tau_view.specs.Stored.{history_in}
 use Rattle.tau_view.proofs.Ascending.{gap_none}
 use Rattle.tau_view.proofs.Entries.{got}

@@ -1,5 +1,5 @@
 use Rattle.std.proofs.Common.{sym, subst}
-use Rattle.tau_views.specs.Opened.{AreStarts, ArePosts}
+use Rattle.tau_views.specs.Inner.Opened.{AreStarts, ArePosts}
 use Rattle.tau_views.specs.Kept.{held_of, letters_of}
 use Rattle.tau_views.proofs.Opens.{opens}
 use Rattle.tau_views.proofs.views.Views.open.Goals as goal

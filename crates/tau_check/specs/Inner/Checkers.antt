@@ -11,7 +11,7 @@ use Rattle.tau_script.specs.Cursors.{CursorAt, IsCurrent, IsDueAt}
 use Rattle.tau_legal.specs.Traces.{IsLegal, Legal}
 use Rattle.tau_eval.specs.Turn as jobs
 use Rattle.tau_rules.specs.System.{Core, with_step}
-use Rattle.tau_check.specs.Jobs.{HasJobs}
+use Rattle.tau_check.specs.Inner.Jobs.{HasJobs}
 
 -- the run is legal, the cursor is the script's, and the job of each open turn is kept
 pub record IsChecker (P : Program) (T : Run) (cursor : Cursor) (js : List (Option jobs.Turn)) : Type 0 where

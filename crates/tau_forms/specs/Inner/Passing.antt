@@ -21,7 +21,7 @@ use Rattle.tau_forms.specs.Keywords.{keyword_in}
 use Rattle.tau_forms.specs.Roles.{Role, first, mark, expression, row, count_of, has_items, word_of, names_in}
 use Rattle.tau_forms.specs.Meaning.{plain_of, program_in}
 use Rattle.tau_forms.specs.Tops.{nodes_of}
-use Rattle.tau_forms.specs.Wanted.{role_of}
+use Rattle.tau_forms.specs.Inner.Wanted.{role_of}
 
 -- an error tells the first fault of a part whose own first node is `at`; want of memory tells nothing
 abbrev pub TellsFault : (ℕ → Fault → Type 0) → ℕ → ProgramError → Type 0

@@ -8,7 +8,7 @@ use Rattle.tau_forms.specs.declared.wanted.FaultKind.{FaultKind}
 use Rattle.tau_forms.specs.declared.wanted.FaultKind.TheVariants as kinds
 use Rattle.tau_forms.specs.Faults.{Fault, shape, unknown, twice}
 use Rattle.tau_forms.specs.Roles.{Role, first, mark, known, fresh, count, failure, value, expression, two_names, words_of}
-use Rattle.tau_forms.specs.Scopes.{names_of}
+use Rattle.tau_forms.specs.Inner.Scopes.{names_of}
 
 -- the role of a form of which this is wanted
 abbrev pub role_of : Wanted → Role
