@@ -39,7 +39,7 @@ abbrev pub no_steps : Program → Run
 no_steps P = record { opening = program_opening P; steps = [] }
 
 -- before the first step
-pub come_to_first : (P : Program) (T : Run) (core : Core) (c : Cursor) (js : List (Option jobs.Turn)) → WellFormed T → T.opening ≡ program_opening P → core.program ≡ P → core.run ≡ no_steps P → c ≡ first_cursor
+pub come_to_first : (P : Program) (T : Run) (core : Core) (c : Cursor) (js : List (Option jobs.TurnSoFar)) → WellFormed T → T.opening ≡ program_opening P → core.program ≡ P → core.run ≡ no_steps P → c ≡ first_cursor
     → HasCome P T 0 core c js
 come_to_first P T core c js v opens program run cursor = record {
   program = program;
@@ -58,7 +58,7 @@ come_to_first P T core c js v opens program run cursor = record {
     has_jobs = λ t place m u. absurd (omega (arith, u.before));
   }
 
-module _ (P : Program) (T : Run) (k : ℕ) (core : Core) (c : Cursor) (js : List (Option jobs.Turn)) (v : WellFormed T) (h : HasCome P T k core c js) where
+module _ (P : Program) (T : Run) (k : ℕ) (core : Core) (c : Cursor) (js : List (Option jobs.TurnSoFar)) (v : WellFormed T) (h : HasCome P T k core c js) where
   -- the next step may follow
   pub next_follows : (s : Step) → step_at T k ≡ Some s → MayFollow core.run s
   next_follows s e =
@@ -88,7 +88,7 @@ module _ (P : Program) (T : Run) (k : ℕ) (core : Core) (c : Cursor) (js : List
   first_illegal s e refused = record { step = s; stands = e; illegal = next_illegal s e refused; earlier = earlier_legal }
 
   -- the checker comes to the place after a legal step
-  pub come_after : (new : Core) (d : Cursor) (ks : List (Option jobs.Turn)) (s : Step) → step_at T k ≡ Some s → GoesOn core new d ks s → HasCome P T (k + 1) new d ks
+  pub come_after : (new : Core) (d : Cursor) (ks : List (Option jobs.TurnSoFar)) (s : Step) → step_at T k ≡ Some s → GoesOn core new d ks s → HasCome P T (k + 1) new d ks
   come_after new d ks s e g = record {
     program = ap (λ (x : Core). x.program) g.appended ∙ h.program;
     length = ap (λ (x : Core). len x.run) g.appended ∙ omega (arith, len-appended core.run s, h.length);

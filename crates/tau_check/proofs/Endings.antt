@@ -105,13 +105,13 @@ module _ (P : Program) (T : Run) (c : Cursor) where
   current due s asked = inr (subst (λ k. ComesTo P.script (appended T s) k (moved_past_due due c)) (sym (len-appended T s)) (cursors_go_on P.script T c due s asked.stands asked.due_is))
 
   -- the checker after a legal step
-  pub checker_after : (due : Option Step) (s : Step) (js : List (Option jobs.Turn)) → HasAsked P T c due → MayFollow T s → IsLegal P T (len T) s → HasJobs P (appended T s) js → IsChecker P (appended T s) (moved_past_due due c) js
+  pub checker_after : (due : Option Step) (s : Step) (js : List (Option jobs.TurnSoFar)) → HasAsked P T c due → MayFollow T s → IsLegal P T (len T) s → HasJobs P (appended T s) js → IsChecker P (appended T s) (moved_past_due due c) js
   checker_after due s js asked may legal has =
       let w : WellFormed (appended T s) = well_formed_appended T s asked.well_formed may in
       record { well_formed = w; legal = legal_grows P T s asked.well_formed w asked.legal legal; current = current due s asked; has_jobs = has }
 
 -- so the checker goes on
-pub goes_on : (old new : Core) (c d : Cursor) (due : Option Step) (s : Step) (js : List (Option jobs.Turn)) → HasAsked old.program old.run c due → MayFollow old.run s
+pub goes_on : (old new : Core) (c d : Cursor) (due : Option Step) (s : Step) (js : List (Option jobs.TurnSoFar)) → HasAsked old.program old.run c due → MayFollow old.run s
     → IsLegal old.program old.run (len old.run) s → new ≡ with_step old s → d ≡ moved_past_due due c → HasJobs old.program (appended old.run s) js → GoesOn old new d js s
 goes_on old new c d due s js asked may legal is moves has =
     let after : IsChecker old.program (appended old.run s) (moved_past_due due c) js = checker_after old.program old.run c due s js asked may legal has in
@@ -122,7 +122,7 @@ goes_on old new c d due s js asked may legal is moves has =
     }
 
 -- after the due step
-pub goes_on_due : (old new : Core) (c d : Cursor) (due s : Step) (js : List (Option jobs.Turn)) → HasAsked old.program old.run c (Some due) → MayFollow old.run s → due ≡ s
+pub goes_on_due : (old new : Core) (c d : Cursor) (due s : Step) (js : List (Option jobs.TurnSoFar)) → HasAsked old.program old.run c (Some due) → MayFollow old.run s → due ≡ s
     → HasJobs old.program old.run js → new ≡ with_step old due → d ≡ moved_past due c → GoesOn old new d js s
 goes_on_due old new c d due s js asked may same has is moves =
     let legal : IsLegal old.program old.run (len old.run) s = subst (IsLegal old.program old.run (len old.run)) same (due_legal old.program old.run c due asked) in

@@ -22,7 +22,7 @@ use Rattle.tau_check.proofs.Turns.{stays_open}
 use Rattle.tau_check.proofs.Once.{body_once, value_once, replies_once, same_taker, same_taken}
 
 -- of two open jobs at one place, both are the same
-pub job_once : (P : Program) (T : Run) → T.opening ≡ program_opening P → (a b : jobs.Turn) → a.place ≡ b.place → IsOpenJob P T a → IsOpenJob P T b → a ≡ b
+pub job_once : (P : Program) (T : Run) → T.opening ≡ program_opening P → (a b : jobs.TurnSoFar) → a.place ≡ b.place → IsOpenJob P T a → IsOpenJob P T b → a ≡ b
 job_once P T opens a b at f g =
     let takes : Take a.who f.message ≡ Take b.who g.message = same_some (sym f.turn.takes ∙ ap (step_at T) at ∙ g.turn.takes) in
     let who : a.who ≡ b.who = same_taker a.who b.who f.message g.message takes in
@@ -40,7 +40,7 @@ module _ (P : Program) (T : Run) (s : Step) (v : WellFormed T) (w : WellFormed (
   not_acts t ne a = ne (sym (ap (option_and_then actor) (step_at-appended T s)) ∙ a)
 
   -- an open job stays one where another transactor, or none, makes the step
-  pub job_kept : (job : jobs.Turn) → actor s ≢ Some job.who → IsOpenJob P T job → IsOpenJob P (appended T s) job
+  pub job_kept : (job : jobs.TurnSoFar) → actor s ≢ Some job.who → IsOpenJob P T job → IsOpenJob P (appended T s) job
   job_kept job ne h =
       let known = (v.known job.place (Take job.who h.message) h.turn.takes) in
       let within = h.turn.before in

@@ -19,7 +19,7 @@ same_or_other : (t u : ℕ) → (t ≡ u) ⊎ (t ≢ u)
 same_or_other t u = grind arith
 
 -- the job of a transactor's own turn and those of the others are all jobs
-pub all_jobs : (P : Program) (T : Run) (who : ℕ) (js : List (Option jobs.Turn)) → HasOtherJobs P T who js → ((place m : ℕ) → Turn T who (len T) place m → HasJobOf P T js who) → HasJobs P T js
+pub all_jobs : (P : Program) (T : Run) (who : ℕ) (js : List (Option jobs.TurnSoFar)) → HasOtherJobs P T who js → ((place m : ℕ) → Turn T who (len T) place m → HasJobOf P T js who) → HasJobs P T js
 all_jobs P T who js others own t place m u = ⊎_elim
     (λ (e : t ≡ who). subst (λ x. HasJobOf P T js x) (sym e) (own place m (subst (λ x. Turn T x (len T) place m) e u)))
     (λ ne. others t place m ne u)
@@ -27,7 +27,7 @@ all_jobs P T who js others own t place m u = ⊎_elim
 
 module _ (P : Program) (T : Run) (s : Step) (v : WellFormed T) (w : WellFormed (appended T s)) where
   -- the job of a transactor that doesn't make the step
-  job_after : (js ks : List (Option jobs.Turn)) (t : ℕ) → actor s ≢ Some t → HasJobOf P T js t → ((o : Option jobs.Turn) → slice_get js t ≡ Some o → slice_get ks t ≡ Some o) → HasJobOf P (appended T s) ks t
+  job_after : (js ks : List (Option jobs.TurnSoFar)) (t : ℕ) → actor s ≢ Some t → HasJobOf P T js t → ((o : Option jobs.TurnSoFar) → slice_get js t ≡ Some o → slice_get ks t ≡ Some o) → HasJobOf P (appended T s) ks t
   job_after js ks t ne h keeps = record {
     job = h.job;
     kept = keeps (Some h.job) h.kept;
@@ -36,28 +36,28 @@ module _ (P : Program) (T : Run) (s : Step) (v : WellFormed T) (w : WellFormed (
   }
 
   -- the jobs of those who don't make the step
-  pub others_after : (who : ℕ) (js ks : List (Option jobs.Turn)) → actor s ≡ Some who → HasOtherJobs P T who js → KeepsOthers who js ks → HasOtherJobs P (appended T s) who ks
+  pub others_after : (who : ℕ) (js ks : List (Option jobs.TurnSoFar)) → actor s ≡ Some who → HasOtherJobs P T who js → KeepsOthers who js ks → HasOtherJobs P (appended T s) who ks
   others_after who js ks by h keeps t place m ne u = ⊎_elim
       (λ x. job_after js ks t (λ e. ne (sym (same_some (sym by ∙ e)))) (h t place m ne x) (λ o e. keeps t o ne e))
       (λ e. absurd (ne (same_some (sym (ap actor e.1) ∙ by))))
       (earlier T s t place m u)
 
   -- where the transactor that makes the step has no open turn after it
-  pub jobs_after : (who : ℕ) (js ks : List (Option jobs.Turn)) → actor s ≡ Some who → HasOtherJobs P T who js → KeepsOthers who js ks
+  pub jobs_after : (who : ℕ) (js ks : List (Option jobs.TurnSoFar)) → actor s ≡ Some who → HasOtherJobs P T who js → KeepsOthers who js ks
       → ((place m : ℕ) → ¬ Turn (appended T s) who (len (appended T s)) place m) → HasJobs P (appended T s) ks
   jobs_after who js ks by h keeps none = all_jobs P (appended T s) who ks (others_after who js ks by h keeps) (λ place m u. absurd (none place m u))
 
   -- where the step ends its transactor's turn
-  pub jobs_after_end : (who : ℕ) (js : List (Option jobs.Turn)) → actor s ≡ Some who → IsTrue (ends_turn s) → HasOtherJobs P T who js → HasJobs P (appended T s) js
+  pub jobs_after_end : (who : ℕ) (js : List (Option jobs.TurnSoFar)) → actor s ≡ Some who → IsTrue (ends_turn s) → HasOtherJobs P T who js → HasJobs P (appended T s) js
   jobs_after_end who js by ends h = jobs_after who js js by h (λ t o ne e. e) (λ place m u. ended T s who place m by ends u)
 
   -- where its transactor has no open turn, and the step begins none
-  pub jobs_after_idle : (who : ℕ) (js : List (Option jobs.Turn)) → actor s ≡ Some who → BeginsNone s → IsOpenTurn T who (len T) None → HasJobs P T js → HasJobs P (appended T s) js
+  pub jobs_after_idle : (who : ℕ) (js : List (Option jobs.TurnSoFar)) → actor s ≡ Some who → BeginsNone s → IsOpenTurn T who (len T) None → HasJobs P T js → HasJobs P (appended T s) js
   jobs_after_idle who js by begins idle h = jobs_after who js js by (λ t place m ne u. h t place m u) (λ t o ne e. e)
       (λ place m u. ⊎_elim (λ x. idle place m x) (λ e. begins who m e.1) (earlier T s who place m u))
 
   -- where nobody makes the step
-  jobs_after_nobody : (js : List (Option jobs.Turn)) → actor s ≡ None → HasJobs P T js → HasJobs P (appended T s) js
+  jobs_after_nobody : (js : List (Option jobs.TurnSoFar)) → actor s ≡ None → HasJobs P T js → HasJobs P (appended T s) js
   jobs_after_nobody js none h t place m u = ⊎_elim
       (λ x. job_after js js t (λ e. nobody (sym none ∙ e)) (h t place m x) (λ o e. e))
       (λ e. absurd (nobody (sym none ∙ ap actor e.1)))
@@ -66,7 +66,7 @@ module _ (P : Program) (T : Run) (s : Step) (v : WellFormed T) (w : WellFormed (
         nobody e = cc
 
   -- after a due step
-  pub jobs_after_due : (js : List (Option jobs.Turn)) → HasObject T (len T) s → HasJobs P T js → HasJobs P (appended T s) js
+  pub jobs_after_due : (js : List (Option jobs.TurnSoFar)) → HasObject T (len T) s → HasJobs P T js → HasJobs P (appended T s) js
   jobs_after_due js object h = ⊎_elim
       (λ e. jobs_after_end e.0 js (ap actor e.1) (ap ends_turn e.1) (λ t place m ne u. h t place m u))
       (λ e. jobs_after_nobody js (ap actor e.1) h)

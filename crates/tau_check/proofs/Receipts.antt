@@ -92,7 +92,7 @@ module _ (old new : Core) (c : Cursor) (m : ℕ) (s : Step) (d : Delivered) (ask
       let r = received old new m d delivered in
       r.appended ∙ ap (with_step old) (same_some (sym (last_step old new r.step r.appended) ∙ here))
 
-module _ (old new : Core) (m : ℕ) (s : Step) (js ks : List (Option jobs.Turn)) (v : WellFormed old.run) (w : WellFormed (appended old.run s)) (is : new ≡ with_step old s)
+module _ (old new : Core) (m : ℕ) (s : Step) (js ks : List (Option jobs.TurnSoFar)) (v : WellFormed old.run) (w : WellFormed (appended old.run s)) (is : new ≡ with_step old s)
     (idle : IsByIdle old.run (len old.run) m s) (has : HasJobs old.program old.run js) where
   -- the jobs after a receipt that opens no turn
   jobs_kept : (r : Step) → BeginsNone r → s ≡ r → ks ≡ js → HasJobs old.program (appended old.run s) ks
@@ -112,7 +112,7 @@ module _ (old new : Core) (m : ℕ) (s : Step) (js ks : List (Option jobs.Turn))
   jobs_received Voided h kept = jobs_kept (Void h.0 m) (λ t k e. cc) (same_appended old new s (Void h.0 m) is h.1) kept
 
 -- the receipt that was appended is legal, and the checker goes on
-pub receipt_goes_on : (old new : Core) (c : Cursor) (m : ℕ) (s : Step) (d : Delivered) (js ks : List (Option jobs.Turn)) → HasAsked old.program old.run c None → MayFollow old.run s
+pub receipt_goes_on : (old new : Core) (c : Cursor) (m : ℕ) (s : Step) (d : Delivered) (js ks : List (Option jobs.TurnSoFar)) → HasAsked old.program old.run c None → MayFollow old.run s
     → received_by s ≡ Some m → HasJobs old.program old.run js → IsDelivered old new m d → WellFormed new.run → Fitting new.program new.run → step_at new.run (len old.run) ≡ Some s → IsKeptBegun js ks d
     → GoesOn old new c ks s
 receipt_goes_on old new c m s d js ks asked may receipt has delivered whole f here kept =

@@ -51,19 +51,19 @@ idle_illegal P T s who idle by l =
     idle h.has.place h.has.message h.has.turn
 
 -- the job of an open turn is its record
-pub not_redone : (old new : Core) (job other : jobs.Turn) → old.run.opening ≡ program_opening old.program → IsOpenJob old.program old.run job → ¬ IsRedone old new job other
+pub not_redone : (old new : Core) (job other : jobs.TurnSoFar) → old.run.opening ≡ program_opening old.program → IsOpenJob old.program old.run job → ¬ IsRedone old new job other
 not_redone old new job other opens is_open r = r.differs (job_once old.program old.run opens other job r.place r.is_open is_open)
 
 -- and its turn is open
-pub not_stale : (P : Program) (T : Run) (job : jobs.Turn) → IsOpenJob P T job → ¬ NoTurnFrom T job.place
+pub not_stale : (P : Program) (T : Run) (job : jobs.TurnSoFar) → IsOpenJob P T job → ¬ NoTurnFrom T job.place
 not_stale P T job is_open none = none job.who is_open.message is_open.turn
 
 -- the step that was made
-abbrev pub made : (old new : Core) (job : jobs.Turn) (reply : Option Value) → IsTurnStep old new job reply → (s : Step) × IsStepped old new job s
+abbrev pub made : (old new : Core) (job : jobs.TurnSoFar) (reply : Option Value) → IsTurnStep old new job reply → (s : Step) × IsStepped old new job s
 made old new job None h = (h.0, h.1)
 made old new job (Some x) h = (h.0, h.1)
 
-module _ (old new : Core) (c : Cursor) (job : jobs.Turn) (s : Step) (reply : Option Value) (asked : HasAsked old.program old.run c None)
+module _ (old new : Core) (c : Cursor) (job : jobs.TurnSoFar) (s : Step) (reply : Option Value) (asked : HasAsked old.program old.run c None)
     (by : turn_of s ≡ Some job.who) (h : IsTurnStep old new job reply) where
   -- where another step than the one that was made stands there, it isn't legal
   pub turn_illegal : WellFormed new.run → Fitting new.program new.run → ¬ (step_at new.run (len old.run) ≡ Some s) → ¬ IsLegal old.program old.run (len old.run) s
@@ -80,12 +80,12 @@ module _ (old new : Core) (c : Cursor) (job : jobs.Turn) (s : Step) (reply : Opt
       let r = (made old new job reply h).0 in
       same_some (sym (last_step old new r (made old new job reply h).1.appended) ∙ here)
 
-module _ (old new : Core) (job : jobs.Turn) (s : Step) (js ks : List (Option jobs.Turn)) (v : WellFormed old.run) (w : WellFormed (appended old.run s)) (is : new ≡ with_step old s)
+module _ (old new : Core) (job : jobs.TurnSoFar) (s : Step) (js ks : List (Option jobs.TurnSoFar)) (v : WellFormed old.run) (w : WellFormed (appended old.run s)) (is : new ≡ with_step old s)
     (by : actor s ≡ Some job.who) (others : HasOtherJobs old.program old.run job.who js) where
   -- the jobs after the step
   pub jobs_made : (reply : Option Value) (h : IsTurnStep old new job reply) → (made old new job reply h).0 ≡ s → IsKeptAfter js ks job reply → HasJobs old.program (appended old.run s) ks
   jobs_made (Some x) h same kept =
-      let next : jobs.Turn = jobs.with_reply job (val_of x) in
+      let next : jobs.TurnSoFar = jobs.with_reply job (val_of x) in
       let open_after : IsOpenJob old.program (appended old.run s) next = subst (λ (k : Core). IsOpenJob k.program k.run next) is h.2 in
       all_jobs old.program (appended old.run s) job.who ks
       (others_after old.program old.run s v w job.who js ks by others kept.others)
@@ -95,7 +95,7 @@ module _ (old new : Core) (job : jobs.Turn) (s : Step) (js ks : List (Option job
       (jobs_after_end old.program old.run s v w job.who js by (sym (ap ends_turn same) ∙ h.2) others)
 
 -- the step that was made is legal, and the checker goes on
-pub turn_goes_on : (old new : Core) (c : Cursor) (job : jobs.Turn) (s : Step) (reply : Option Value) (js ks : List (Option jobs.Turn)) → HasAsked old.program old.run c None → MayFollow old.run s
+pub turn_goes_on : (old new : Core) (c : Cursor) (job : jobs.TurnSoFar) (s : Step) (reply : Option Value) (js ks : List (Option jobs.TurnSoFar)) → HasAsked old.program old.run c None → MayFollow old.run s
     → turn_of s ≡ Some job.who → HasOtherJobs old.program old.run job.who js → IsTurnStep old new job reply → step_at new.run (len old.run) ≡ Some s → IsKeptAfter js ks job reply → GoesOn old new c ks s
 turn_goes_on old new c job s reply js ks asked may turn others h here kept =
     let stepped = (made old new job reply h).1 in
@@ -108,13 +108,13 @@ turn_goes_on old new c job s reply js ks asked may turn others h here kept =
     (jobs_made old new job s js ks asked.well_formed w is by others reply h same kept)
 
 -- the job that is kept for an open turn is its record
-pub kept_job : (P : Program) (T : Run) (js : List (Option jobs.Turn)) (who : ℕ) (job : jobs.Turn) → HasJobOf P T js who → slice_get js who ≡ Some (Some job) → (job.who ≡ who) × IsOpenJob P T job
+pub kept_job : (P : Program) (T : Run) (js : List (Option jobs.TurnSoFar)) (who : ℕ) (job : jobs.TurnSoFar) → HasJobOf P T js who → slice_get js who ≡ Some (Some job) → (job.who ≡ who) × IsOpenJob P T job
 kept_job P T js who job h e =
     let same : h.job ≡ job = same_some (same_some (sym h.kept ∙ e)) in
-    (sym (ap (λ (x : jobs.Turn). x.who) same) ∙ h.who, subst (IsOpenJob P T) same h.is_open)
+    (sym (ap (λ (x : jobs.TurnSoFar). x.who) same) ∙ h.who, subst (IsOpenJob P T) same h.is_open)
 
 -- where it is taken out, the others stay
-pub others_left : (P : Program) (T : Run) (js ks : List (Option jobs.Turn)) (who : ℕ) → HasJobs P T js → KeepsOthers who js ks → HasOtherJobs P T who ks
+pub others_left : (P : Program) (T : Run) (js ks : List (Option jobs.TurnSoFar)) (who : ℕ) → HasJobs P T js → KeepsOthers who js ks → HasOtherJobs P T who ks
 others_left P T js ks who has keeps t place m ne u =
     let h = has t place m u in
     record { job = h.job; kept = keeps t (Some h.job) ne h.kept; who = h.who; is_open = h.is_open }

@@ -17,4 +17,4 @@ IsRunInputOf bytes x = IsRunInput bytes x.0 x.1
 
 -- the run text of a program and a run means the two, and with `print` the program
 abbrev pub RunTextsAreReadBack : Type 0
-RunTextsAreReadBack = (p : Program) (T : Run) (text : List ℕ) → texts.Tells p T text → IsRunInput text p T × IsPrintInput text p
+RunTextsAreReadBack = (p : Program) (T : Run) (text : List ℕ) → texts.TellsRun p T text → IsRunInput text p T × IsPrintInput text p

@@ -80,5 +80,5 @@ heard_by_before T m k j w lt = least (Needs T) (OriginOf T m) (λ i. i < k) (bel
   own i o = origin_before T i o.by m k o.origin lt
 
 -- what a transactor has heard is closed
-pub heard_closed : (T : Run) (t k : ℕ) → heard.IsClosed T (Heard T t k)
+pub heard_closed : (T : Run) (t k : ℕ) → heard.IsCausallyClosed T (Heard T t k)
 heard_closed T t k = record { closed = λ i j h n. next h n }

@@ -39,11 +39,11 @@ choice_known k kept t (GoesOn s reply) h = step_exists k kept t s h.0
 choice_known k kept t (Ends s) h = step_exists k kept t s h.0
 
 -- the next effect of the open turn of t is that of the job of t
-pub effect_of_job : (k : Core) (t : ℕ) (e : Eff) (job : jobs.Turn) → job.who ≡ t → e ≡ next_in job → IsOpenJob k.program k.run job → TurnHas k.program k.run t (len k.run) e
+pub effect_of_job : (k : Core) (t : ℕ) (e : Eff) (job : jobs.TurnSoFar) → job.who ≡ t → e ≡ next_in job → IsOpenJob k.program k.run job → TurnHas k.program k.run t (len k.run) e
 effect_of_job k t e job who is h =
     subst (λ w. TurnHas k.program k.run w (len k.run) e) who (subst (TurnHas k.program k.run job.who (len k.run)) (sym is) (job_effect k.program k.run job h))
 
-module _ (old new : Core) (kept : IsKept old) (few : len old.run < 1000000) (t : ℕ) (job : jobs.Turn) (who : job.who ≡ t) (was_open : IsOpenJob old.program old.run job) where
+module _ (old new : Core) (kept : IsKept old) (few : len old.run < 1000000) (t : ℕ) (job : jobs.TurnSoFar) (who : job.who ≡ t) (was_open : IsOpenJob old.program old.run job) where
   stepped : (s : Step) → IsMadeBy old new t s → IsStepped old new job s
   stepped s made = record {
     was_open = was_open;

@@ -55,7 +55,7 @@ has_body P T t b body h e =
     record { number = b; behaviour = found.0; has = h; stands = found.1; is = found.2 }
 
 -- the job of the record of a transactor whose turn from a place is open
-pub record_open : (P : Program) (T : Run) (t place : ℕ) (r : Record) (job : jobs.Turn) → IsRecord P T t r → IsOpenTurn T t (len T) (Some place)
+pub record_open : (P : Program) (T : Run) (t place : ℕ) (r : Record) (job : jobs.TurnSoFar) → IsRecord P T t r → IsOpenTurn T t (len T) (Some place)
     → IsTurnOf P t r.behaviour place (val_of r.message) r.replies job → IsOpenJob P T job
 record_open P T t place r job h open_turn is =
     let O = opening_states P.starts in
@@ -81,7 +81,7 @@ pub taker_record : (P : Program) (T : Run) (rs : List Record) → WellFormed T �
 taker_record P T rs w are t place taker r is = are.each t r (index_get rs t r (taker_within_records P T rs w are t place taker) is)
 
 -- the next effect of the turn is that of the job
-pub job_effect : (P : Program) (T : Run) (job : jobs.Turn) → IsOpenJob P T job → TurnHas P T job.who (len T) (next_in job)
+pub job_effect : (P : Program) (T : Run) (job : jobs.TurnSoFar) → IsOpenJob P T job → TurnHas P T job.who (len T) (next_in job)
 job_effect P T job h = record {
   place = job.place;
   message = h.message;

@@ -116,7 +116,7 @@ module _ (P : Program) (T : Run) (s : Step) (v : WellFormed T) (w : WellFormed (
   }
 
   -- after it the record of its turn is the job with the reply
-  pub job_goes_on : (job : jobs.Turn) (r : Val) → actor s ≡ Some job.who → Replies T (opening_states P.starts) (len T) s r → IsOpenJob P T job → IsOpenJob P (appended T s) (with_reply job r)
+  pub job_goes_on : (job : jobs.TurnSoFar) (r : Val) → actor s ≡ Some job.who → Replies T (opening_states P.starts) (len T) s r → IsOpenJob P T job → IsOpenJob P (appended T s) (with_reply job r)
   job_goes_on job r by gives h =
       let O = opening_states P.starts in
       let t = job.who in

@@ -70,7 +70,7 @@ image_of f [] k y e = absurd (cc)
 image_of f (x ∷ xs) zero y e = let same : f x ≡ y = cc in (x, refl, same)
 image_of f (x ∷ xs) (suc k) y e = image_of f xs k y e
 
-module _ (P : Program) (T : Run) (t b m : ℕ) (v : Val) (job : jobs.Turn) where
+module _ (P : Program) (T : Run) (t b m : ℕ) (v : Val) (job : jobs.TurnSoFar) where
   -- what the transactor evaluates
   body_of : HasBehaviour P T t b → IsTurnOf P t b (len T) v [] job → HasBody P T t job.body
   body_of h is =
@@ -100,7 +100,7 @@ module _ (P : Program) (T : Run) (t b m : ℕ) (v : Val) (job : jobs.Turn) where
   }
 
 -- the turn of the Take begins
-pub has_begun : (old new : Core) (t b m : ℕ) (v : Val) (job : jobs.Turn) → t < born old.run (len old.run) → m < sent old.run (len old.run) → HasBehaviour old.program old.run t b → HasValue old.program old.run m v
+pub has_begun : (old new : Core) (t b m : ℕ) (v : Val) (job : jobs.TurnSoFar) → t < born old.run (len old.run) → m < sent old.run (len old.run) → HasBehaviour old.program old.run t b → HasValue old.program old.run m v
     → IsTurnOf old.program t b (len old.run) v [] job → new ≡ with_step old (Take t m) → IsBegun old new m job
 has_begun old new t b m v job exists there behaviour value is made = record {
   appended = made ∙ ap (λ u. with_step old (Take u m)) (sym is.who);

@@ -34,7 +34,7 @@ use Rattle.tau_rules.specs.System.{Core, with_step}
 
 -- the job is the record of a turn that is open after the run: the body of its transactor's behaviour, the number of nodes,
 -- its transactor, the place of its Take, the value of that message, and the replies since
-pub record IsOpenJob (P : Program) (T : Run) (job : jobs.Turn) : Type 0 where
+pub record IsOpenJob (P : Program) (T : Run) (job : jobs.TurnSoFar) : Type 0 where
   pub message : ℕ
   pub turn : Turn T job.who (len T) job.place message
   pub body : HasBody P T job.who job.body
@@ -43,7 +43,7 @@ pub record IsOpenJob (P : Program) (T : Run) (job : jobs.Turn) : Type 0 where
   pub replies : RepliesOf T (opening_states P.starts) job.who (suc job.place) (len T) job.replies
 
 -- the Take of the message at the end of the old run opened the turn of the job
-pub record IsBegun (old new : Core) (m : ℕ) (job : jobs.Turn) : Type 0 where
+pub record IsBegun (old new : Core) (m : ℕ) (job : jobs.TurnSoFar) : Type 0 where
   pub appended : new ≡ with_step old (Take job.who m)
   pub place : job.place ≡ len old.run
   pub opened : IsOpenJob new.program new.run job
@@ -62,13 +62,13 @@ IsUndelivered T m (deliver_errors.Busy turn) = (t : ℕ) × Receives T m t × Is
 IsUndelivered T m deliver_errors.NoMemory = Unit {0}
 
 -- the pending's job was the record of the turn, and the step of its effect was appended
-pub record IsStepped (old new : Core) (pending : jobs.Turn) (s : Step) : Type 0 where
+pub record IsStepped (old new : Core) (pending : jobs.TurnSoFar) (s : Step) : Type 0 where
   pub was_open : IsOpenJob old.program old.run pending
   pub step : IsStepOfTurn old.program old.run pending.who s
   pub appended : new ≡ with_step old s
 
 -- nothing was appended: another job is the record of the turn that is open at the pending's place
-pub record IsRedone (old new : Core) (pending job : jobs.Turn) : Type 0 where
+pub record IsRedone (old new : Core) (pending job : jobs.TurnSoFar) : Type 0 where
   pub unchanged : new ≡ old
   pub place : job.place ≡ pending.place
   pub is_open : IsOpenJob old.program old.run job
@@ -76,7 +76,7 @@ pub record IsRedone (old new : Core) (pending job : jobs.Turn) : Type 0 where
 
 -- what came of an effect: its step and the reply, after which the record of the turn is the pending's with that reply; its
 -- step, which ended the turn; or another job
-abbrev pub IsActed : Core → Core → jobs.Turn → Acted → Type 0
+abbrev pub IsActed : Core → Core → jobs.TurnSoFar → Acted → Type 0
 IsActed old new pending (Reply r) =
     (s : Step) × IsStepped old new pending s × IsTrue (goes_on s) × Replies old.run (opening_states old.program.starts) (len old.run) s (val_of r) × IsOpenJob new.program new.run (with_reply pending (val_of r))
 IsActed old new pending TurnOver = (s : Step) × IsStepped old new pending s × IsTrue (ends_turn s)

@@ -63,7 +63,7 @@ sent_to (Send t u v) = Some u
 sent_to s = None
 
 -- the open turn of a job has the effect to which the job comes
-job_has : (P : Program) (T : Run) (job : jobs.Turn) → IsOpenJob P T job → TurnHas P T job.who (len T) (jobs.next_in job)
+job_has : (P : Program) (T : Run) (job : jobs.TurnSoFar) → IsOpenJob P T job → TurnHas P T job.who (len T) (jobs.next_in job)
 job_has P T job h = record {
   place = job.place;
   message = h.message;
@@ -95,7 +95,7 @@ row_sends T t k effects.Done s h = ap sent_to h
 row_sends T t k (effects.Trap c) s h = ap sent_to h
 
 -- so does the step that was made of a job's effect
-stepped_sends : (old new : Core) (job : jobs.Turn) (e : Effect) (s : Step) → Legal old.program old.run → eff_of e ≡ jobs.next_in job → IsStepped old new job s → sent_to s ≡ receiver_of e
+stepped_sends : (old new : Core) (job : jobs.TurnSoFar) (e : Effect) (s : Step) → Legal old.program old.run → eff_of e ≡ jobs.next_in job → IsStepped old new job s → sent_to s ≡ receiver_of e
 stepped_sends old new job e s legal is h =
     let P : Program = old.program in
     let T : Run = old.run in
@@ -202,7 +202,7 @@ module _ (old new : Core) (c d : Cursor) (ls : List Letter) (busy turns : List �
         let who : h.0 ≡ l.who = receives_once old.run l.message h.0 l.who (last_fits (Void h.0 l.message) h.1).receiver waits.receiver in
         after_other (Void h.0 l.message) refl h.1 (ap Some who) (λ t n e. cc) (filter (is_other l.message) ls) (letters_without old.run (Void h.0 l.message) l.message ls refl refl kept.letters_are)
 
-  module _ (job : jobs.Turn) (e : Effect) (none : NoneDue old.program.script old.run (len old.run)) (is_effect : eff_of e ≡ jobs.next_in job)
+  module _ (job : jobs.TurnSoFar) (e : Effect) (none : NoneDue old.program.script old.run (len old.run)) (is_effect : eff_of e ≡ jobs.next_in job)
       (moves : IsCurrent new.program.script new.run (len new.run) c → CursorAt new.program.script new.run (len new.run) d) where
     allows_turn : (s : Step) → IsStepped old new job s → Allows old.program.script old.run (len old.run) s
     allows_turn s h = inr (none, turn_no_failure s job.who (acts_in_turn s job.who h.step.by h.step.of_turn))
@@ -236,7 +236,7 @@ module _ (old new : Core) (c d : Cursor) (ls : List Letter) (busy turns : List �
     after_act (Redo other) h = same_core h.unchanged
 
 -- after Redo nothing is different
-pub redo_same : (old new : Core) (c d : Cursor) (ls ks : List Letter) (busy bs turns ts : List ℕ) (m : ℕ) (job : jobs.Turn) (e : Effect) (a : Acted) → IsScripted old.program old.run c ls busy turns
+pub redo_same : (old new : Core) (c d : Cursor) (ls ks : List Letter) (busy bs turns ts : List ℕ) (m : ℕ) (job : jobs.TurnSoFar) (e : Effect) (a : Acted) → IsScripted old.program old.run c ls busy turns
     → PassesTo new.program.script new.run (len new.run) c d → IsActed old new job a → ks ≡ letters_acted m ls e a → bs ≡ busy_acted job.who busy a → ts ≡ turns_acted job.place turns a
     → IsUnchangedAtRedo (record { system = old; cursor = c; letters = ls; messages = messages_of busy ls; turns = turns }) (record { system = new; cursor = d; letters = ks; messages = messages_of bs ks; turns = ts }) a
 redo_same old new c d ls ks busy bs turns ts m job e (Reply r) kept over h same_letters same_busy same_turns = tt

@@ -58,17 +58,17 @@ has_any : (ts : List ℕ) (q : ℕ) → Contains ts q → list_any (λ p. eqb p 
 has_any ts q c = list_any_at (λ p. eqb p q) ts c.0 q c.1 (eq-eqb (get_or ts c.0 q) q c.2)
 
 -- different turns
-abbrev pub AreApart : List jobs.Turn → Type 0
+abbrev pub AreApart : List jobs.TurnSoFar → Type 0
 AreApart js = AllPairs (λ a b. a.place ≢ b.place) js
 
-apart_tail : (x : jobs.Turn) (xs : List jobs.Turn) → AreApart (x ∷ xs) → AreApart xs
+apart_tail : (x : jobs.TurnSoFar) (xs : List jobs.TurnSoFar) → AreApart (x ∷ xs) → AreApart xs
 apart_tail x xs h i j d l k = h (suc i) (suc j) d (omega (arith, l)) (omega (arith, k))
 
-pub apart_head : (x q : jobs.Turn) (xs : List jobs.Turn) → AreApart (x ∷ xs) → Contains xs q → x.place ≢ q.place
+pub apart_head : (x q : jobs.TurnSoFar) (xs : List jobs.TurnSoFar) → AreApart (x ∷ xs) → Contains xs q → x.place ≢ q.place
 apart_head x q xs h c same = h 0 (suc c.0) q (omega arith) (omega (arith, c.1)) (same ∙ ap (λ j. j.place) (sym c.2))
 
 -- those in front are of other turns, and those behind
-pub apart_front : (front : List jobs.Turn) (job : jobs.Turn) (back : List jobs.Turn) (q : jobs.Turn) → AreApart (front ++ job ∷ back) → Contains front q → q.place ≢ job.place
+pub apart_front : (front : List jobs.TurnSoFar) (job : jobs.TurnSoFar) (back : List jobs.TurnSoFar) (q : jobs.TurnSoFar) → AreApart (front ++ job ∷ back) → Contains front q → q.place ≢ job.place
 apart_front [] job back q h c = absurd (contains_nothing q c)
 apart_front (x ∷ xs) job back q h c =
     ⊎_elim
@@ -76,29 +76,29 @@ apart_front (x ∷ xs) job back q h c =
     (λ (d : Contains xs q). apart_front xs job back q (apart_tail x (xs ++ job ∷ back) h) d)
     (contains_cases x q xs c)
 
-pub apart_back : (front : List jobs.Turn) (job : jobs.Turn) (back : List jobs.Turn) (q : jobs.Turn) → AreApart (front ++ job ∷ back) → Contains back q → q.place ≢ job.place
+pub apart_back : (front : List jobs.TurnSoFar) (job : jobs.TurnSoFar) (back : List jobs.TurnSoFar) (q : jobs.TurnSoFar) → AreApart (front ++ job ∷ back) → Contains back q → q.place ≢ job.place
 apart_back [] job back q h c = λ same. apart_head job q back h c (sym same)
 apart_back (x ∷ xs) job back q h c = apart_back xs job back q (apart_tail x (xs ++ job ∷ back) h) c
 
 -- and they are apart themselves
-without_one : (x : jobs.Turn) (front back ys : List jobs.Turn) → AreApart (front ++ back) → All (λ y. x.place ≢ y.place) (front ++ back) → AreApart (x ∷ front ++ back)
+without_one : (x : jobs.TurnSoFar) (front back ys : List jobs.TurnSoFar) → AreApart (front ++ back) → All (λ y. x.place ≢ y.place) (front ++ back) → AreApart (x ∷ front ++ back)
 without_one x front back ys rest head = AllPairs-cons (λ a b. a.place ≢ b.place) x (front ++ back) head rest
 
-pub others_in : (front back : List jobs.Turn) (job q : jobs.Turn) → Contains (front ++ back) q → Contains (front ++ job ∷ back) q
+pub others_in : (front back : List jobs.TurnSoFar) (job q : jobs.TurnSoFar) → Contains (front ++ back) q → Contains (front ++ job ∷ back) q
 others_in front back job q c =
     ⊎_elim
     (λ (d : Contains front q). Contains-append_left front (job ∷ back) q d)
     (λ (d : Contains back q). Contains-append_right front (job ∷ back) q (contains_there job q back d))
     (Contains-append_cases front back q c)
 
-pub apart_others : (front : List jobs.Turn) (job : jobs.Turn) (back : List jobs.Turn) → AreApart (front ++ job ∷ back) → AreApart (front ++ back)
+pub apart_others : (front : List jobs.TurnSoFar) (job : jobs.TurnSoFar) (back : List jobs.TurnSoFar) → AreApart (front ++ job ∷ back) → AreApart (front ++ back)
 apart_others [] job back h = apart_tail job back h
 apart_others (x ∷ xs) job back h =
     AllPairs-cons (λ a b. a.place ≢ b.place) x (xs ++ back)
     (λ k d lt. apart_head x (get_or (xs ++ back) k d) (xs ++ job ∷ back) h (others_in xs back job (get_or (xs ++ back) k d) (Contains-get_or (xs ++ back) k d lt)))
     (apart_others xs job back (apart_tail x (xs ++ job ∷ back) h))
 
-pub places_distinct : (js : List jobs.Turn) → AreApart js → AreDistinct (map (λ j. j.place) js)
+pub places_distinct : (js : List jobs.TurnSoFar) → AreApart js → AreDistinct (map (λ j. j.place) js)
 places_distinct [] h = λ i j d l k. absurd (omega (arith, k))
 places_distinct (x ∷ xs) h =
     AllPairs-cons (λ a b. a ≢ b) x.place (map (λ j. j.place) xs)
@@ -106,20 +106,20 @@ places_distinct (x ∷ xs) h =
     (places_distinct xs (apart_tail x xs h))
 
 -- what the jobs of a hand are, where these are the open turns
-module _ (P : Program) (T : Run) (turns : List ℕ) (are : AreOpenTurns T turns) (js : List jobs.Turn) (h : AreJobs P T js) where
-  pub taken : (j : jobs.Turn) → Contains (open_jobs turns js) j → Contains js j × Contains turns j.place
+module _ (P : Program) (T : Run) (turns : List ℕ) (are : AreOpenTurns T turns) (js : List jobs.TurnSoFar) (h : AreJobs P T js) where
+  pub taken : (j : jobs.TurnSoFar) → Contains (open_jobs turns js) j → Contains js j × Contains turns j.place
   taken j c =
       let r = filter_contains (λ k. list_any (λ p. eqb p k.place) turns) js j c in
       (r.0, any_has turns j.place r.1)
 
-  pub kept : (j : jobs.Turn) → Contains js j → Contains turns j.place → Contains (open_jobs turns js) j
+  pub kept : (j : jobs.TurnSoFar) → Contains js j → Contains turns j.place → Contains (open_jobs turns js) j
   kept j c d = contains_filter (λ k. list_any (λ p. eqb p k.place) turns) js j c (has_any turns j.place d)
 
   pub open_apart : AreApart (open_jobs turns js)
   open_apart = AllPairs-filter (λ a b. a.place ≢ b.place) (λ k. list_any (λ p. eqb p k.place) turns) js h.one_each
 
   -- they are the records of the open turns
-  pub are_open : (j : jobs.Turn) → Contains (open_jobs turns js) j → IsOpenJob P T j
+  pub are_open : (j : jobs.TurnSoFar) → Contains (open_jobs turns js) j → IsOpenJob P T j
   are_open j c = let r = taken j c in h.records j r.0 ((are.each j.place).0 r.1)
 
   pub job_from : (place : ℕ) → IsOpenFrom T place → HasJobFrom (open_jobs turns js) place
@@ -130,33 +130,33 @@ module _ (P : Program) (T : Run) (turns : List ℕ) (are : AreOpenTurns T turns)
 
   place_among : (q : ℕ) → Contains (map (λ j. j.place) (open_jobs turns js)) q → Contains turns q
   place_among q c =
-      let r = map_contains (λ (j : jobs.Turn). j.place) (open_jobs turns js) q c in
+      let r = map_contains (λ (j : jobs.TurnSoFar). j.place) (open_jobs turns js) q c in
       subst (λ x. Contains turns x) r.2 (taken r.0 r.1).1
 
   among_places : (q : ℕ) → Contains turns q → Contains (map (λ j. j.place) (open_jobs turns js)) q
   among_places q c =
       let f = job_from q ((are.each q).0 c) in
-      subst (λ x. Contains (map (λ (j : jobs.Turn). j.place) (open_jobs turns js)) x) f.from (contains_map (λ (j : jobs.Turn). j.place) (open_jobs turns js) f.job f.among)
+      subst (λ x. Contains (map (λ (j : jobs.TurnSoFar). j.place) (open_jobs turns js)) x) f.from (contains_map (λ (j : jobs.TurnSoFar). j.place) (open_jobs turns js) f.job f.among)
 
   counts : (p : ℕ → Bool) → count_by (λ j. p j.place) (open_jobs turns js) ≡ count_by p turns
   counts p =
-      sym (count_map p (λ (j : jobs.Turn). j.place) (open_jobs turns js))
+      sym (count_map p (λ (j : jobs.TurnSoFar). j.place) (open_jobs turns js))
       ∙ same_counts p (map (λ j. j.place) (open_jobs turns js)) turns (places_distinct (open_jobs turns js) open_apart) (ascending_distinct turns are.ascending) (λ q. (place_among q, among_places q))
 
   pub lengths : length (open_jobs turns js) ≡ length turns
   lengths = sym (count_all (open_jobs turns js)) ∙ counts (λ _. true) ∙ count_all turns
 
   -- the job of a number is that of the turn of that number
-  pub numbered : (number : ℕ) (job : jobs.Turn) (others : List jobs.Turn) → IsNumbered (open_jobs turns js) number job others → slice_get turns number ≡ Some job.place
+  pub numbered : (number : ℕ) (job : jobs.TurnSoFar) (others : List jobs.TurnSoFar) → IsNumbered (open_jobs turns js) number job others → slice_get turns number ≡ Some job.place
   numbered number job others n =
-      let among : Contains (open_jobs turns js) job = subst (λ (xs : List jobs.Turn). Contains xs job) (sym n.stands) (Contains-append_right n.front (job ∷ n.back) job (contains_here job n.back)) in
+      let among : Contains (open_jobs turns js) job = subst (λ (xs : List jobs.TurnSoFar). Contains xs job) (sym n.stands) (Contains-append_right n.front (job ∷ n.back) job (contains_here job n.back)) in
       let apart : AreApart (n.front ++ job ∷ n.back) = subst AreApart n.stands open_apart in
       let none : count_by (is_of job.place) n.front ≡ 0 = count_none (is_of job.place) n.front (λ q c. other q (apart_front n.front job n.back q apart c)) in
       let earlier : count_by (is_earlier job.place) (open_jobs turns js) ≡ count_by (λ y. nat_lt y job.place) turns = counts (λ y. nat_lt y job.place) in
       let is : number ≡ count_by (λ y. nat_lt y job.place) turns = n.number_is ∙ omega (arith, none, earlier) in
       ap (slice_get turns) is ∙ place_of turns job.place are.ascending (taken job among).1
     where
-      other : (q : jobs.Turn) → q.place ≢ job.place → is_of job.place q ≡ false
+      other : (q : jobs.TurnSoFar) → q.place ≢ job.place → is_of job.place q ≡ false
       other q ne = by (eqb q.place job.place) refl where
         by : (b : Bool) → eqb q.place job.place ≡ b → b ≡ false
         by true e = absurd (ne (eqb-true q.place job.place e))
@@ -170,7 +170,7 @@ messages_length : (b : Bool) (messages : List ℕ) → length (cond b (map messa
 messages_length true messages = length-map messages message
 messages_length false messages = refl
 
-module _ (turns messages : List ℕ) (size : ℕ) (ks : List jobs.Turn) (same : length ks ≡ length turns) where
+module _ (turns messages : List ℕ) (size : ℕ) (ks : List jobs.TurnSoFar) (same : length ks ≡ length turns) where
   as_many : length (options_of turns messages size) ≡ options size ks messages
   as_many =
       let front = length-map turns turn in

@@ -21,14 +21,14 @@ use Rattle.tau_scripted.specs.OpenTurns.{IsOpenFrom}
 use Rattle.tau_serial.specs.Inner.Working.{HasJobFrom, AreJobs, AreOtherJobs}
 
 -- one job more
-pub with_more : (js : List jobs.Turn) (job : jobs.Turn) (place : ℕ) → HasJobFrom js place → HasJobFrom (js ++ job ∷ []) place
+pub with_more : (js : List jobs.TurnSoFar) (job : jobs.TurnSoFar) (place : ℕ) → HasJobFrom js place → HasJobFrom (js ++ job ∷ []) place
 with_more js job place f = record { job = f.job; among = Contains-append_left js (job ∷ []) f.job f.among; from = f.from }
 
-pub with_last : (js : List jobs.Turn) (job : jobs.Turn) (place : ℕ) → job.place ≡ place → HasJobFrom (js ++ job ∷ []) place
+pub with_last : (js : List jobs.TurnSoFar) (job : jobs.TurnSoFar) (place : ℕ) → job.place ≡ place → HasJobFrom (js ++ job ∷ []) place
 with_last js job place e = record { job = job; among = Contains-push js job; from = e }
 
 -- a turn and the job of one place are of one transactor
-pub one_who : (P : Program) (T : Run) (t place m : ℕ) (job : jobs.Turn) → Turn T t (len T) place m → IsOpenJob P T job → job.place ≡ place → t ≡ job.who
+pub one_who : (P : Program) (T : Run) (t place m : ℕ) (job : jobs.TurnSoFar) → Turn T t (len T) place m → IsOpenJob P T job → job.place ≡ place → t ≡ job.who
 one_who P T t place m job u j e = same_taker t job.who m j.message (same_some (sym u.takes ∙ ap (step_at T) (sym e) ∙ j.turn.takes))
 
 module _ (P : Program) (T : Run) (s : Step) (v : WellFormed T) (w : WellFormed (appended T s)) where
@@ -40,7 +40,7 @@ module _ (P : Program) (T : Run) (s : Step) (v : WellFormed T) (w : WellFormed (
   was_open_from begins place f = record { who = f.who; message = f.message; turn = was_open begins place f }
 
   -- where the step begins no turn, and its transactor has none open after it
-  pub jobs_stay : (js : List jobs.Turn) → BeginsNone s → ((t place m : ℕ) → actor s ≡ Some t → ¬ Turn (appended T s) t (len (appended T s)) place m) → AreJobs P T js → AreJobs P (appended T s) js
+  pub jobs_stay : (js : List jobs.TurnSoFar) → BeginsNone s → ((t place m : ℕ) → actor s ≡ Some t → ¬ Turn (appended T s) t (len (appended T s)) place m) → AreJobs P T js → AreJobs P (appended T s) js
   jobs_stay js begins none h = record {
     one_each = h.one_each;
     records = λ job c f.
@@ -51,8 +51,8 @@ module _ (P : Program) (T : Run) (s : Step) (v : WellFormed T) (w : WellFormed (
   }
 
   -- where a Take opens a turn of one that was in none
-  pub jobs_begun : (js : List jobs.Turn) (job : jobs.Turn) (m : ℕ) → s ≡ Take job.who m → job.place ≡ len T → IsOpenTurn T job.who (len T) None → IsOpenJob P (appended T s) job
-      → AllPairs (λ a b. a.place ≢ b.place) js → ((j : jobs.Turn) → Contains js j → IsOpenJob P T j) → ((place : ℕ) → IsOpenFrom T place → HasJobFrom js place) → AreJobs P (appended T s) (js ++ job ∷ [])
+  pub jobs_begun : (js : List jobs.TurnSoFar) (job : jobs.TurnSoFar) (m : ℕ) → s ≡ Take job.who m → job.place ≡ len T → IsOpenTurn T job.who (len T) None → IsOpenJob P (appended T s) job
+      → AllPairs (λ a b. a.place ≢ b.place) js → ((j : jobs.TurnSoFar) → Contains js j → IsOpenJob P T j) → ((place : ℕ) → IsOpenFrom T place → HasJobFrom js place) → AreJobs P (appended T s) (js ++ job ∷ [])
   jobs_begun js job m is at idle begun apart are each = record {
     one_each = all_pairs_push (λ a b. a.place ≢ b.place) js job apart (λ k d lt. λ e. omega (arith, (are (get_or js k d) (Contains-get_or js k d lt)).turn.before, e, at));
     records = λ j c f. ⊎_elim (λ d. kept j (are j d)) (λ (e : job ≡ j). subst (λ x. IsOpenJob P (appended T s) x) e begun) (Contains-push_cases js job j c);
@@ -61,12 +61,12 @@ module _ (P : Program) (T : Run) (s : Step) (v : WellFormed T) (w : WellFormed (
         (λ e. with_last js job place (at ∙ sym e.0))
         (earlier T s f.who place f.message f.turn);
   } where
-    kept : (j : jobs.Turn) → IsOpenJob P T j → IsOpenJob P (appended T s) j
+    kept : (j : jobs.TurnSoFar) → IsOpenJob P T j → IsOpenJob P (appended T s) j
     kept j r = job_kept P T s v w j (λ e. idle j.place r.message (subst (λ t. Turn T t (len T) j.place r.message) (same_some (sym e ∙ ap actor is)) r.turn)) r
 
   -- after a step of the turn of a job the others stay
-  module _ (job : jobs.Turn) (js : List jobs.Turn) (is_open : IsOpenJob P T job) (h : AreOtherJobs P T job js) (by : actor s ≡ Some job.who) (begins : BeginsNone s) where
-    other_kept : (j : jobs.Turn) → Contains js j → IsOpenJob P (appended T s) j
+  module _ (job : jobs.TurnSoFar) (js : List jobs.TurnSoFar) (is_open : IsOpenJob P T job) (h : AreOtherJobs P T job js) (by : actor s ≡ Some job.who) (begins : BeginsNone s) where
+    other_kept : (j : jobs.TurnSoFar) → Contains js j → IsOpenJob P (appended T s) j
     other_kept j c =
         let r = h.records j c in
         job_kept P T s v w j (λ e. r.1 (one_open_turn T job.who (len T) j.place job.place r.0.message is_open.message (subst (λ t. Turn T t (len T) j.place r.0.message) (same_some (sym e ∙ by)) r.0.turn) is_open.turn)) r.0
@@ -84,7 +84,7 @@ module _ (P : Program) (T : Run) (s : Step) (v : WellFormed T) (w : WellFormed (
           ended T s f.who place f.message (by ∙ ap Some (sym who)) ends f.turn
 
     -- where the turn goes on with another job in the place of the one
-    pub jobs_going : (next : jobs.Turn) → next.place ≡ job.place → IsOpenJob P (appended T s) next → AreJobs P (appended T s) (js ++ next ∷ [])
+    pub jobs_going : (next : jobs.TurnSoFar) → next.place ≡ job.place → IsOpenJob P (appended T s) next → AreJobs P (appended T s) (js ++ next ∷ [])
     jobs_going next at opened = record {
       one_each = all_pairs_push (λ a b. a.place ≢ b.place) js next h.one_each (λ k d lt. λ e. (h.records (get_or js k d) (Contains-get_or js k d lt)).1 (e ∙ at));
       records = λ j c f. ⊎_elim (λ d. other_kept j d) (λ (e : next ≡ j). subst (λ x. IsOpenJob P (appended T s) x) e opened) (Contains-push_cases js next j c);

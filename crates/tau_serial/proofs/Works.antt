@@ -78,7 +78,7 @@ module _ (seed : ℕ) (old new : Booked) (h k : Held) (was : IsBook old) (is : I
       })
 
   module _ (offer : Offer old h) where
-    abbrev ks : List jobs.Turn
+    abbrev ks : List jobs.TurnSoFar
     ks = open_jobs offer.turns h.jobs
 
     as_many : length ks ≡ length offer.turns
@@ -91,7 +91,7 @@ module _ (seed : ℕ) (old new : Booked) (h k : Held) (was : IsBook old) (is : I
     store_is_none = ap (store_without offer.turns h) w.none_back ∙ store_none offer.turns h
 
     -- what was chosen is an option of the serial run
-    pub chosen_turn : (job : jobs.Turn) (others : List jobs.Turn) → IsNumbered ks (number_drawn h.generator (options h.size ks offer.messages)) job others
+    pub chosen_turn : (job : jobs.TurnSoFar) (others : List jobs.TurnSoFar) → IsNumbered ks (number_drawn h.generator (options h.size ks offer.messages)) job others
         → slice_get (options_of offer.turns offer.messages h.size) ((pcg32 h.generator).0 % length (options_of offer.turns offer.messages h.size)) ≡ Some (turn job.place)
     chosen_turn job others n =
         let number = number_drawn h.generator (options h.size ks offer.messages) in
@@ -106,7 +106,7 @@ module _ (seed : ℕ) (old new : Booked) (h k : Held) (was : IsBook old) (is : I
     options_are = record { turns = offer.turns; turns_are = offer.turns_are; messages = offer.messages; messages_are = offer.messages_are; options_are = refl }
 
     -- the other jobs, once one is handed out
-    pub others_are : (number : ℕ) (job : jobs.Turn) (others : List jobs.Turn) → IsNumbered ks number job others → AreOtherJobs P T job others
+    pub others_are : (number : ℕ) (job : jobs.TurnSoFar) (others : List jobs.TurnSoFar) → IsNumbered ks number job others → AreOtherJobs P T job others
     others_are number job others n = subst (λ xs. AreOtherJobs P T job xs) (sym n.others_are) (record {
       one_each = apart_others n.front job n.back apart;
       records = λ j c. (are_open P T offer.turns offer.turns_are h.jobs w.jobs_are j (back (others_in n.front n.back job j c)), other j c);
@@ -115,20 +115,20 @@ module _ (seed : ℕ) (old new : Booked) (h k : Held) (was : IsBook old) (is : I
       apart : AreApart (n.front ++ job ∷ n.back)
       apart = subst AreApart n.stands (open_apart P T offer.turns offer.turns_are h.jobs w.jobs_are)
 
-      back : {j : jobs.Turn} → Contains (n.front ++ job ∷ n.back) j → Contains ks j
-      back {j = j} c = subst (λ (xs : List jobs.Turn). Contains xs j) (sym n.stands) c
+      back : {j : jobs.TurnSoFar} → Contains (n.front ++ job ∷ n.back) j → Contains ks j
+      back {j = j} c = subst (λ (xs : List jobs.TurnSoFar). Contains xs j) (sym n.stands) c
 
-      other : (j : jobs.Turn) → Contains (n.front ++ n.back) j → j.place ≢ job.place
+      other : (j : jobs.TurnSoFar) → Contains (n.front ++ n.back) j → j.place ≢ job.place
       other j c = ⊎_elim (λ d. apart_front n.front job n.back j apart d) (λ d. apart_back n.front job n.back j apart d) (Contains-append_cases n.front n.back j c)
 
       here : (place : ℕ) → HasJobFrom ks place → (place ≡ job.place) ⊎ HasJobFrom (n.front ++ n.back) place
       here place f = ⊎_elim
           (λ (d : Contains n.front f.job). inr (record { job = f.job; among = Contains-append_left n.front n.back f.job d; from = f.from }))
           (λ (d : Contains (job ∷ n.back) f.job). ⊎_elim
-          (λ (e : job ≡ f.job). inl (sym f.from ∙ ap (λ (j : jobs.Turn). j.place) (sym e)))
+          (λ (e : job ≡ f.job). inl (sym f.from ∙ ap (λ (j : jobs.TurnSoFar). j.place) (sym e)))
           (λ (d : Contains n.back f.job). inr (record { job = f.job; among = Contains-append_right n.front n.back f.job d; from = f.from }))
           (contains_cases job f.job n.back d))
-          (Contains-append_cases n.front (job ∷ n.back) f.job (subst (λ (xs : List jobs.Turn). Contains xs f.job) n.stands f.among))
+          (Contains-append_cases n.front (job ∷ n.back) f.job (subst (λ (xs : List jobs.TurnSoFar). Contains xs f.job) n.stands f.among))
 
   -- an open turn has a job
   pub not_idle : (out : ℕ) → ¬ IsIdle old new h k out
@@ -137,11 +137,11 @@ module _ (seed : ℕ) (old new : Booked) (h k : Held) (was : IsBook old) (is : I
       omega (arith, ap length none, as_many i.offer, i.out_is, i.some_out)
 
   -- the job that was handed out is that of the turn that the word chose
-  pub handed_out : (job : jobs.Turn) → IsHandedOut old new h k job → HasChosen seed new k job
+  pub handed_out : (job : jobs.TurnSoFar) → IsHandedOut old new h k job → HasChosen seed new k job
   handed_out job d =
-      let numbers = subst (λ (xs : List jobs.Turn). IsNumbered xs (number_drawn h.generator (options h.size xs d.offer.messages)) job d.others) (with_ks d.offer) d.chosen in
+      let numbers = subst (λ (xs : List jobs.TurnSoFar). IsNumbered xs (number_drawn h.generator (options h.size xs d.offer.messages)) job d.others) (with_ks d.offer) d.chosen in
       let number = number_drawn h.generator (options h.size (ks d.offer) d.offer.messages) in
-      let among : Contains (ks d.offer) job = subst (λ (xs : List jobs.Turn). Contains xs job) (sym numbers.stands) (Contains-append_right numbers.front (job ∷ numbers.back) job (contains_here job numbers.back)) in
+      let among : Contains (ks d.offer) job = subst (λ (xs : List jobs.TurnSoFar). Contains xs job) (sym numbers.stands) (Contains-append_right numbers.front (job ∷ numbers.back) job (contains_here job numbers.back)) in
       subst (λ (b : Booked). HasChosen seed b k job) (sym d.book_is) (subst (λ (x : Held). HasChosen seed (record old { store = store_without d.offer.turns h old.store }) x job) (sym d.hand_is) (record {
         none_back = store_is_none d.offer;
         some = w.some;
@@ -159,12 +159,12 @@ module _ (seed : ℕ) (old new : Booked) (h k : Held) (was : IsBook old) (is : I
   -- after a receipt
   module _ (r : IsReceived old new h k) where
     number_is : number_drawn h.generator (options h.size (ks r.offer) r.offer.messages) ≡ length (ks r.offer) + r.place
-    number_is = subst (λ (xs : List jobs.Turn). number_drawn h.generator (options h.size xs r.offer.messages) ≡ length xs + r.place) (with_ks r.offer) r.chosen
+    number_is = subst (λ (xs : List jobs.TurnSoFar). number_drawn h.generator (options h.size xs r.offer.messages) ≡ length xs + r.place) (with_ks r.offer) r.chosen
 
     fits_then : (s : Step) → new.system ≡ with_step old.system s → Fits P T (len T) s
     fits_then s e = last_fits old.system new.system s was.well_formed is.well_formed (legal_fits new.system.program new.system.run is.legal) e
 
-    made : (t : ℕ) (s : Step) (js : List jobs.Turn) → IsReceipt t r.message s → new.system ≡ with_step old.system s → AreJobs P (appended T s) js → IsAtWork seed new (record { generator = generator_after h.generator; size = h.size; jobs = js })
+    made : (t : ℕ) (s : Step) (js : List jobs.TurnSoFar) → IsReceipt t r.message s → new.system ≡ with_step old.system s → AreJobs P (appended T s) js → IsAtWork seed new (record { generator = generator_after h.generator; size = h.size; jobs = js })
     made t s js receipt e are = record {
       none_back = r.store_is ∙ store_is_none r.offer;
       some = w.some;
@@ -208,7 +208,7 @@ module _ (seed : ℕ) (old new : Booked) (h k : Held) (was : IsBook old) (is : I
     works_received = subst (λ (x : Held). IsAtWork seed new x) (sym (r.hand_is ∙ ap (λ xs. record { generator = generator_after h.generator; size = h.size; jobs = begun_with xs r.answer }) (with_ks r.offer))) (by_answer r.answer r.delivered)
 
 -- what comes of the effect of the job that was handed out
-module _ (seed : ℕ) (old new : Booked) (h k : Held) (job : jobs.Turn) (was : IsBook old) (is : IsBook new) (x : HasChosen seed old h job) where
+module _ (seed : ℕ) (old new : Booked) (h k : Held) (job : jobs.TurnSoFar) (was : IsBook old) (is : IsBook new) (x : HasChosen seed old h job) where
   abbrev U : Run
   U = old.system.run
 
@@ -232,7 +232,7 @@ module _ (seed : ℕ) (old new : Booked) (h k : Held) (job : jobs.Turn) (was : I
   stepped_well : (s : Step) → new.system ≡ with_step old.system s → WellFormed (appended U s)
   stepped_well s e = subst (λ (c : Core). WellFormed c.run) e is.well_formed
 
-  made_turn : (s : Step) (js : List jobs.Turn) → IsStepped old.system new.system job s → new.store ≡ old.store → AreJobs Q (appended U s) js → IsAtWork seed new (record h { jobs = js })
+  made_turn : (s : Step) (js : List jobs.TurnSoFar) → IsStepped old.system new.system job s → new.store ≡ old.store → AreJobs Q (appended U s) js → IsAtWork seed new (record h { jobs = js })
   made_turn s js d store_is are = record {
     none_back = store_is ∙ x.none_back;
     some = x.some;
@@ -263,7 +263,7 @@ module _ (seed : ℕ) (old new : Booked) (h k : Held) (job : jobs.Turn) (was : I
 pub same_due : (old new : Booked) (h k : Held) → IsDueMade old new h k → IsSameWork old new h k
 same_due old new h k d = record { program = ap (λ (c : Core). c.program) d.appended.system_is; limit = d.appended.limit_is; size = ap (λ (x : Held). x.size) d.hand_is }
 
-pub same_handed : (old new : Booked) (h k : Held) (job : jobs.Turn) → IsHandedOut old new h k job → IsSameWork old new h k
+pub same_handed : (old new : Booked) (h k : Held) (job : jobs.TurnSoFar) → IsHandedOut old new h k job → IsSameWork old new h k
 same_handed old new h k job d = record { program = ap (λ (b : Booked). b.system.program) d.book_is; limit = ap (λ (b : Booked). b.limit) d.book_is; size = ap (λ (x : Held). x.size) d.hand_is }
 
 delivered_program : (old new : Core) (m : ℕ) (a : Delivered) → IsDelivered old new m a → new.program ≡ old.program
@@ -275,7 +275,7 @@ delivered_program old new m Voided d = ap (λ (c : Core). c.program) d.1
 pub same_received : (old new : Booked) (h k : Held) → IsReceived old new h k → IsSameWork old new h k
 same_received old new h k r = record { program = delivered_program old.system new.system r.message r.answer r.delivered; limit = r.limit_is; size = ap (λ (x : Held). x.size) r.hand_is }
 
-pub same_made : (old new : Booked) (h k : Held) (job : jobs.Turn) → IsTurnMade old new h k job → IsSameWork old new h k
+pub same_made : (old new : Booked) (h k : Held) (job : jobs.TurnSoFar) → IsTurnMade old new h k job → IsSameWork old new h k
 same_made old new h k job (goes_on tried hand_is) = record { program = ap (λ (c : Core). c.program) tried.acted.1.appended; limit = tried.limit_is; size = ap (λ (x : Held). x.size) hand_is }
 same_made old new h k job (is_over tried hand_is) = record { program = ap (λ (c : Core). c.program) tried.acted.1.appended; limit = tried.limit_is; size = ap (λ (x : Held). x.size) hand_is }
 
@@ -301,7 +301,7 @@ begins_work P seed b h program run none generator some no_jobs = record {
   comes_about = subst (λ g. ComesAbout b.system.program h.size seed b.system.run g) (sym generator) (subst (λ T. ComesAbout b.system.program h.size seed T (pcg32_of_seed (pcg32_seed 16 seed))) (sym from) begins);
   jobs_are = record {
     one_each = λ i j d l k. absurd (omega (arith, k, ap length no_jobs));
-    records = λ job c f. absurd (contains_nothing job (subst (λ (xs : List jobs.Turn). Contains xs job) no_jobs c));
+    records = λ job c f. absurd (contains_nothing job (subst (λ (xs : List jobs.TurnSoFar). Contains xs job) no_jobs c));
     each = λ place f. absurd (omega (arith, f.turn.before, ap len run));
   };
 } where

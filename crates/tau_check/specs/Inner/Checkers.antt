@@ -14,7 +14,7 @@ use Rattle.tau_rules.specs.System.{Core, with_step}
 use Rattle.tau_check.specs.Inner.Jobs.{HasJobs}
 
 -- the run is legal, the cursor is the script's, and the job of each open turn is kept
-pub record IsChecker (P : Program) (T : Run) (cursor : Cursor) (js : List (Option jobs.Turn)) : Type 0 where
+pub record IsChecker (P : Program) (T : Run) (cursor : Cursor) (js : List (Option jobs.TurnSoFar)) : Type 0 where
   pub well_formed : WellFormed T
   pub legal : Legal P T
   pub current : IsCurrent P.script T (len T) cursor
@@ -28,18 +28,18 @@ pub record HasAsked (P : Program) (T : Run) (cursor : Cursor) (due : Option Step
   pub due_is : IsDueAt P.script T (len T) cursor due
 
 -- the step is legal and was appended
-pub record GoesOn (old new : Core) (cursor : Cursor) (js : List (Option jobs.Turn)) (s : Step) : Type 0 where
+pub record GoesOn (old new : Core) (cursor : Cursor) (js : List (Option jobs.TurnSoFar)) (s : Step) : Type 0 where
   pub legal : IsLegal old.program old.run (len old.run) s
   pub appended : new ≡ with_step old s
   pub checker : IsChecker new.program new.run cursor js
 
 -- the step is legal and was appended; or it isn't legal
-abbrev pub IsChecked : Core → Core → Cursor → List (Option jobs.Turn) → Step → Bool → Type 0
+abbrev pub IsChecked : Core → Core → Cursor → List (Option jobs.TurnSoFar) → Step → Bool → Type 0
 IsChecked old new cursor js s true = GoesOn old new cursor js s
 IsChecked old new cursor js s false = ¬ IsLegal old.program old.run (len old.run) s
 
 -- the checker has come to place k of a trace: its run is the steps before k, and each of them is legal
-pub record HasCome (P : Program) (T : Run) (k : ℕ) (core : Core) (cursor : Cursor) (js : List (Option jobs.Turn)) : Type 0 where
+pub record HasCome (P : Program) (T : Run) (k : ℕ) (core : Core) (cursor : Cursor) (js : List (Option jobs.TurnSoFar)) : Type 0 where
   pub program : core.program ≡ P
   pub length : len core.run ≡ k
   pub agree : Agree T core.run k

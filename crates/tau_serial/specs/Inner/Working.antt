@@ -13,21 +13,21 @@ use Rattle.tau_book.specs.Books.{Booked, GoesOn}
 use Rattle.tau_serial.specs.SerialRun.{Choosable, turn, AreOptions, ComesAbout}
 
 -- a job of the turn from a place is among the jobs
-pub record HasJobFrom (js : List jobs.Turn) (place : ℕ) : Type 0 where
-  pub job : jobs.Turn
+pub record HasJobFrom (js : List jobs.TurnSoFar) (place : ℕ) : Type 0 where
+  pub job : jobs.TurnSoFar
   pub among : Contains js job
   pub from : job.place ≡ place
 
 -- the jobs are of different turns, those of open turns are their records, and each open turn has one
-pub record AreJobs (P : Program) (T : Run) (js : List jobs.Turn) : Type 0 where
+pub record AreJobs (P : Program) (T : Run) (js : List jobs.TurnSoFar) : Type 0 where
   pub one_each : AllPairs (λ a b. a.place ≢ b.place) js
-  pub records : (job : jobs.Turn) → Contains js job → IsOpenFrom T job.place → IsOpenJob P T job
+  pub records : (job : jobs.TurnSoFar) → Contains js job → IsOpenFrom T job.place → IsOpenJob P T job
   pub each : (place : ℕ) → IsOpenFrom T place → HasJobFrom js place
 
 -- the jobs are the records of all open turns but that of one job
-pub record AreOtherJobs (P : Program) (T : Run) (job : jobs.Turn) (js : List jobs.Turn) : Type 0 where
+pub record AreOtherJobs (P : Program) (T : Run) (job : jobs.TurnSoFar) (js : List jobs.TurnSoFar) : Type 0 where
   pub one_each : AllPairs (λ a b. a.place ≢ b.place) js
-  pub records : (j : jobs.Turn) → Contains js j → IsOpenJob P T j × (j.place ≢ job.place)
+  pub records : (j : jobs.TurnSoFar) → Contains js j → IsOpenJob P T j × (j.place ≢ job.place)
   pub each : (place : ℕ) → IsOpenFrom T place → (place ≡ job.place) ⊎ HasJobFrom js place
 
 -- the book's run comes about as the serial run with this seed, and the hand has the jobs of the open turns
@@ -38,7 +38,7 @@ pub record IsAtWork (seed : ℕ) (b : Booked) (h : Held) : Type 0 where
   pub jobs_are : AreJobs b.system.program b.system.run h.jobs
 
 -- the word before the hand's generator has chosen the turn of the job, which the hand has handed out
-pub record HasChosen (seed : ℕ) (b : Booked) (h : Held) (job : jobs.Turn) : Type 0 where
+pub record HasChosen (seed : ℕ) (b : Booked) (h : Held) (job : jobs.TurnSoFar) : Type 0 where
   pub none_back : b.store ≡ []
   pub some : 1 ≤ h.size
   pub goes_on : GoesOn b
@@ -55,7 +55,7 @@ pub record HasChosen (seed : ℕ) (b : Booked) (h : Held) (job : jobs.Turn) : Ty
 abbrev pub Works : Booked → Held → Type 0
 Works b h = (seed : ℕ) × IsAtWork seed b h
 
-abbrev pub WorksOn : Booked → Held → jobs.Turn → Type 0
+abbrev pub WorksOn : Booked → Held → jobs.TurnSoFar → Type 0
 WorksOn b h job = (seed : ℕ) × HasChosen seed b h job
 
 -- the same program, limit and room

@@ -6,9 +6,9 @@ use Rattle.tau_check.proofs.jobs.keep_job.Goals as goal
 
 pub returns : goal.returns
 returns c =
-    let items : List (Option turns.Turn) = c.make_places.new.jobs.items in
+    let items : List (Option turns.TurnSoFar) = c.make_places.new.jobs.items in
     let place : ℕ = c.who-place.result in
-    let job : turns.Turn = c.args.job in
+    let job : turns.TurnSoFar = c.args.job in
     let at : place ≡ job.who = c.who-place.ensures in
     let lt : place < length items = omega (arith, c.in_ok-make_places.ensures.count) in
     record {

@@ -10,7 +10,7 @@ pub returns-in-Ok-Reply : goal.returns-in-Ok-Reply
 returns-in-Ok-Reply c =
     let old : Core = c.args.system.now in
     let new : Core = c.act.new.self in
-    let job : jobs.Turn = c.args.pending.now in
+    let job : jobs.TurnSoFar = c.args.pending.now in
     let h = subst (λ (a : Acted). IsActed old new job a) c.in-Ok-Reply.field-0-is c.in-Ok-Reply.ensures.ok in
     (h.0, h.1, h.4)
 
@@ -18,7 +18,7 @@ pub returns-in-Ok-TurnOver : goal.returns-in-Ok-TurnOver
 returns-in-Ok-TurnOver c =
     let old : Core = c.args.system.now in
     let new : Core = c.act.new.self in
-    let job : jobs.Turn = c.args.pending.now in
+    let job : jobs.TurnSoFar = c.args.pending.now in
     let h = subst (λ (a : Acted). IsActed old new job a) c.in-Ok-TurnOver.field-0-is c.in-Ok-TurnOver.ensures.ok in
     (h.0, h.1, h.2)
 
@@ -26,6 +26,6 @@ pub unreachable-requires : goal.unreachable-requires
 unreachable-requires c =
     let old : Core = c.args.system.now in
     let new : Core = c.act.new.self in
-    let job : jobs.Turn = c.args.pending.now in
+    let job : jobs.TurnSoFar = c.args.pending.now in
     let h = subst (λ (a : Acted). IsActed old new job a) c.in-Ok-Redo.field-0-is c.in-Ok-Redo.ensures.ok in
     not_redone old new job c.in-Ok-Redo.field-0-0 c.requires.opening c.requires.is_open h

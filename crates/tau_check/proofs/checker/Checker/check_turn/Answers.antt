@@ -23,10 +23,10 @@ pub check_effect-requires : goal.check_effect-requires
 check_effect-requires c =
     let old : Core = c.args.self.now.system in
     let u = in_turn old.run c.args.who c.open_turn.result c.is_none.result c.open_turn.ensures c.is_none.ensures c.if-is_none.false in
-    let job : jobs.Turn = c.take_job.result in
+    let job : jobs.TurnSoFar = c.take_job.result in
     let kept = kept_job old.program old.run c.args.self.now.jobs.items c.args.who job (c.requires.has_jobs c.args.who u.0 u.1 u.2) c.take_job.ensures.job in
     let same : c.in-Ok.pending ≡ job = c.in-Ok.ensures.ok in
-    let who : c.in-Ok.pending.who ≡ c.args.who = ap (λ (x : jobs.Turn). x.who) same ∙ kept.0 in
+    let who : c.in-Ok.pending.who ≡ c.args.who = ap (λ (x : jobs.TurnSoFar). x.who) same ∙ kept.0 in
     record {
       asked = c.requires.asked;
       follows = c.requires.follows;

@@ -26,7 +26,7 @@ invariant_of-self-2 g c =
     let s = c.self.inside in
     let old : Core = s.system in
     let new : Core = c.act.new.self in
-    let job : jobs.Turn = c.args.pending.now in
+    let job : jobs.TurnSoFar = c.args.pending.now in
     let effect = c.effect-effect.result.now in
     let acted = c.in_ok-acted.acted in
     let none : NoneDue old.program.script old.run (len old.run) = subst (λ (r : ScriptedRun). NoneDue r.system.program.script r.system.run (len r.system.run)) (sym c.self.view_is) c.requires.none_due in
@@ -45,7 +45,7 @@ returns-clause-ok g c = subst (λ (r : ScriptedRun). IsActed r.system c.act.new.
 pub returns-clause-redone : goal.returns-clause-redone
 returns-clause-redone g c =
     let s = c.self.inside in
-    let job : jobs.Turn = c.args.pending.now in
+    let job : jobs.TurnSoFar = c.args.pending.now in
     let effect = c.effect-effect.result.now in
     let acted = c.in_ok-acted.acted in
     subst (λ (r : ScriptedRun). IsUnchangedAtRedo r (record { system = c.act.new.self; cursor = c.due_by-due.new.cursor; letters = c.act-2.new.self.waiting.letters; messages = messages_of c.act-2.new.self.waiting.busy c.act-2.new.self.waiting.letters; turns = c.act-2.new.self.turns.items }) acted) c.self.view_is
@@ -58,7 +58,7 @@ returns-clause-redone g c =
 pub returns-clause-turns : goal.returns-clause-turns
 returns-clause-turns g c =
     let s = c.self.inside in
-    let job : jobs.Turn = c.args.pending.now in
+    let job : jobs.TurnSoFar = c.args.pending.now in
     let acted = c.in_ok-acted.acted in
     let is = c.act-2.ensures.turns ∙ ap (λ (ts : List ℕ). turns_acted job.place ts acted) c.in_ok-reserve_letter.ensures.same.turns in
     let fewer : length c.act-2.new.self.turns.items ≤ length s.index.turns.items = subst (λ (ts : List ℕ). length ts ≤ length s.index.turns.items) (sym is) (fewer_acted job.place s.index.turns.items acted) in
