@@ -7,7 +7,7 @@ use Rattle.std.proofs.lemmas.Option.{slice_get-get_or, get_or_from_slice_get}
 use Rattle.std.proofs.lemmas.List.Sums.{sum_by-cons, count_by-le-length}
 use Rattle.std.proofs.Math.Seq.{drop-cons}
 use Rattle.std.proofs.lemmas.List.{take-append-drop}
-use Rattle.tau_waiting.proofs.Lists.{filter-one}
+use Rattle.tau_mailbox.proofs.Lists.{filter-one}
 use Rattle.tau_eval.specs.Turn.{TurnSoFar}
 use Rattle.tau_book.specs.Hands.{is_earlier, is_of, IsNumbered}
 use Rattle.tau_book.specs.Books.{AreOfDifferentTurns}

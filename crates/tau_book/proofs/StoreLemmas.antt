@@ -6,8 +6,8 @@ use Rattle.std.proofs.lemmas.List.Quantifiers.{all_pairs_push}
 use Rattle.std.proofs.lemmas.List.Folds.{list_any_at}
 use Rattle.std.proofs.lemmas.List.{get_or-map, length-map}
 use Rattle.std.proofs.lemmas.List.Elements.{All-push, All-contains, Contains-get_or}
-use Rattle.tau_waiting.proofs.Lists.{length-filter-le}
-use Rattle.tau_waiting.specs.MailState.{is_not}
+use Rattle.tau_mailbox.proofs.Lists.{length-filter-le}
+use Rattle.tau_mailbox.specs.MailState.{is_not}
 use Rattle.tau_eval.specs.Turn.{TurnSoFar}
 use Rattle.tau_scripted.proofs.Members.{contains_nothing, contains_here, contains_there, contains_cases, contains_filter, filter_contains, map_contains}
 use Rattle.tau_scripted.proofs.DeliverableLemmas.{contains_any}

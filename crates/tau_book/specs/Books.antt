@@ -1,7 +1,7 @@
 -- What contracts see of a book, and what it keeps.
 use Rattle.std.specs.Prelude.{◌≡◌, ◌≢◌, ◌<◌, ◌≤◌, ℕ, List, length}
 use Rattle.std.specs.List.{AllPairs}
-use Rattle.tau_waiting.specs.declared.letter.Letter.{Letter}
+use Rattle.tau_mailbox.specs.declared.letter.Letter.{Letter}
 use Rattle.tau_trace.specs.declared.step.Step.{Step}
 use Rattle.tau_trace.specs.Run.{len}
 use Rattle.tau_trace.specs.Known.{WellFormed}

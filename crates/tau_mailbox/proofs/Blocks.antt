@@ -1,5 +1,5 @@
 -- Letters in blocks: where a message can be, and what a change of one block makes of them all.
-use Rattle.std.proofs.Common.{◌≡◌, ℕ, zero, suc, ◌<◌, ◌≤◌, ◌+◌, ◌-◌, Bool, true, false, List, [], ◌∷◌, ◌++◌, length, get_or, set, take, drop, remove, find, filter, slice_get, All, Some, None, sym, refl, ap, ◌∙◌, subst, append_assoc, add-one, arith}
+use Rattle.std.proofs.Common.{◌≡◌, ℕ, zero, suc, ◌<◌, ◌≤◌, ◌+◌, ◌-◌, Bool, false, List, [], ◌∷◌, ◌++◌, length, get_or, set, take, drop, remove, find, filter, slice_get, All, Some, sym, refl, ap, ◌∙◌, subst, append_assoc, add-one, arith}
 use Rattle.std.proofs.lemmas.Bool.Decides.{nat_tests}
 use Rattle.std.proofs.lemmas.List.{length-append, length_push, get_or_read, get_or_default, at_drop_more, take_all, get_or_append_left, get_or-append-add, append-nil}
 use Rattle.std.proofs.lemmas.List.Kept.{AllPairs-filter}
@@ -7,9 +7,9 @@ use Rattle.std.proofs.lemmas.List.Quantifiers.{all_pairs_push}
 use Rattle.std.proofs.lemmas.List.Elements.{All-append, All-set, All-take, All-drop, filter-append}
 use Rattle.std.proofs.lemmas.List.Edits.{get_or-remove_below}
 use Rattle.tau_mailbox.specs.declared.letter.Letter.{Letter}
-use Rattle.tau_mailbox.specs.Letters.{WithRoom, is_message, is_other, is_after, IsAscending, AllBelow}
+use Rattle.tau_mailbox.specs.Letters.{WithRoom, is_message, is_other, is_to, IsAscending, AllBelow}
 use Rattle.tau_mailbox.specs.Order.{all_of, AllFilled, Reaches, IsBlockOf, IsOrder}
-use Rattle.tau_mailbox.proofs.Lists.{filter-all, find-append, find-none}
+use Rattle.tau_mailbox.proofs.Lists.{filter-all, filter-none, find-append, find-none}
 use Rattle.tau_mailbox.proofs.Leaving.{split, leaves-found}
 
 -- ---- ascending lists in parts
@@ -147,12 +147,6 @@ find-in-tail m bs tail k at far = find-append (is_message m) (all_of bs) tail (�
 pub filter-in-tail : (m : ℕ) (bs : List WithRoom) (tail : List Letter) (k : ℕ) → IsBlockOf m bs k → length bs ≤ k → filter (is_other m) (all_of bs ++ tail) ≡ all_of bs ++ filter (is_other m) tail
 filter-in-tail m bs tail k at far = rw (filter-append (is_other m) (all_of bs) tail, filter-all (is_other m) (all_of bs) (λ j d lt. grind (arith, nat_tests, all-below m bs k at far j d lt))) refl
 
--- a search for a later letter may begin at the block
-pub find-from-block : (m q : ℕ) (bs : List WithRoom) (tail : List Letter) (k : ℕ) → IsBlockOf m bs k → find (is_after m q) (all_of (drop k bs) ++ tail) ≡ find (is_after m q) (all_of bs ++ tail)
-find-from-block m q bs tail k at =
-    sym (ap (find (is_after m q)) (rw (all-parts bs k) (append_assoc (all_of (take k bs)) (all_of (drop k bs)) tail))
-    ∙ find-append (is_after m q) (all_of (take k bs)) (all_of (drop k bs) ++ tail) (λ j d lt. grind (arith, nat_tests, at.below j d lt)))
-
 -- ---- the letter at a place
 
 slice_get-left : (xs ys : List Letter) (k : ℕ) → k < length xs → slice_get (xs ++ ys) k ≡ slice_get xs k
@@ -179,35 +173,37 @@ get-after-block bs tail i k d lt far =
     let rest = all_of (drop (i + 1) bs) in
     sym (ap (λ ls. slice_get (ls ++ tail) k) (at_drop_more all_of bs i d lt) ∙ ap (λ ls. slice_get ls k) (append_assoc block rest tail) ∙ slice_get-right block (rest ++ tail) k (k - length block) (omega (arith, far)))
 
--- ---- the search in the next block
+-- ---- how many letters there are up to a message
 
-find-some : (p : Letter → Bool) (xs ys : List Letter) (x : Letter) → find p xs ≡ Some x → find p (xs ++ ys) ≡ Some x
-find-some p [] ys x e = absurd (cc)
-find-some p (y ∷ xs) ys x e = by (p y) refl (λ here. find-some p xs ys x here)
-  where
-    by : (b : Bool) → p y ≡ b → (find p xs ≡ Some x → find p (xs ++ ys) ≡ Some x) → find p ((y ∷ xs) ++ ys) ≡ Some x
-    by true t later = rw t (rw t at e)
-    by false t later = rw t (later (rw t at e))
+count-middle : (m : ℕ) (front block back : List Letter) → AllBelow m front → All (λ l. m < l.message) back → length (filter (is_to m) (front ++ (block ++ back))) ≡ length front + length (filter (is_to m) block)
+count-middle m front block back below above =
+    rw (
+      filter-append (is_to m) front (block ++ back),
+      filter-append (is_to m) block back,
+      filter-all (is_to m) front (λ k d lt. grind (arith, nat_tests, below k d lt)),
+      filter-none (is_to m) back (λ k d lt. grind (arith, nat_tests, above k d lt)),
+      append-nil (filter (is_to m) block),
+    ) (length-append front (filter (is_to m) block))
 
-find-skip : (p : Letter → Bool) (xs ys : List Letter) → find p xs ≡ None → find p (xs ++ ys) ≡ find p ys
-find-skip p [] ys e = refl
-find-skip p (y ∷ xs) ys e = by (p y) refl (λ here. find-skip p xs ys here)
-  where
-    by : (b : Bool) → p y ≡ b → (find p xs ≡ None → find p (xs ++ ys) ≡ find p ys) → find p ((y ∷ xs) ++ ys) ≡ find p ys
-    by true t later = absurd (let h = rw t at e in cc)
-    by false t later = rw t (later (rw t at e))
+-- those before the block, and those in it
+pub count-in-block : (m : ℕ) (bs : List WithRoom) (tail : List Letter) (k : ℕ) (d : WithRoom) → IsAscending (all_of bs ++ tail) → IsBlockOf m bs k → k < length bs
+    → length (filter (is_to m) (all_of bs ++ tail)) ≡ length (all_of (take k bs)) + length (filter (is_to m) (get_or bs k d).letters)
+count-in-block m bs tail k d up at lt =
+    ap (λ ls. length (filter (is_to m) ls)) (whole-around bs tail k d lt)
+    ∙ count-middle m (all_of (take k bs)) (get_or bs k d).letters (all_of (drop (suc k) bs) ++ tail) at.below (above-block m bs tail k d up at lt)
 
-pub find-here : (p : Letter → Bool) (bs : List WithRoom) (tail : List Letter) (i : ℕ) (d : WithRoom) (x : Letter) → i < length bs → find p (get_or bs i d).letters ≡ Some x → find p (all_of (drop i bs) ++ tail) ≡ Some x
-find-here p bs tail i d x lt e =
-    let block = (get_or bs i d).letters in
-    let rest = all_of (drop (i + 1) bs) in
-    ap (λ ls. find p (ls ++ tail)) (at_drop_more all_of bs i d lt) ∙ ap (find p) (append_assoc block rest tail) ∙ find-some p block (rest ++ tail) x e
+-- those of all blocks, and those in the tail
+pub count-in-tail : (m : ℕ) (bs : List WithRoom) (tail : List Letter) (k : ℕ) → IsBlockOf m bs k → length bs ≤ k → length (filter (is_to m) (all_of bs ++ tail)) ≡ length (all_of (take k bs)) + length (filter (is_to m) tail)
+count-in-tail m bs tail k at far =
+    rw (
+      take_all k bs far,
+      filter-append (is_to m) (all_of bs) tail,
+      filter-all (is_to m) (all_of bs) (λ j d lt. grind (arith, nat_tests, all-below m bs k at far j d lt)),
+    ) (length-append (all_of bs) (filter (is_to m) tail))
 
-pub find-later : (p : Letter → Bool) (bs : List WithRoom) (tail : List Letter) (i : ℕ) (d : WithRoom) → i < length bs → find p (get_or bs i d).letters ≡ None → find p (all_of (drop (i + 1) bs) ++ tail) ≡ find p (all_of (drop i bs) ++ tail)
-find-later p bs tail i d lt e =
-    let block = (get_or bs i d).letters in
-    let rest = all_of (drop (i + 1) bs) in
-    sym (ap (λ ls. find p (ls ++ tail)) (at_drop_more all_of bs i d lt) ∙ ap (find p) (append_assoc block rest tail) ∙ find-skip p block (rest ++ tail) e)
+-- the blocks before a place have no more letters than there are
+pub length-before : (bs : List WithRoom) (tail : List Letter) (k : ℕ) → length (all_of (take k bs)) ≤ length (all_of bs ++ tail)
+length-before bs tail k = omega (arith, ap length (all-parts bs k), length-append (all_of (take k bs)) (all_of (drop k bs)), length-append (all_of bs) tail)
 
 -- ---- changes
 

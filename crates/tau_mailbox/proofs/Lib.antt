@@ -1,5 +1,6 @@
 pub mod Blocks
 pub mod Consistency
+pub mod Counting
 pub mod Leaving
 pub mod Lists
 pub mod Rooms

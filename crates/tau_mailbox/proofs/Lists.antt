@@ -1,6 +1,7 @@
--- `find` and `filter` where the elements that pass are known by their places.
-use Rattle.std.proofs.Common.{◌≡◌, ◌≢◌, ℕ, zero, suc, ◌<◌, Bool, true, false, List, [], ◌∷◌, ◌++◌, length, get_or, drop, find, filter, remove, All, Some, None, refl, ap, arith}
-use Rattle.std.proofs.lemmas.List.Elements.{All-tail, filter-append}
+-- `find` and `filter` where the elements that pass are known by their places, and how many pass.
+use Rattle.std.proofs.Common.{◌≡◌, ◌≢◌, ℕ, zero, suc, ◌<◌, ◌≤◌, ◌+◌, Bool, true, false, List, [], ◌∷◌, ◌++◌, length, get_or, take, find, filter, remove, slice_get, All, Some, None, refl, ap, arith}
+use Rattle.std.proofs.lemmas.List.{length-take}
+use Rattle.std.proofs.lemmas.List.Elements.{All-tail}
 
 -- nothing is found where nothing passes
 pub find-none : {X : Type 0} (p : X → Bool) (xs : List X) → All (λ x. p x ≡ false) xs → find p xs ≡ None
@@ -18,12 +19,6 @@ find-first p [] i d lt passed before = absurd (omega (arith, lt))
 find-first p (x ∷ xs) zero d lt passed before = rw passed refl
 find-first p (x ∷ xs) (suc i) d lt passed before = rw (before 0 (omega arith)) (find-first p xs i d (omega (arith, lt)) passed (λ j h. before (suc j) (omega (arith, h))))
 
--- where those before k fail, the search may begin at k
-pub find-from : {X : Type 0} (p : X → Bool) (xs : List X) (k : ℕ) → ((j : ℕ) (d : X) → j < k → j < length xs → p (get_or xs j d) ≡ false) → find p xs ≡ find p (drop k xs)
-find-from p xs zero before = refl
-find-from p [] (suc k) before = refl
-find-from p (x ∷ xs) (suc k) before = rw (before 0 x (omega arith) (omega arith)) (find-from p xs k (λ j d h l. before (suc j) d (omega (arith, h)) (omega (arith, l))))
-
 -- where just the one at place i fails, the others are kept
 pub filter-one : {X : Type 0} (p : X → Bool) (xs : List X) (i : ℕ) → i < length xs → ((d : X) → p (get_or xs i d) ≡ false) → ((j : ℕ) (d : X) → j ≢ i → j < length xs → p (get_or xs j d) ≡ true) → filter p xs ≡ remove xs i
 filter-one p [] i lt failed others = absurd (omega (arith, lt))
@@ -40,21 +35,63 @@ pub filter-without : {X : Type 0} (p : X → Bool) (xs : List X) (y : X) (ys : L
 filter-without p [] y ys failed = rw failed refl
 filter-without p (x ∷ xs) y ys failed = rw (filter-without p xs y ys failed) refl
 
--- one that passes stands between what passes before it and after it
-pub filter-around : {X : Type 0} (p : X → Bool) (xs : List X) (y : X) (ys : List X) → p y ≡ true → filter p (xs ++ y ∷ ys) ≡ filter p xs ++ y ∷ filter p ys
-filter-around p xs y ys passed = rw (filter-append p xs (y ∷ ys), passed) refl
-
 -- where none of xs passes, the search may begin after them
 pub find-append : {X : Type 0} (p : X → Bool) (xs ys : List X) → All (λ x. p x ≡ false) xs → find p (xs ++ ys) ≡ find p ys
 find-append p [] ys fails = refl
 find-append p (x ∷ xs) ys fails = rw (fails 0 x (omega arith)) (find-append p xs ys (All-tail (λ y. p y ≡ false) x xs fails))
 
--- tests that agree at each element find the same
-pub find-agree : {X : Type 0} (p q : X → Bool) (xs : List X) → All (λ x. p x ≡ q x) xs → find p xs ≡ find q xs
-find-agree p q [] same = refl
-find-agree p q (x ∷ xs) same = rw (same 0 x (omega arith), find-agree p q xs (All-tail (λ y. p y ≡ q y) x xs same)) refl
-
 -- nothing is kept where nothing passes
 pub filter-none : {X : Type 0} (p : X → Bool) (xs : List X) → All (λ x. p x ≡ false) xs → filter p xs ≡ []
 filter-none p [] fails = refl
 filter-none p (x ∷ xs) fails = rw (fails 0 x (omega arith)) (filter-none p xs (All-tail (λ y. p y ≡ false) x xs fails))
+
+-- where just the first k pass, they are kept
+pub filter-front : {X : Type 0} (p : X → Bool) (xs : List X) (k : ℕ) → k ≤ length xs → ((j : ℕ) (d : X) → j < k → p (get_or xs j d) ≡ true) → ((j : ℕ) (d : X) → k ≤ j → j < length xs → p (get_or xs j d) ≡ false) → filter p xs ≡ take k xs
+filter-front p xs zero within before after = filter-none p xs (λ j d lt. after j d (omega arith) lt)
+filter-front p [] (suc k) within before after = absurd (omega (arith, within))
+filter-front p (x ∷ xs) (suc k) within before after = rw (before 0 x (omega arith)) (ap (λ ys. x ∷ ys) (filter-front p xs k (omega (arith, within)) (λ j d h. before (suc j) d (omega (arith, h))) (λ j d h lt. after (suc j) d (omega (arith, h)) (omega (arith, lt)))))
+
+-- the first that is kept is the first that is found
+pub find-filter : {X : Type 0} (p : X → Bool) (xs : List X) → find p xs ≡ slice_get (filter p xs) 0
+find-filter p [] = refl
+find-filter p (x ∷ xs) = by (p x) refl (find-filter p xs)
+  where
+    by : (b : Bool) → p x ≡ b → find p xs ≡ slice_get (filter p xs) 0 → find p (x ∷ xs) ≡ slice_get (filter p (x ∷ xs)) 0
+    by true t later = rw t refl
+    by false t later = rw t later
+
+-- no more pass than there are
+pub length-filter-le : {X : Type 0} (p : X → Bool) (xs : List X) → length (filter p xs) ≤ length xs
+length-filter-le p [] = omega arith
+length-filter-le p (x ∷ xs) = by (p x) refl (length-filter-le p xs)
+  where
+    by : (b : Bool) → p x ≡ b → length (filter p xs) ≤ length xs → length (filter p (x ∷ xs)) ≤ suc (length xs)
+    by true t h = rw t (omega (arith, h))
+    by false t h = rw t (omega (arith, h))
+
+-- among m elements more, at most m more pass
+pub filter-take-le : {X : Type 0} (p : X → Bool) (xs : List X) (i j m : ℕ) → i ≤ j + m → length (filter p (take i xs)) ≤ length (filter p (take j xs)) + m
+filter-take-le p xs zero j m h = omega arith
+filter-take-le p [] (suc i) j m h = omega arith
+filter-take-le p (x ∷ xs) (suc i) zero m h = omega (arith, h, length-filter-le p (x ∷ take i xs), length-take i xs)
+filter-take-le p (x ∷ xs) (suc i) (suc j) m h = by (p x) refl (filter-take-le p xs i j m (omega (arith, h)))
+  where
+    by : (b : Bool) → p x ≡ b → length (filter p (take i xs)) ≤ length (filter p (take j xs)) + m → length (filter p (x ∷ take i xs)) ≤ length (filter p (x ∷ take j xs)) + m
+    by true t later = rw t (omega (arith, later))
+    by false t later = rw t later
+
+-- the element at place i is the one with the number k of those that pass, where k of them stand before it and it passes
+pub nth-filter : {X : Type 0} (p : X → Bool) (xs : List X) (i k : ℕ) → length (filter p (take i xs)) ≤ k → k < length (filter p (take (suc i) xs)) → slice_get (filter p xs) k ≡ slice_get xs i
+nth-filter p [] i k before through = absurd (omega (arith, through))
+nth-filter p (x ∷ xs) zero k before through = by (p x) refl
+  where
+    by : (b : Bool) → p x ≡ b → slice_get (filter p (x ∷ xs)) k ≡ Some x
+    by true t = let first : k ≡ 0 = (let h = rw t at through in omega (arith, h)) in rw (t, first) refl
+    by false t = absurd (let h = rw t at through in omega (arith, h))
+nth-filter p (x ∷ xs) (suc i) k before through = by (p x) refl (λ n. nth-filter p xs i n) k before through
+  where
+    by : (b : Bool) → p x ≡ b → ((n : ℕ) → length (filter p (take i xs)) ≤ n → n < length (filter p (take (suc i) xs)) → slice_get (filter p xs) n ≡ slice_get xs i)
+        → (n : ℕ) → length (filter p (x ∷ take i xs)) ≤ n → n < length (filter p (x ∷ take (suc i) xs)) → slice_get (filter p (x ∷ xs)) n ≡ slice_get xs i
+    by true t later zero b h = absurd (let e = rw t at b in omega (arith, e))
+    by true t later (suc n) b h = rw t (later n (let e = rw t at b in omega (arith, e)) (let e = rw t at h in omega (arith, e)))
+    by false t later n b h = rw t (later n (rw t at b) (rw t at h))

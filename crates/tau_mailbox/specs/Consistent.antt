@@ -1,13 +1,17 @@
--- What mailboxes keep.
-use Rattle.std.specs.Prelude.{◌≡◌, ◌<◌, ◌^◌, ℕ, List, All, length, filter, slice_index_or}
+-- What the letters of each receiver are.
+use Rattle.std.specs.Prelude.{◌≡◌, ◌<◌, ℕ, List, All, length, filter, slice_index_or}
 use Rattle.tau_mailbox.specs.declared.letter.Letter.{Letter}
-use Rattle.tau_mailbox.specs.Letters.{WithRoom, IsAscending, is_at}
-use Rattle.tau_mailbox.specs.Firsts.{Index, Indexes}
+use Rattle.tau_mailbox.specs.Letters.{WithRoom, IsAscending, is_for}
 
--- each part has its node's letters of the list, and the index their first ones
-pub record IsConsistent (parts : List WithRoom) (firsts : Index) (ls : List Letter) : Type 0 where
+-- each part has its receiver's letters of the list, and each letter is at one of so many nodes
+pub record IsConsistent (nodes : ℕ) (parts : List WithRoom) (ls : List Letter) : Type 0 where
   pub ascending : IsAscending ls
-  pub homes : All (λ l. l.node < length parts) ls
-  pub by_node : (n : ℕ) (d : WithRoom) → n < length parts → (slice_index_or parts n d).letters ≡ filter (is_at n) ls
-  pub by_receiver : Indexes firsts ls
-  pub few : length parts < 2 ^ 32
+  pub homes : All (λ l. l.who < length parts) ls
+  pub at_nodes : All (λ l. l.node < nodes) ls
+  pub by_receiver : (q : ℕ) (d : WithRoom) → q < length parts → (slice_index_or parts q d).letters ≡ filter (is_for q) ls
+
+-- the number of nodes, the letters, and for each receiver how many more fit without memory
+pub record WithRooms : Type 0 where
+  pub nodes : ℕ
+  pub letters : List Letter
+  pub rooms : List ℕ

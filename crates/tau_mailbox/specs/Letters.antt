@@ -1,5 +1,5 @@
 -- Lists of letters.
-use Rattle.std.specs.Prelude.{◌≡◌, ◌<◌, ◌≤◌, ◌==◌, ◌&&◌, nat_lt, ℕ, Bool, not, List, All, length, slice_index_or, find, filter, remove, Some, None}
+use Rattle.std.specs.Prelude.{◌≡◌, ◌<◌, ◌≤◌, ◌==◌, nat_le, ℕ, Bool, not, List, All, length, slice_index_or, find, filter, remove, Some, None}
 use Rattle.std.specs.List.{AllPairs}
 use Rattle.tau_mailbox.specs.declared.letter.Letter.{Letter}
 
@@ -11,13 +11,13 @@ is_message m l = l.message == m
 abbrev pub is_other : ℕ → Letter → Bool
 is_other m l = not (l.message == m)
 
+-- a letter whose message is at most m
+abbrev pub is_to : ℕ → Letter → Bool
+is_to m l = nat_le l.message m
+
 -- a letter for this receiver
 abbrev pub is_for : ℕ → Letter → Bool
 is_for q l = l.who == q
-
--- a letter for this receiver whose message is above m
-abbrev pub is_after : ℕ → ℕ → Letter → Bool
-is_after m q l = nat_lt m l.message && l.who == q
 
 -- a letter at this node
 abbrev pub is_at : ℕ → Letter → Bool

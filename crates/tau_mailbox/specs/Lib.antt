@@ -1,6 +1,5 @@
 pub mod Consistent
-pub mod Firsts
-pub mod InFlight
 pub mod Letters
+pub mod MailState
 pub mod Order
 pub mod Parts

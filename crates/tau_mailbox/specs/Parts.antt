@@ -1,5 +1,5 @@
--- The letters of each node.
-use Rattle.std.specs.Prelude.{◌≡◌, ◌≤◌, ◌+◌, ℕ, List, [], ◌∷◌, ◌++◌, map, min, filter, slice_index_or, slice_set}
+-- The letters of each receiver.
+use Rattle.std.specs.Prelude.{◌≡◌, ◌≤◌, ◌<◌, ◌+◌, ℕ, List, [], ◌∷◌, ◌++◌, map, min, length, filter, slice_index_or, slice_set}
 use Rattle.tau_mailbox.specs.declared.letter.Letter.{Letter}
 use Rattle.tau_mailbox.specs.Letters.{WithRoom, is_other}
 
@@ -20,6 +20,12 @@ Gains l old new = (new.letters ≡ old.letters ++ l ∷ []) × (old.room ≤ new
 -- the letters without the message m, and no less room
 abbrev pub Loses : ℕ → WithRoom → WithRoom → Type 0
 Loses m old new = (new.letters ≡ filter (is_other m) old.letters) × (old.room ≤ new.room)
+
+-- each part keeps its letters and no less room, and those that are new are empty
+pub record Widens (old new : List WithRoom) : Type 0 where
+  pub longer : length old ≤ length new
+  pub kept : (q : ℕ) (d : WithRoom) → q < length old → Keeps (slice_index_or old q d) (slice_index_or new q d)
+  pub fresh : (q : ℕ) (d : WithRoom) → length old ≤ q → q < length new → (slice_index_or new q d).letters ≡ []
 
 -- the room of each part, but at most r
 abbrev pub rooms_of : List WithRoom → ℕ → List ℕ

@@ -1,6 +1,6 @@
 // An ascending list of letters, with room for more.
 ghost use Rattle.std.specs.Prelude.{◌≡◌, ◌<◌, ◌≤◌, ◌+◌, ◌^◌, [], ◌∷◌, ◌++◌, length, find, filter, slice_get, Any, MatchBool, IfOk, OnOk, IfSome, IfNone};
-ghost use Rattle.tau_mailbox.specs.Letters.{is_message, is_other, is_after, IsAscending, AllBelow, IsLowerBound, IsAbsent, IsPlaceOf};
+ghost use Rattle.tau_mailbox.specs.Letters.{is_message, is_other, is_at, is_to, IsAscending, AllBelow, IsLowerBound, IsAbsent, IsPlaceOf};
 
 use crate::letter::Letter;
 use std::alloc::{AllocError, Global};
@@ -56,17 +56,22 @@ impl Letters {
         self.items.len()
     }
 
-    pub(crate) fn letters(&self) -> &[Letter]
-        ensures letters { result.now ≡ self.now.letters }
-        ensures ascending { IsAscending self.now.letters }
-    {
-        &self.items
-    }
-
     pub(crate) fn at(&self, k: usize) -> Option<Letter>
         ensures { result ≡ slice_get self.now.letters k }
     {
         self.items.get(k).copied()
+    }
+
+    /// Puts the letters at a node behind those that were found before.
+    pub(crate) fn put_at_node(&self, node: u32, found: &mut Vec<Letter>) -> Result<(), AllocError>
+        ensures { OnOk result (found.new.items ≡ found.old.items ++ filter (is_at node) self.now.letters) }
+    {
+        for letter in &self.items {
+            if letter.node == node {
+                found.push(*letter)?;
+            }
+        }
+        Ok(())
     }
 
     /// Makes room for one more letter.
@@ -122,25 +127,12 @@ impl Letters {
         }
     }
 
-    /// The first letter for a receiver whose message is above the given one.
-    pub(crate) fn first_after(&self, message: u32, who: u32) -> Option<Letter>
-        ensures { result ≡ find (is_after message who) self.now.letters }
+    /// How many letters have at most the given message.
+    pub(crate) fn count_to(&self, message: u32) -> usize
+        ensures { result ≡ length (filter (is_to message) self.now.letters) }
     {
-        let from = lower_bound(&self.items, message);
-        find_after(&self.items[from..], message, who)
+        self.items.partition_point(|l| l.message <= message)
     }
-}
-
-/// The first letter for a receiver whose message is above the given one.
-fn find_after(letters: &[Letter], message: u32, who: u32) -> Option<Letter>
-    ensures { result ≡ find (is_after message who) letters.now }
-{
-    for letter in letters {
-        if letter.is_after(message, who) {
-            return Some(*letter);
-        }
-    }
-    None
 }
 
 /// How many letters have a message below the given one.

@@ -1,6 +1,6 @@
 // All letters by ascending message, in blocks, so that one leaves by moving those of one block.
-ghost use Rattle.std.specs.Prelude.{◌≡◌, ◌<◌, ◌≤◌, ◌+◌, ◌^◌, [], ◌∷◌, ◌++◌, length, take, drop, find, filter, slice_get, slice_index_or, vec_len, OnOk, IfNone, IfSome};
-ghost use Rattle.tau_mailbox.specs.Letters.{is_message, is_other, is_after, IsAscending, AllBelow};
+ghost use Rattle.std.specs.Prelude.{◌≡◌, ◌<◌, ◌≤◌, ◌+◌, ◌^◌, [], ◌∷◌, ◌++◌, length, take, drop, find, filter, slice_get, slice_index_or, vec_len, IfOk, OnOk, IfNone, IfSome};
+ghost use Rattle.tau_mailbox.specs.Letters.{is_message, is_other, is_at, is_to, IsAscending, AllBelow};
 ghost use Rattle.std.specs.Vec.{vec_capacity};
 ghost use Rattle.tau_mailbox.specs.Letters.{WithRoom};
 ghost use Rattle.tau_mailbox.specs.Order.{all_of, AllFilled, IsBlockOf};
@@ -11,7 +11,7 @@ use std::alloc::{AllocError, Global};
 use std::marker::Model;
 use std::mem;
 
-/// How many letters a block has room for.
+/// How many letters a block has room for at least.
 const BLOCK: usize = 512;
 
 /// All letters by ascending message: those of the blocks, and then those of the tail, into which new ones go.
@@ -67,6 +67,18 @@ impl Order {
         self.tail.at(left)
     }
 
+    /// The letters at a node.
+    pub(crate) fn at_node(&self, node: u32) -> Result<Vec<Letter>, AllocError>
+        ensures { IfOk result (λ v. v.items ≡ filter (is_at node) self.now.letters) }
+    {
+        let mut found = Vec::new(self.alloc);
+        for block in &self.blocks {
+            block.put_at_node(node, &mut found)?;
+        }
+        self.tail.put_at_node(node, &mut found)?;
+        Ok(found)
+    }
+
     /// Makes room for one more letter.
     pub(crate) fn reserve(&mut self) -> Result<(), AllocError>
         ensures letters { self.new.letters ≡ self.old.letters }
@@ -75,6 +87,9 @@ impl Order {
     {
         if self.tail.room() > 0 {
             return Ok(());
+        }
+        if self.tail.len() < BLOCK {
+            return self.tail.reserve();
         }
         self.blocks.reserve(1)?;
         let tail = Letters::with_room(self.alloc, BLOCK)?;
@@ -111,25 +126,31 @@ impl Order {
         Some(found)
     }
 
-    /// The first letter for a receiver whose message is above the given one.
-    pub(crate) fn first_after(&self, message: u32, who: u32) -> Option<Letter>
-        ensures { result ≡ find (is_after message who) self.now.letters }
+    /// How many letters have at most the given message.
+    pub(crate) fn count_to(&self, message: u32) -> usize
+        ensures { result ≡ length (filter (is_to message) self.now.letters) }
     {
-        let from = block_of(&self.blocks, message);
-        find_in(&self.blocks[from..], &self.tail, message, who)
+        // There are no more letters than the length counts.
+        let _len = self.len;
+        let place = block_of(&self.blocks, message);
+        let before = total_len(&self.blocks[..place]);
+        match self.blocks.get(place) {
+            Some(block) => before + block.count_to(message),
+            None => before + self.tail.count_to(message),
+        }
     }
 }
 
-/// The first letter of the blocks and the tail for a receiver whose message is above the given one.
-fn find_in(blocks: &[Letters], tail: &Letters, message: u32, who: u32) -> Option<Letter>
-    ensures { result ≡ find (is_after message who) (all_of blocks.now ++ tail.now.letters) }
+/// How many letters the blocks have.
+fn total_len(blocks: &[Letters]) -> usize
+    requires { length (all_of blocks.now) < 2 ^ 64 }
+    ensures { result ≡ length (all_of blocks.now) }
 {
+    let mut total = 0;
     for block in blocks {
-        if let Some(letter) = block.first_after(message, who) {
-            return Some(letter);
-        }
+        total += block.len();
     }
-    tail.first_after(message, who)
+    total
 }
 
 /// Puts a block behind the others, unless it is empty.

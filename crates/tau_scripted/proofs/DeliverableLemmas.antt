@@ -5,16 +5,19 @@ use Rattle.std.specs.List.{AllPairs, Contains, list_any}
 use Rattle.std.proofs.lemmas.List.{get_or-map, length-map}
 use Rattle.std.proofs.lemmas.List.Kept.{AllPairs-filter}
 use Rattle.std.proofs.lemmas.List.Folds.{list_any_at}
-use Rattle.tau_waiting.specs.declared.letter.Letter.{Letter}
-use Rattle.tau_waiting.specs.Letters.{IsAscending}
-use Rattle.tau_waiting.specs.MailState.{is_busy, is_deliverable}
+use Rattle.tau_mailbox.specs.declared.letter.Letter.{Letter}
+use Rattle.tau_mailbox.specs.Letters.{IsAscending}
+use Rattle.tau_mailbox.specs.MailState.{is_busy, is_deliverable}
 use Rattle.tau_trace.specs.Run.{Run, len}
+use Rattle.tau_trace.specs.Known.{WellFormed}
 use Rattle.tau_trace.specs.Turns.{IsOpenTurn}
 use Rattle.tau_trace.specs.Numbering.{InFlight, Receives}
 use Rattle.tau_trace.proofs.Lists.{same_some}
+use Rattle.tau_rules.proofs.DeliverLemmas.{receiver_exists}
 use Rattle.tau_scripted.specs.Flight.{IsWaiting, AreInFlight, IsDeliverable, AreDeliverable}
 use Rattle.tau_scripted.specs.ScriptedRun.{messages_of}
 use Rattle.tau_scripted.proofs.Members.{contains_here, contains_there, contains_filter, filter_contains, contains_map, map_contains}
+use Rattle.tau_scripted.proofs.Receivers.{each_homed}
 use Rattle.tau_scripted.proofs.OpenLemmas.{AreBusy}
 
 -- being in a list, as a test
@@ -53,13 +56,13 @@ free_idle T busy t are none place m u = none ((are t).1 (place, (m, u)))
 ascends : (ls : List Letter) → IsAscending ls → AllPairs (λ a b. a < b) (map (λ l. l.message) ls)
 ascends ls h i j d less within =
     let message : Letter → ℕ = λ l. l.message in
-    let none : Letter = record { message = 0; who = 0 } in
+    let none : Letter = record { message = 0; who = 0; node = 0 } in
     let l : j < length ls = omega (arith, length-map ls (λ (x : Letter). x.message)) in
     let one : get_or (map message ls) i d ≡ (get_or ls i none).message = get_or-map message ls i none d (omega arith) in
     let two : get_or (map message ls) j d ≡ (get_or ls j none).message = get_or-map message ls j none d l in
     omega (arith, h i j none less l, one, two)
 
-module _ (T : Run) (ls : List Letter) (busy : List ℕ) (letters : AreInFlight T ls) (are : AreBusy T busy) where
+module _ (T : Run) (w : WellFormed T) (ls : List Letter) (busy : List ℕ) (letters : AreInFlight T ls) (are : AreBusy T busy) where
   there : (m : ℕ) → Contains (messages_of busy ls) m → IsDeliverable T m
   there m c =
       let came = map_contains (λ (l : Letter). l.message) (filter (is_deliverable busy) ls) m c in
@@ -74,8 +77,9 @@ module _ (T : Run) (ls : List Letter) (busy : List ℕ) (letters : AreInFlight T
 
   back : (m : ℕ) → IsDeliverable T m → Contains (messages_of busy ls) m
   back m h =
-      let l : Letter = record { message = m; who = h.receiver } in
-      let in_list : Contains ls l = (letters.each l).1 (record { in_flight = h.in_flight; receiver = h.receives }) in
+      let home = each_homed T w.opening (len T) h.receiver (receiver_exists T w m h.receiver h.in_flight.exists h.receives) in
+      let l : Letter = record { message = m; who = h.receiver; node = home.0 } in
+      let in_list : Contains ls l = (letters.each l).1 (record { in_flight = h.in_flight; receiver = h.receives; home = home.1 }) in
       let free : is_deliverable busy l ≡ true = ap not (not_busy busy h.receiver (idle_free T busy h.receiver are h.idle)) in
       contains_map (λ (x : Letter). x.message) (filter (is_deliverable busy) ls) l (contains_filter (is_deliverable busy) ls l in_list free)
 

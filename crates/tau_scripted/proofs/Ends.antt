@@ -3,7 +3,7 @@ use Rattle.std.proofs.Common.{◌≡◌, inr, ℕ, ◌<◌, Option, Some, None, 
 use Rattle.std.specs.List.{Contains}
 use Rattle.std.specs.Prelude.{IfSome}
 use Rattle.std.proofs.lemmas.Option.{slice_get_within}
-use Rattle.tau_waiting.specs.declared.letter.Letter.{Letter}
+use Rattle.tau_mailbox.specs.declared.letter.Letter.{Letter}
 use Rattle.tau_tree.specs.declared.programs.Program.{Program}
 use Rattle.tau_trace.specs.declared.step.Step.{Step}
 use Rattle.tau_trace.specs.Run.{Run, len, appended}
@@ -14,6 +14,7 @@ use Rattle.tau_script.specs.Cursors.{CursorAt, ComesTo, IsCurrent, IsDueAt, Pass
 use Rattle.tau_script.specs.Scripts.{Allows}
 use Rattle.tau_script.proofs.Passing.{stays, cursor_rests}
 use Rattle.tau_script.proofs.Same.{goes_on as cursors_go_on}
+use Rattle.tau_rules.proofs.DeliverLemmas.{receiver_exists}
 use Rattle.tau_legal.specs.Traces.{Fitting}
 use Rattle.tau_legal.proofs.TraceLemmas.{legal_grows}
 use Rattle.tau_check.specs.Inner.Checkers.{HasAsked, NothingLeft}
@@ -23,16 +24,17 @@ use Rattle.tau_scripted.specs.Flight.{AreInFlight}
 use Rattle.tau_scripted.specs.ScriptedRun.{IsScripted}
 use Rattle.tau_scripted.proofs.Members.{contains_nothing, contains_here}
 use Rattle.tau_scripted.proofs.OpenLemmas.{AreBusy}
-use Rattle.tau_scripted.proofs.Receivers.{each_received}
+use Rattle.tau_scripted.proofs.Receivers.{each_received, each_homed}
 
 -- without open turns and letters nothing is left
-pub nothing_left : (T : Run) (ls : List Letter) (turns : List ℕ) → AreInFlight T ls → AreOpenTurns T turns → turns ≡ [] → ls ≡ [] → NothingLeft T
-nothing_left T ls turns letters are no_turns no_letters = record {
+pub nothing_left : (T : Run) (ls : List Letter) (turns : List ℕ) → WellFormed T → AreInFlight T ls → AreOpenTurns T turns → turns ≡ [] → ls ≡ [] → NothingLeft T
+nothing_left T ls turns w letters are no_turns no_letters = record {
   no_turn = λ t place m u. contains_nothing place (subst (λ (xs : List ℕ). Contains xs place) no_turns ((are.each place).1 (record { who = t; message = m; turn = u })));
   none_in_flight = λ m f.
       let r = each_received T (len T) m f.exists in
-      let l : Letter = record { message = m; who = r.0 } in
-      contains_nothing l (subst (λ (xs : List Letter). Contains xs l) no_letters ((letters.each l).1 (record { in_flight = f; receiver = r.1 })));
+      let h = each_homed T w.opening (len T) r.0 (receiver_exists T w m r.0 f.exists r.1) in
+      let l : Letter = record { message = m; who = r.0; node = h.0 } in
+      contains_nothing l (subst (λ (xs : List Letter). Contains xs l) no_letters ((letters.each l).1 (record { in_flight = f; receiver = r.1; home = h.1 })));
 }
 
 -- and where nothing is left, there are none
@@ -50,22 +52,23 @@ module _ (P : Program) (T : Run) (c : Cursor) (due : Option Step) (s : Step) (as
   current_after = inr (subst (λ k. ComesTo P.script (appended T s) k (moved_past_due due c)) (sym (len-appended T s)) (cursors_go_on P.script T c due s asked.stands asked.due_is))
 
   -- what is kept after a step that the script allows
-  pub scripted_after : (d : Cursor) (ls : List Letter) (busy turns : List ℕ) → WellFormed (appended T s) → Fitting P (appended T s) → Allows P.script T (len T) s
-      → CursorAt P.script (appended T s) (len (appended T s)) d → AreInFlight (appended T s) ls → AreBusy (appended T s) busy → AreOpenTurns (appended T s) turns
-      → IsScripted P (appended T s) d ls busy turns
-  scripted_after d ls busy turns w f allowed cursor letters are turns_are = record {
+  pub scripted_after : (d : Cursor) (nodes : ℕ) (ls : List Letter) (busy turns : List ℕ) → WellFormed (appended T s) → Fitting P (appended T s) → Allows P.script T (len T) s
+      → CursorAt P.script (appended T s) (len (appended T s)) d → nodes ≡ T.opening.nodes → AreInFlight (appended T s) ls → AreBusy (appended T s) busy → AreOpenTurns (appended T s) turns
+      → IsScripted P (appended T s) d nodes ls busy turns
+  scripted_after d nodes ls busy turns w f allowed cursor at_nodes letters are turns_are = record {
     well_formed = w;
     legal = legal_grows P T s asked.well_formed w asked.legal (record { fits = fits_at_end P T s asked.well_formed w f; allowed = allowed });
     cursor_is = cursor;
+    nodes_are = at_nodes;
     letters_are = letters;
     busy_are = are;
     turns_are = turns_are;
   }
 
 -- the due step, by a cursor that rests
-pub asked_at : (P : Program) (T : Run) (c d : Cursor) (due : Option Step) (ls : List Letter) (busy turns : List ℕ) → IsScripted P T c ls busy turns → PassesTo P.script T (len T) c d
+pub asked_at : (P : Program) (T : Run) (c d : Cursor) (due : Option Step) (nodes : ℕ) (ls : List Letter) (busy turns : List ℕ) → IsScripted P T c nodes ls busy turns → PassesTo P.script T (len T) c d
     → IsDueAt P.script T (len T) d due → HasAsked P T c due
-asked_at P T c d due ls busy turns h over is =
+asked_at P T c d due nodes ls busy turns h over is =
     let rests : c ≡ d = stays P.script T (len T) c d (cursor_rests P.script T (len T) c h.cursor_is) over in
     record { well_formed = h.well_formed; legal = h.legal; stands = h.cursor_is; due_is = subst (λ (x : Cursor). IsDueAt P.script T (len T) x due) (sym rests) is }
 

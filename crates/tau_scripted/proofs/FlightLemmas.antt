@@ -5,18 +5,19 @@ use Rattle.std.proofs.lemmas.List.Kept.{AllPairs-filter}
 use Rattle.std.proofs.lemmas.List.Quantifiers.{all_pairs_push}
 use Rattle.std.proofs.lemmas.List.Elements.{Contains-append_left, Contains-push, Contains-push_cases, Contains-get_or}
 use Rattle.tau_value.specs.declared.shared.Value.{Value}
-use Rattle.tau_waiting.specs.declared.letter.Letter.{Letter}
-use Rattle.tau_waiting.specs.Letters.{is_other, AllBelow}
+use Rattle.tau_mailbox.specs.declared.letter.Letter.{Letter}
+use Rattle.tau_mailbox.specs.Letters.{is_other, AllBelow}
 use Rattle.tau_trace.specs.declared.step.Step.{Step}
 use Rattle.tau_trace.specs.declared.step.Step.TheVariants.{Send}
 use Rattle.tau_trace.specs.Steps.{removed_by, is_send}
 use Rattle.tau_trace.specs.Run.{Run, len, appended}
-use Rattle.tau_trace.specs.Numbering.{sent, Receives, message, InFlight}
+use Rattle.tau_trace.specs.Numbering.{born, sent, Receives, message, IsHome, InFlight}
 use Rattle.tau_trace.specs.Known.{MayFollow, WellFormed}
 use Rattle.tau_trace.proofs.Lists.{same_some}
 use Rattle.tau_trace.proofs.Agreement.{agree_appended, step_at-appended, same_at}
 use Rattle.tau_trace.proofs.Indexing.{len-appended}
-use Rattle.tau_trace.proofs.Once.{receives_once}
+use Rattle.tau_trace.proofs.Once.{home_once, receives_once}
+use Rattle.tau_rules.proofs.DeliverLemmas.{receiver_exists}
 use Rattle.tau_views.proofs.Appended.{one_if, sent_here, sent_then, flew, flies_on, not_removed, new_flies}
 use Rattle.tau_scripted.specs.Flight.{IsWaiting, AreInFlight}
 use Rattle.tau_scripted.proofs.Members.{contains_filter, filter_contains}
@@ -34,20 +35,25 @@ other_message m l says same =
     let both : false ≡ true = sym (ap not is) ∙ says in
     cc
 
-module _ (T : Run) (s : Step) where
+module _ (T : Run) (s : Step) (v : WellFormed T) where
   -- the letters that wait at the end of the longer run, by its length
-  waits_at : (l : Letter) → InFlight (appended T s) l.message (suc (len T)) → Receives (appended T s) l.message l.who → IsWaiting (appended T s) l
-  waits_at l f r = record { in_flight = subst (InFlight (appended T s) l.message) (sym (len-appended T s)) f; receiver = r }
+  waits_at : (l : Letter) → InFlight (appended T s) l.message (suc (len T)) → Receives (appended T s) l.message l.who → IsHome (appended T s) l.who l.node → IsWaiting (appended T s) l
+  waits_at l f r h = record { in_flight = subst (InFlight (appended T s) l.message) (sym (len-appended T s)) f; receiver = r; home = h }
 
   -- a letter that the step leaves waits on
   pub waits_on : (l : Letter) → ¬ (removed_by s ≡ Some l.message) → IsWaiting T l → IsWaiting (appended T s) l
-  waits_on l stays h = waits_at l (flies_on T s l.message stays h.in_flight) (((same_at T (appended T s) (len T) (agree_appended T s)).receives l.message l.who h.in_flight.exists).0 h.receiver)
+  waits_on l stays h =
+      let same = same_at T (appended T s) (len T) (agree_appended T s) in
+      waits_at l (flies_on T s l.message stays h.in_flight) ((same.receives l.message l.who h.in_flight.exists).0 h.receiver)
+      ((same.home l.who l.node (receiver_exists T v l.message l.who h.in_flight.exists h.receiver)).0 h.home)
 
   -- a letter of an earlier message waited before, and the step leaves it
   pub waited : (l : Letter) → l.message < sent T (len T) → IsWaiting (appended T s) l → IsWaiting T l × (¬ (removed_by s ≡ Some l.message))
   waited l lt h =
-      let f : InFlight (appended T s) l.message (suc (len T)) = subst (InFlight (appended T s) l.message) (len-appended T s) h.in_flight in (
-        record { in_flight = flew T s l.message lt f; receiver = ((same_at T (appended T s) (len T) (agree_appended T s)).receives l.message l.who lt).1 h.receiver },
+      let f : InFlight (appended T s) l.message (suc (len T)) = subst (InFlight (appended T s) l.message) (len-appended T s) h.in_flight in
+      let same = same_at T (appended T s) (len T) (agree_appended T s) in
+      let receiver : Receives T l.message l.who = (same.receives l.message l.who lt).1 h.receiver in (
+        record { in_flight = flew T s l.message lt f; receiver = receiver; home = (same.home l.who l.node (receiver_exists T v l.message l.who lt receiver)).1 h.home },
         not_removed T s l.message f,
       )
 
@@ -85,40 +91,44 @@ pub letters_below : (T : Run) (ls : List Letter) → AreInFlight T ls → AllBel
 letters_below T ls h k d lt = ((h.each (get_or ls k d)).0 (Contains-get_or ls k d lt)).in_flight.exists
 
 -- the letter of the message that a Send makes
-abbrev pub letter_to : Run → ℕ → Letter
-letter_to T u = record { message = sent T (len T); who = u }
+abbrev pub letter_to : Run → ℕ → ℕ → Letter
+letter_to T u n = record { message = sent T (len T); who = u; node = n }
 
 last_or_below : (j k : ℕ) → j < k + 1 → (j < k) ⊎ (j ≡ k)
 last_or_below j k l = grind arith
 
-module _ (T : Run) (t u : ℕ) (v : Value) (w : WellFormed T) (may : MayFollow T (Send t u v)) where
+module _ (T : Run) (t u : ℕ) (v : Value) (w : WellFormed T) (may : MayFollow T (Send t u v)) (n : ℕ) (home : IsHome T u n) where
   receiver_is : Receives (appended T (Send t u v)) (sent T (len T)) u
   receiver_is = message (record { to = u; value = v; stands = step_at-appended T (Send t u v); made = sym (sent_here T (Send t u v)) }) refl
 
-  new_waits : IsWaiting (appended T (Send t u v)) (letter_to T u)
-  new_waits = waits_at T (Send t u v) (letter_to T u) (new_flies T (Send t u v) w may (sent T (len T)) (omega arith) (omega (arith, sent_then T (Send t u v)))) receiver_is
+  home_is : IsHome (appended T (Send t u v)) u n
+  home_is = ((same_at T (appended T (Send t u v)) (len T) (agree_appended T (Send t u v))).home u n may.known.1).0 home
+
+  new_waits : IsWaiting (appended T (Send t u v)) (letter_to T u n)
+  new_waits = waits_at T (Send t u v) w (letter_to T u n) (new_flies T (Send t u v) w may (sent T (len T)) (omega arith) (omega (arith, sent_then T (Send t u v)))) receiver_is home_is
 
   -- after a Send
-  pub letters_with : (ls : List Letter) → AreInFlight T ls → AreInFlight (appended T (Send t u v)) (ls ++ letter_to T u ∷ [])
+  pub letters_with : (ls : List Letter) → AreInFlight T ls → AreInFlight (appended T (Send t u v)) (ls ++ letter_to T u n ∷ [])
   letters_with ls h = record {
-    ascending = all_pairs_push (λ a b. a.message < b.message) ls (letter_to T u) h.ascending (letters_below T ls h);
+    ascending = all_pairs_push (λ a b. a.message < b.message) ls (letter_to T u n) h.ascending (letters_below T ls h);
     each = λ l. (there l, back l);
   } where
-    there : (l : Letter) → Contains (ls ++ letter_to T u ∷ []) l → IsWaiting (appended T (Send t u v)) l
+    there : (l : Letter) → Contains (ls ++ letter_to T u n ∷ []) l → IsWaiting (appended T (Send t u v)) l
     there l c = ⊎_elim
-        (λ d. waits_on T (Send t u v) l (λ e. cc) ((h.each l).0 d))
-        (λ (e : letter_to T u ≡ l). subst (IsWaiting (appended T (Send t u v))) e new_waits)
-        (Contains-push_cases ls (letter_to T u) l c)
+        (λ d. waits_on T (Send t u v) w l (λ e. cc) ((h.each l).0 d))
+        (λ (e : letter_to T u n ≡ l). subst (IsWaiting (appended T (Send t u v))) e new_waits)
+        (Contains-push_cases ls (letter_to T u n) l c)
 
-    same : (l : Letter) → l.message ≡ sent T (len T) → IsWaiting (appended T (Send t u v)) l → letter_to T u ≡ l
+    same : (l : Letter) → l.message ≡ sent T (len T) → IsWaiting (appended T (Send t u v)) l → letter_to T u n ≡ l
     same l e wait =
         let who : u ≡ l.who = receives_once (appended T (Send t u v)) (sent T (len T)) u l.who receiver_is (subst (λ m. Receives (appended T (Send t u v)) m l.who) e wait.receiver) in
-        λ i. record { message = sym e i; who = who i }
+        let node : n ≡ l.node = home_once (appended T (Send t u v)) u n l.node w.opening home_is (subst (λ x. IsHome (appended T (Send t u v)) x l.node) (sym who) wait.home) in
+        λ i. record { message = sym e i; who = who i; node = node i }
 
-    back : (l : Letter) → IsWaiting (appended T (Send t u v)) l → Contains (ls ++ letter_to T u ∷ []) l
+    back : (l : Letter) → IsWaiting (appended T (Send t u v)) l → Contains (ls ++ letter_to T u n ∷ []) l
     back l wait =
         let f : InFlight (appended T (Send t u v)) l.message (suc (len T)) = subst (InFlight (appended T (Send t u v)) l.message) (len-appended T (Send t u v)) wait.in_flight in
         ⊎_elim
-        (λ lt. Contains-append_left ls (letter_to T u ∷ []) l ((h.each l).1 (waited T (Send t u v) l lt wait).0))
-        (λ (e : l.message ≡ sent T (len T)). subst (λ (x : Letter). Contains (ls ++ letter_to T u ∷ []) x) (same l e wait) (Contains-push ls (letter_to T u)))
+        (λ lt. Contains-append_left ls (letter_to T u n ∷ []) l ((h.each l).1 (waited T (Send t u v) w l lt wait).0))
+        (λ (e : l.message ≡ sent T (len T)). subst (λ (x : Letter). Contains (ls ++ letter_to T u n ∷ []) x) (same l e wait) (Contains-push ls (letter_to T u n)))
         (last_or_below l.message (sent T (len T)) (omega (arith, f.exists, sent_then T (Send t u v))))

@@ -12,7 +12,7 @@ use Rattle.tau_trace.specs.Turns.{Turn, IsOpenTurn, HasOpenTurn}
 use Rattle.tau_trace.proofs.Agreement.{agree_appended, step_at-appended, same_at}
 use Rattle.tau_trace.proofs.Indexing.{len-appended}
 use Rattle.tau_trace.proofs.Lists.{same_some}
-use Rattle.tau_waiting.specs.MailState.{is_not}
+use Rattle.tau_mailbox.specs.MailState.{is_not}
 use Rattle.tau_past.specs.Carried.{touches}
 use Rattle.tau_past.specs.KnownLaws.{KeepsTurns, keeps_pending}
 use Rattle.tau_past.proofs.PendingLemmas.{turns_after_step}

@@ -1,15 +1,15 @@
 -- What is kept after each kind of step.
-use Rattle.std.proofs.Common.{◌≡◌, ◌≢◌, inl, inr, ℕ, false, IsTrue, Option, Some, None, List, [], ◌∷◌, ◌++◌, filter, refl, sym, ap, ◌∙◌, subst, arith}
+use Rattle.std.proofs.Common.{◌≡◌, ◌≢◌, ◌<◌, inl, inr, ℕ, false, IsTrue, Option, Some, None, List, [], ◌∷◌, ◌++◌, filter, refl, sym, ap, ◌∙◌, subst, arith}
 use Rattle.std.specs.Prelude.{IsFalse}
-use Rattle.tau_waiting.specs.declared.letter.Letter.{Letter}
-use Rattle.tau_waiting.specs.Letters.{is_other}
+use Rattle.tau_mailbox.specs.declared.letter.Letter.{Letter}
+use Rattle.tau_mailbox.specs.Letters.{is_other}
 use Rattle.tau_tree.specs.declared.programs.Program.{Program}
 use Rattle.tau_trace.specs.declared.step.Step.{Step}
 use Rattle.tau_trace.specs.declared.step.Step.TheVariants.{Take, Drop, Fall, Void, Get, Set, Skip, Send, New, Stabilize, Ask, Fail, Lose}
 use Rattle.tau_trace.specs.Steps.{actor, removed_by, is_send, ends_turn}
 use Rattle.tau_trace.specs.Run.{Run, len, appended}
 use Rattle.tau_trace.specs.Known.{WellFormed, IsKnownAt, MayFollow}
-use Rattle.tau_trace.specs.Numbering.{born, sent}
+use Rattle.tau_trace.specs.Numbering.{born, sent, IsHome}
 use Rattle.tau_trace.specs.Turns.{IsOpenTurn}
 use Rattle.tau_trace.proofs.Agreement.{agree_appended, step_at-appended, born-same, sent-same}
 use Rattle.tau_trace.proofs.Indexing.{known_same, len-appended}
@@ -40,7 +40,7 @@ use Rattle.tau_check.specs.Inner.Checkers.{HasAsked}
 use Rattle.tau_check.proofs.Endings.{fits_at_end, turn_no_failure}
 use Rattle.tau_check.proofs.FamilyLemmas.{IsRow, of_effect, effect_once}
 use Rattle.tau_check.proofs.TurnSteps.{acts_in_turn}
-use Rattle.tau_scripted.specs.Inner.Index.{receiver_of, with_letter, letters_received, busy_received, turns_received, busy_ended, turns_ended, letters_acted, busy_acted, turns_acted}
+use Rattle.tau_scripted.specs.Inner.Index.{receiver_of, IsNodeOf, with_letter, letters_received, busy_received, turns_received, busy_ended, turns_ended, letters_acted, busy_acted, turns_acted}
 use Rattle.tau_scripted.specs.Flight.{IsWaiting, AreInFlight}
 use Rattle.tau_scripted.specs.OpenTurns.{AreOpenTurns}
 use Rattle.tau_scripted.specs.ScriptedRun.{IsScripted, IsUnchangedAtRedo, messages_of}
@@ -104,15 +104,16 @@ stepped_sends old new job e s legal is h =
     row_sends T job.who (len T) e s (subst (λ (x : Eff). IsRow T job.who (len T) x s) same row.row)
 
 -- the letters after a step with which a turn goes on
-letters_going : (T : Run) (s : Step) (ls : List Letter) → WellFormed T → WellFormed (appended T s) → IsTrue (goes_on s) → AreInFlight T ls → AreInFlight (appended T s) (with_letter (sent T (len T)) ls (sent_to s))
-letters_going T (Get t) ls v w going h = letters_stay T (Get t) ls refl refl h
-letters_going T (Set t x) ls v w going h = letters_stay T (Set t x) ls refl refl h
-letters_going T (Skip t) ls v w going h = letters_stay T (Skip t) ls refl refl h
-letters_going T (Send t u x) ls v w going h = letters_with T t u x v (may_follow T (Send t u x) w) ls h
-letters_going T (New t b n x) ls v w going h = letters_stay T (New t b n x) ls refl refl h
-letters_going T (Stabilize t) ls v w going h = letters_stay T (Stabilize t) ls refl refl h
-letters_going T (Ask t a) ls v w going h = letters_stay T (Ask t a) ls refl refl h
-letters_going T s ls v w going h = absurd (cc)
+letters_going : (T : Run) (s : Step) (n : ℕ) (ls : List Letter) → WellFormed T → WellFormed (appended T s) → IsTrue (goes_on s) → ((u : ℕ) → sent_to s ≡ Some u → u < born T (len T) → IsHome T u n)
+    → AreInFlight T ls → AreInFlight (appended T s) (with_letter (sent T (len T)) n ls (sent_to s))
+letters_going T (Get t) n ls v w going at h = letters_stay T (Get t) v ls refl refl h
+letters_going T (Set t x) n ls v w going at h = letters_stay T (Set t x) v ls refl refl h
+letters_going T (Skip t) n ls v w going at h = letters_stay T (Skip t) v ls refl refl h
+letters_going T (Send t u x) n ls v w going at h = let may : MayFollow T (Send t u x) = may_follow T (Send t u x) w in letters_with T t u x v may n (at u refl may.known.1) ls h
+letters_going T (New t b home x) n ls v w going at h = letters_stay T (New t b home x) v ls refl refl h
+letters_going T (Stabilize t) n ls v w going at h = letters_stay T (Stabilize t) v ls refl refl h
+letters_going T (Ask t a) n ls v w going at h = letters_stay T (Ask t a) v ls refl refl h
+letters_going T s n ls v w going at h = absurd (cc)
 
 -- a step of a turn that ends it leaves the letters
 over_keeps : (s : Step) → IsTrue (is_of_turn s) → IsTrue (ends_turn s) → (removed_by s ≡ None) × (is_send s ≡ false)
@@ -124,16 +125,16 @@ over_keeps (Send t u v) h e = absurd (cc)
 over_keeps (Lose m) h e = absurd (cc)
 over_keeps s h e = (refl, refl)
 
-module _ (old new : Core) (c d : Cursor) (ls : List Letter) (busy turns : List ℕ) (kept : IsScripted old.program old.run c ls busy turns) (w : WellFormed new.run) (f : Fitting new.program new.run) where
+module _ (old new : Core) (c d : Cursor) (nodes : ℕ) (ls : List Letter) (busy turns : List ℕ) (kept : IsScripted old.program old.run c nodes ls busy turns) (w : WellFormed new.run) (f : Fitting new.program new.run) where
   after_step : (due : Option Step) (s : Step) → HasAsked old.program old.run c due → new ≡ with_step old s → Allows old.program.script old.run (len old.run) s
       → (IsCurrent new.program.script new.run (len new.run) (moved_past_due due c) → CursorAt new.program.script new.run (len new.run) d)
-      → (ks : List Letter) (bs ts : List ℕ) → AreInFlight (appended old.run s) ks → AreBusy (appended old.run s) bs → AreOpenTurns (appended old.run s) ts → IsScripted new.program new.run d ks bs ts
+      → (ks : List Letter) (bs ts : List ℕ) → AreInFlight (appended old.run s) ks → AreBusy (appended old.run s) bs → AreOpenTurns (appended old.run s) ts → IsScripted new.program new.run d nodes ks bs ts
   after_step due s asked is allowed moves ks bs ts letters are open_are =
       let long : WellFormed (appended old.run s) = subst (λ (k : Core). WellFormed k.run) is w in
       let fitting : Fitting old.program (appended old.run s) = subst (λ (k : Core). Fitting k.program k.run) is f in
       let current : IsCurrent new.program.script new.run (len new.run) (moved_past_due due c) = subst (λ (k : Core). IsCurrent k.program.script k.run (len k.run) (moved_past_due due c)) (sym is) (current_after old.program old.run c due s asked) in
       let cursor : CursorAt old.program.script (appended old.run s) (len (appended old.run s)) d = subst (λ (k : Core). CursorAt k.program.script k.run (len k.run) d) is (moves current) in
-      subst (λ (k : Core). IsScripted k.program k.run d ks bs ts) (sym is) (scripted_after old.program old.run c due s asked d ks bs ts long fitting allowed cursor letters are open_are)
+      subst (λ (k : Core). IsScripted k.program k.run d nodes ks bs ts) (sym is) (scripted_after old.program old.run c due s asked d nodes ks bs ts long fitting allowed cursor kept.nodes_are letters are open_are)
 
   allows_due : (s : Step) → HasAsked old.program old.run c (Some s) → Allows old.program.script old.run (len old.run) s
   allows_due s asked = inl (record { cursor = c; stands = asked.stands; due = asked.due_is })
@@ -141,22 +142,22 @@ module _ (old new : Core) (c d : Cursor) (ls : List Letter) (busy turns : List �
   -- after a Fail
   pub after_fail : (who : ℕ) (turn : Option ℕ) → HasAsked old.program old.run c (Some (Fail who)) → new ≡ with_step old (Fail who)
       → (IsCurrent new.program.script new.run (len new.run) (moved_past_due (Some (Fail who)) c) → CursorAt new.program.script new.run (len new.run) d)
-      → IsOpenTurn old.run who (len old.run) turn → IsScripted new.program new.run d ls (busy_ended who busy turn) (turns_ended turns turn)
+      → IsOpenTurn old.run who (len old.run) turn → IsScripted new.program new.run d nodes ls (busy_ended who busy turn) (turns_ended turns turn)
   after_fail who None asked is moves idle =
       let stay : TurnsStay old.run (Fail who) = stay_idle old.run (Fail who) (λ t m e. cc) (λ t by. subst (λ x. IsOpenTurn old.run x (len old.run) None) (same_some by) idle) in
-      after_step (Some (Fail who)) (Fail who) asked is (allows_due (Fail who) asked) moves ls busy turns (letters_stay old.run (Fail who) ls refl refl kept.letters_are) (busy_stay old.run (Fail who) busy kept.busy_are stay) (open_stay old.run (Fail who) turns kept.turns_are stay)
+      after_step (Some (Fail who)) (Fail who) asked is (allows_due (Fail who) asked) moves ls busy turns (letters_stay old.run (Fail who) kept.well_formed ls refl refl kept.letters_are) (busy_stay old.run (Fail who) busy kept.busy_are stay) (open_stay old.run (Fail who) turns kept.turns_are stay)
   after_fail who (Some place) asked is moves has =
       let ends = end_own old.run (Fail who) who refl refl in
-      after_step (Some (Fail who)) (Fail who) asked is (allows_due (Fail who) asked) moves ls (busy_ended who busy (Some place)) (turns_ended turns (Some place)) (letters_stay old.run (Fail who) ls refl refl kept.letters_are)
+      after_step (Some (Fail who)) (Fail who) asked is (allows_due (Fail who) asked) moves ls (busy_ended who busy (Some place)) (turns_ended turns (Some place)) (letters_stay old.run (Fail who) kept.well_formed ls refl refl kept.letters_are)
       (busy_end old.run (Fail who) busy kept.busy_are who ends) (open_end old.run (Fail who) turns kept.turns_are who place has.0 ends has.1)
 
   -- after a Lose
   pub after_lose : (m : ℕ) → HasAsked old.program old.run c (Some (Lose m)) → new ≡ with_step old (Lose m)
       → (IsCurrent new.program.script new.run (len new.run) (moved_past_due (Some (Lose m)) c) → CursorAt new.program.script new.run (len new.run) d)
-      → IsScripted new.program new.run d (filter (is_other m) ls) busy turns
+      → IsScripted new.program new.run d nodes (filter (is_other m) ls) busy turns
   after_lose m asked is moves =
       let stay : TurnsStay old.run (Lose m) = stay_idle old.run (Lose m) (λ t n e. cc) (λ t by. absurd (nobody t by)) in
-      after_step (Some (Lose m)) (Lose m) asked is (allows_due (Lose m) asked) moves (filter (is_other m) ls) busy turns (letters_without old.run (Lose m) m ls refl refl kept.letters_are) (busy_stay old.run (Lose m) busy kept.busy_are stay) (open_stay old.run (Lose m) turns kept.turns_are stay) where
+      after_step (Some (Lose m)) (Lose m) asked is (allows_due (Lose m) asked) moves (filter (is_other m) ls) busy turns (letters_without old.run (Lose m) kept.well_formed m ls refl refl kept.letters_are) (busy_stay old.run (Lose m) busy kept.busy_are stay) (open_stay old.run (Lose m) turns kept.turns_are stay) where
         nobody : (t : ℕ) → ¬ (None ≡ Some t)
         nobody t e = cc
 
@@ -175,78 +176,79 @@ module _ (old new : Core) (c d : Cursor) (ls : List Letter) (busy turns : List �
     receiver_stays : (s : Step) → actor s ≡ Some l.who → ((t n : ℕ) → s ≢ Take t n) → TurnsStay old.run s
     receiver_stays s by begins = stay_idle old.run s begins (λ t e. subst (λ x. IsOpenTurn old.run x (len old.run) None) (same_some (sym by ∙ e)) idle)
 
-    after_other : (s : Step) → IsFalse (is_failure s) → new ≡ with_step old s → actor s ≡ Some l.who → ((t n : ℕ) → s ≢ Take t n) → (ks : List Letter) → AreInFlight (appended old.run s) ks → IsScripted new.program new.run d ks busy turns
+    after_other : (s : Step) → IsFalse (is_failure s) → new ≡ with_step old s → actor s ≡ Some l.who → ((t n : ℕ) → s ≢ Take t n) → (ks : List Letter) → AreInFlight (appended old.run s) ks → IsScripted new.program new.run d nodes ks busy turns
     after_other s no_failure is by begins ks letters =
         let stay = receiver_stays s by begins in
         after_step None s (none_asked none) is (inr (none, no_failure)) moves ks busy turns letters (busy_stay old.run s busy kept.busy_are stay) (open_stay old.run s turns kept.turns_are stay)
 
-    after_take : (t : ℕ) → new ≡ with_step old (Take t l.message) → IsScripted new.program new.run d (filter (is_other l.message) ls) (busy ++ l.who ∷ []) (turns ++ len old.run ∷ [])
+    after_take : (t : ℕ) → new ≡ with_step old (Take t l.message) → IsScripted new.program new.run d nodes (filter (is_other l.message) ls) (busy ++ l.who ∷ []) (turns ++ len old.run ∷ [])
     after_take t is =
         let s : Step = Take l.who l.message in
         let who : t ≡ l.who = receives_once old.run l.message t l.who (last_fits (Take t l.message) is).0.receiver waits.receiver in
         let here : new ≡ with_step old (Take l.who l.message) = is ∙ ap (λ x. with_step old (Take x l.message)) who in
         let begins = begin_take old.run (Take l.who l.message) l.who l.message refl idle in
         after_step None (Take l.who l.message) (none_asked none) here (inr (none, refl)) moves (filter (is_other l.message) ls) (busy ++ l.who ∷ []) (turns ++ len old.run ∷ [])
-        (letters_without old.run (Take l.who l.message) l.message ls refl refl kept.letters_are) (busy_begin old.run (Take l.who l.message) busy kept.busy_are l.who l.message begins) (open_begin old.run (Take l.who l.message) turns kept.turns_are l.who l.message begins)
+        (letters_without old.run (Take l.who l.message) kept.well_formed l.message ls refl refl kept.letters_are) (busy_begin old.run (Take l.who l.message) busy kept.busy_are l.who l.message begins) (open_begin old.run (Take l.who l.message) turns kept.turns_are l.who l.message begins)
 
     -- after each receipt
-    pub after_receipt : (r : Delivered) → IsDelivered old new l.message r → IsScripted new.program new.run d (letters_received l.message ls r) (busy_received l.who busy r) (turns_received (len old.run) turns r)
+    pub after_receipt : (r : Delivered) → IsDelivered old new l.message r → IsScripted new.program new.run d nodes (letters_received l.message ls r) (busy_received l.who busy r) (turns_received (len old.run) turns r)
     after_receipt (Began job) h = after_take job.who h.appended
     after_receipt Dropped h =
         let who : h.0 ≡ l.who = receives_once old.run l.message h.0 l.who (last_fits (Drop h.0 l.message) h.1).0.receiver waits.receiver in
-        after_other (Drop h.0 l.message) refl h.1 (ap Some who) (λ t n e. cc) (filter (is_other l.message) ls) (letters_without old.run (Drop h.0 l.message) l.message ls refl refl kept.letters_are)
+        after_other (Drop h.0 l.message) refl h.1 (ap Some who) (λ t n e. cc) (filter (is_other l.message) ls) (letters_without old.run (Drop h.0 l.message) kept.well_formed l.message ls refl refl kept.letters_are)
     after_receipt Fell h =
         let who : h.0 ≡ l.who = receives_once old.run l.message h.0 l.who (last_fits (Fall h.0 l.message) h.1).0.receiver waits.receiver in
-        after_other (Fall h.0 l.message) refl h.1 (ap Some who) (λ t n e. cc) ls (letters_stay old.run (Fall h.0 l.message) ls refl refl kept.letters_are)
+        after_other (Fall h.0 l.message) refl h.1 (ap Some who) (λ t n e. cc) ls (letters_stay old.run (Fall h.0 l.message) kept.well_formed ls refl refl kept.letters_are)
     after_receipt Voided h =
         let who : h.0 ≡ l.who = receives_once old.run l.message h.0 l.who (last_fits (Void h.0 l.message) h.1).receiver waits.receiver in
-        after_other (Void h.0 l.message) refl h.1 (ap Some who) (λ t n e. cc) (filter (is_other l.message) ls) (letters_without old.run (Void h.0 l.message) l.message ls refl refl kept.letters_are)
+        after_other (Void h.0 l.message) refl h.1 (ap Some who) (λ t n e. cc) (filter (is_other l.message) ls) (letters_without old.run (Void h.0 l.message) kept.well_formed l.message ls refl refl kept.letters_are)
 
-  module _ (job : jobs.TurnSoFar) (e : Effect) (none : NoneDue old.program.script old.run (len old.run)) (is_effect : eff_of e ≡ jobs.next_in job)
+  module _ (job : jobs.TurnSoFar) (e : Effect) (none : NoneDue old.program.script old.run (len old.run)) (is_effect : eff_of e ≡ jobs.next_in job) (n : ℕ) (at : IsNodeOf old.run e n)
       (moves : IsCurrent new.program.script new.run (len new.run) c → CursorAt new.program.script new.run (len new.run) d) where
     allows_turn : (s : Step) → IsStepped old new job s → Allows old.program.script old.run (len old.run) s
     allows_turn s h = inr (none, turn_no_failure s job.who (acts_in_turn s job.who h.step.by h.step.of_turn))
 
-    after_going : (s : Step) → IsStepped old new job s → IsTrue (goes_on s) → IsScripted new.program new.run d (with_letter (sent old.run (len old.run)) ls (receiver_of e)) busy turns
+    after_going : (s : Step) → IsStepped old new job s → IsTrue (goes_on s) → IsScripted new.program new.run d nodes (with_letter (sent old.run (len old.run)) n ls (receiver_of e)) busy turns
     after_going s h going =
         let stay = stay_going old.run s job.who h.step.by going in
-        let letters : AreInFlight (appended old.run s) (with_letter (sent old.run (len old.run)) ls (sent_to s)) = letters_going old.run s ls kept.well_formed (subst (λ (k : Core). WellFormed k.run) h.appended w) going kept.letters_are in
         let same : sent_to s ≡ receiver_of e = stepped_sends old new job e s kept.legal is_effect h in
-        after_step None s (none_asked none) h.appended (allows_turn s h) moves (with_letter (sent old.run (len old.run)) ls (receiver_of e)) busy turns
-        (subst (λ (o : Option ℕ). AreInFlight (appended old.run s) (with_letter (sent old.run (len old.run)) ls o)) same letters)
+        let letters : AreInFlight (appended old.run s) (with_letter (sent old.run (len old.run)) n ls (sent_to s)) = letters_going old.run s n ls kept.well_formed (subst (λ (k : Core). WellFormed k.run) h.appended w) going (λ u is lt. at u (sym same ∙ is) lt) kept.letters_are in
+        after_step None s (none_asked none) h.appended (allows_turn s h) moves (with_letter (sent old.run (len old.run)) n ls (receiver_of e)) busy turns
+        (subst (λ (o : Option ℕ). AreInFlight (appended old.run s) (with_letter (sent old.run (len old.run)) n ls o)) same letters)
         (busy_stay old.run s busy kept.busy_are stay) (open_stay old.run s turns kept.turns_are stay)
 
-    after_over : (s : Step) → IsStepped old new job s → IsTrue (ends_turn s) → IsScripted new.program new.run d ls (busy_acted job.who busy TurnOver) (turns_acted job.place turns TurnOver)
+    after_over : (s : Step) → IsStepped old new job s → IsTrue (ends_turn s) → IsScripted new.program new.run d nodes ls (busy_acted job.who busy TurnOver) (turns_acted job.place turns TurnOver)
     after_over s h ends_here =
         let ends = end_own old.run s job.who h.step.by ends_here in
         let keeps = over_keeps s h.step.of_turn ends_here in
-        after_step None s (none_asked none) h.appended (allows_turn s h) moves ls (busy_acted job.who busy TurnOver) (turns_acted job.place turns TurnOver) (letters_stay old.run s ls keeps.0 keeps.1 kept.letters_are)
+        after_step None s (none_asked none) h.appended (allows_turn s h) moves ls (busy_acted job.who busy TurnOver) (turns_acted job.place turns TurnOver) (letters_stay old.run s kept.well_formed ls keeps.0 keeps.1 kept.letters_are)
         (busy_end old.run s busy kept.busy_are job.who ends) (open_end old.run s turns kept.turns_are job.who job.place h.was_open.message ends h.was_open.turn)
 
-    same_core : new ≡ old → IsScripted new.program new.run d ls busy turns
+    same_core : new ≡ old → IsScripted new.program new.run d nodes ls busy turns
     same_core same =
         let cursor : CursorAt new.program.script new.run (len new.run) d = moves (inl (subst (λ (k : Core). CursorAt k.program.script k.run (len k.run) c) (sym same) kept.cursor_is)) in
-        let was : IsScripted new.program new.run c ls busy turns = subst (λ (k : Core). IsScripted k.program k.run c ls busy turns) (sym same) kept in
-        record { well_formed = was.well_formed; legal = was.legal; cursor_is = cursor; letters_are = was.letters_are; busy_are = was.busy_are; turns_are = was.turns_are }
+        let was : IsScripted new.program new.run c nodes ls busy turns = subst (λ (k : Core). IsScripted k.program k.run c nodes ls busy turns) (sym same) kept in
+        record { well_formed = was.well_formed; legal = was.legal; cursor_is = cursor; nodes_are = was.nodes_are; letters_are = was.letters_are; busy_are = was.busy_are; turns_are = was.turns_are }
 
     -- after an effect
-    pub after_act : (a : Acted) → IsActed old new job a → IsScripted new.program new.run d (letters_acted (sent old.run (len old.run)) ls e a) (busy_acted job.who busy a) (turns_acted job.place turns a)
+    pub after_act : (a : Acted) → IsActed old new job a → IsScripted new.program new.run d nodes (letters_acted (sent old.run (len old.run)) n ls e a) (busy_acted job.who busy a) (turns_acted job.place turns a)
     after_act (Reply r) h = after_going h.0 h.1 h.2
     after_act TurnOver h = after_over h.0 h.1 h.2
     after_act (Redo other) h = same_core h.unchanged
 
 -- after Redo nothing is different
-pub redo_same : (old new : Core) (c d : Cursor) (ls ks : List Letter) (busy bs turns ts : List ℕ) (m : ℕ) (job : jobs.TurnSoFar) (e : Effect) (a : Acted) → IsScripted old.program old.run c ls busy turns
-    → PassesTo new.program.script new.run (len new.run) c d → IsActed old new job a → ks ≡ letters_acted m ls e a → bs ≡ busy_acted job.who busy a → ts ≡ turns_acted job.place turns a
+pub redo_same : (old new : Core) (c d : Cursor) (nodes : ℕ) (ls ks : List Letter) (busy bs turns ts : List ℕ) (m n : ℕ) (job : jobs.TurnSoFar) (e : Effect) (a : Acted) → IsScripted old.program old.run c nodes ls busy turns
+    → PassesTo new.program.script new.run (len new.run) c d → IsActed old new job a → ks ≡ letters_acted m n ls e a → bs ≡ busy_acted job.who busy a → ts ≡ turns_acted job.place turns a
     → IsUnchangedAtRedo (record { system = old; cursor = c; letters = ls; messages = messages_of busy ls; turns = turns }) (record { system = new; cursor = d; letters = ks; messages = messages_of bs ks; turns = ts }) a
-redo_same old new c d ls ks busy bs turns ts m job e (Reply r) kept over h same_letters same_busy same_turns = tt
-redo_same old new c d ls ks busy bs turns ts m job e TurnOver kept over h same_letters same_busy same_turns = tt
-redo_same old new c d ls ks busy bs turns ts m job e (Redo other) kept over h same_letters same_busy same_turns =
+redo_same old new c d nodes ls ks busy bs turns ts m n job e (Reply r) kept over h same_letters same_busy same_turns = tt
+redo_same old new c d nodes ls ks busy bs turns ts m n job e TurnOver kept over h same_letters same_busy same_turns = tt
+redo_same old new c d nodes ls ks busy bs turns ts m n job e (Redo other) kept over h same_letters same_busy same_turns =
     let was : PassesTo old.program.script old.run (len old.run) c d = subst (λ (k : Core). PassesTo k.program.script k.run (len k.run) c d) h.unchanged over in
     let rests : c ≡ d = stays old.program.script old.run (len old.run) c d (cursor_rests old.program.script old.run (len old.run) c kept.cursor_is) was in
     λ i. record { system = h.unchanged i; cursor = sym rests i; letters = same_letters i; messages = messages_of (same_busy i) (same_letters i); turns = same_turns i }
 
 -- what is kept by lists that are the same
-pub of_lists : (P : Program) (T : Run) (c : Cursor) (ls ks : List Letter) (busy bs turns ts : List ℕ) → ks ≡ ls → bs ≡ busy → ts ≡ turns → IsScripted P T c ls busy turns → IsScripted P T c ks bs ts
-of_lists P T c ls ks busy bs turns ts same_letters same_busy same_turns h =
-    subst (λ (x : List Letter). IsScripted P T c x bs ts) (sym same_letters) (subst (λ (x : List ℕ). IsScripted P T c ls x ts) (sym same_busy) (subst (λ (x : List ℕ). IsScripted P T c ls busy x) (sym same_turns) h))
+pub of_lists : (P : Program) (T : Run) (c : Cursor) (nodes now : ℕ) (ls ks : List Letter) (busy bs turns ts : List ℕ) → now ≡ nodes → ks ≡ ls → bs ≡ busy → ts ≡ turns → IsScripted P T c nodes ls busy turns → IsScripted P T c now ks bs ts
+of_lists P T c nodes now ls ks busy bs turns ts same_nodes same_letters same_busy same_turns h =
+    subst (λ (x : ℕ). IsScripted P T c x ks bs ts) (sym same_nodes)
+    (subst (λ (x : List Letter). IsScripted P T c nodes x bs ts) (sym same_letters) (subst (λ (x : List ℕ). IsScripted P T c nodes ls x ts) (sym same_busy) (subst (λ (x : List ℕ). IsScripted P T c nodes ls busy x) (sym same_turns) h)))

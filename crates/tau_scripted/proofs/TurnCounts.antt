@@ -1,8 +1,8 @@
 -- How many turns are open after a step.
 use Rattle.std.proofs.Common.{◌≡◌, ℕ, ◌+◌, ◌≤◌, Option, Some, None, List, [], ◌∷◌, length, take, arith, length-append}
 use Rattle.std.proofs.Math.Seq.{take-append_seam, take-length}
-use Rattle.tau_waiting.proofs.Lists.{length-filter-le}
-use Rattle.tau_waiting.specs.MailState.{is_not}
+use Rattle.tau_mailbox.proofs.Lists.{length-filter-le}
+use Rattle.tau_mailbox.specs.MailState.{is_not}
 use Rattle.tau_rules.specs.declared.answers.Acted.{Acted}
 use Rattle.tau_rules.specs.declared.answers.Acted.TheVariants.{Reply, TurnOver, Redo}
 use Rattle.tau_rules.specs.declared.answers.Delivered.{Delivered}

@@ -1,8 +1,8 @@
 -- What contracts see of a system that follows its program's script, and what it keeps.
 use Rattle.std.specs.Prelude.{◌≡◌, ◌↔◌, ℕ, Bool, true, false, List, map, filter}
 use Rattle.std.specs.List.{Contains}
-use Rattle.tau_waiting.specs.declared.letter.Letter.{Letter}
-use Rattle.tau_waiting.specs.MailState.{is_deliverable}
+use Rattle.tau_mailbox.specs.declared.letter.Letter.{Letter}
+use Rattle.tau_mailbox.specs.MailState.{is_deliverable}
 use Rattle.tau_tree.specs.declared.programs.Program.{Program}
 use Rattle.tau_trace.specs.declared.step.Step.{Step}
 use Rattle.tau_trace.specs.Run.{Run, len}
@@ -27,12 +27,13 @@ pub record ScriptedRun : Type 0 where
   pub messages : List ℕ
   pub turns : List ℕ
 
--- the run is legal, the cursor is the script's, and these are the letters of the messages in flight, the transactors in a turn and the
--- open turns
-pub record IsScripted (P : Program) (T : Run) (cursor : Cursor) (letters : List Letter) (busy turns : List ℕ) : Type 0 where
+-- the run is legal, the cursor is the script's, and these are the number of nodes, the letters of the messages in flight, the transactors
+-- in a turn and the open turns
+pub record IsScripted (P : Program) (T : Run) (cursor : Cursor) (nodes : ℕ) (letters : List Letter) (busy turns : List ℕ) : Type 0 where
   pub well_formed : WellFormed T
   pub legal : Legal P T
   pub cursor_is : CursorAt P.script T (len T) cursor
+  pub nodes_are : nodes ≡ T.opening.nodes
   pub letters_are : AreInFlight T letters
   pub busy_are : (t : ℕ) → Contains busy t ↔ HasOpenTurn T t (len T)
   pub turns_are : AreOpenTurns T turns

@@ -1,31 +1,32 @@
 //! What a worker chooses from: the messages in flight, the receivers that are in a turn, and the open turns.
 ghost use Rattle.std.specs.Prelude.{◌≡◌, ◌<◌, ◌≤◌, [], ◌∷◌, ◌++◌, ◌↔◌, false, filter, IsTrue, IfSome, OnOk, OnErr, vec_len};
 ghost use Rattle.std.specs.Vec.{vec_capacity};
-ghost use Rattle.tau_waiting.specs.Letters.{is_other, AllBelow};
-ghost use Rattle.tau_waiting.specs.MailState.{is_busy, is_not, room};
+ghost use Rattle.tau_mailbox.specs.Letters.{is_other, AllBelow};
+ghost use Rattle.tau_mailbox.specs.MailState.{is_busy, is_not, room};
 ghost use Rattle.tau_scripted.specs.Inner.Index.{IsSame, receiver_of, with_letter, letters_received, busy_received, turns_received, busy_ended, turns_ended, letters_acted, busy_acted, turns_acted};
 
 use std::alloc::{AllocError, Global};
 use tau_eval::{Effect, Pending};
+use tau_mailbox::{Letter, Mailboxes};
 use tau_rules::{Acted, Delivered};
-use tau_waiting::{Letter, Waiting};
 
 /// The messages in flight with the receivers that are in a turn, and the places of the Takes of the open turns.
 #[derive(Drop)]
 pub(crate) struct Index {
-    pub(crate) waiting: Waiting,
+    pub(crate) mailboxes: Mailboxes,
     pub(crate) turns: Vec<u32>,
 }
 
 impl Index {
-    /// No letters, and no open turns.
-    pub(crate) fn new(alloc: Global) -> Index
-        ensures letters { result.waiting.letters ≡ [] }
-        ensures busy { result.waiting.busy ≡ [] }
+    /// No letters, at the given number of nodes, and no open turns.
+    pub(crate) fn new(alloc: Global, nodes: u32) -> Index
+        ensures nodes { result.mailboxes.nodes ≡ nodes }
+        ensures letters { result.mailboxes.letters ≡ [] }
+        ensures busy { result.mailboxes.busy ≡ [] }
         ensures turns { result.turns.items ≡ [] }
     {
         Index {
-            waiting: Waiting::new(alloc),
+            mailboxes: Mailboxes::new(alloc, nodes),
             turns: Vec::new(alloc),
         }
     }
@@ -33,20 +34,20 @@ impl Index {
     /// Makes room for one more open turn.
     pub(crate) fn reserve_turn(&mut self) -> Result<(), AllocError>
         ensures same { IsSame self.old self.new }
-        ensures busy { OnOk result (1 ≤ self.new.waiting.turn_room) }
+        ensures busy { OnOk result (1 ≤ self.new.mailboxes.turn_room) }
         ensures turns { OnOk result (vec_len self.new.turns < vec_capacity self.new.turns) }
     {
-        self.waiting.reserve_open()?;
+        self.mailboxes.reserve_open()?;
         self.turns.reserve(1)
     }
 
     /// Makes room for the letter of the message that an effect sends, if it sends one.
     pub(crate) fn reserve_letter(&mut self, effect: &Effect) -> Result<(), AllocError>
         ensures same { IsSame self.old self.new }
-        ensures ok { OnOk result (IfSome (receiver_of effect.now) (λ u. 1 ≤ room self.new.waiting.rooms u)) }
+        ensures ok { OnOk result (IfSome (receiver_of effect.now) (λ u. 1 ≤ room self.new.mailboxes.rooms u)) }
     {
         match effect {
-            Effect::Send(to, _) => self.waiting.reserve(*to),
+            Effect::Send(to, _) => self.mailboxes.reserve(*to),
             _ => Ok(()),
         }
     }
@@ -60,17 +61,18 @@ impl Index {
 
     /// Takes in a receipt of a message at a place.
     pub(crate) fn receive(&mut self, letter: Letter, place: u32, delivered: &Delivered<'_>)
-        requires idle { is_busy self.old.waiting.busy letter.who ≡ false }
-        requires busy { 1 ≤ self.old.waiting.turn_room }
+        requires idle { is_busy self.old.mailboxes.busy letter.who ≡ false }
+        requires busy { 1 ≤ self.old.mailboxes.turn_room }
         requires turns { vec_len self.old.turns < vec_capacity self.old.turns }
-        ensures letters { self.new.waiting.letters ≡ letters_received letter.message self.old.waiting.letters delivered.now }
-        ensures busy { self.new.waiting.busy ≡ busy_received letter.who self.old.waiting.busy delivered.now }
+        ensures nodes { self.new.mailboxes.nodes ≡ self.old.mailboxes.nodes }
+        ensures letters { self.new.mailboxes.letters ≡ letters_received letter.message self.old.mailboxes.letters delivered.now }
+        ensures busy { self.new.mailboxes.busy ≡ busy_received letter.who self.old.mailboxes.busy delivered.now }
         ensures turns { self.new.turns.items ≡ turns_received place self.old.turns.items delivered.now }
     {
         match delivered {
             Delivered::Began(_) => {
                 self.remove(letter.message);
-                self.waiting.open(letter.who);
+                self.mailboxes.open(letter.who);
                 self.turns.push_reserved(place);
             }
             Delivered::Dropped | Delivered::Voided => self.remove(letter.message),
@@ -80,55 +82,66 @@ impl Index {
 
     /// Takes a message out of flight.
     pub(crate) fn remove(&mut self, message: u32)
-        ensures letters { self.new.waiting.letters ≡ filter (is_other message) self.old.waiting.letters }
-        ensures busy { self.new.waiting.busy ≡ self.old.waiting.busy }
-        ensures turn_room { self.new.waiting.turn_room ≡ self.old.waiting.turn_room }
+        ensures nodes { self.new.mailboxes.nodes ≡ self.old.mailboxes.nodes }
+        ensures letters { self.new.mailboxes.letters ≡ filter (is_other message) self.old.mailboxes.letters }
+        ensures busy { self.new.mailboxes.busy ≡ self.old.mailboxes.busy }
+        ensures turn_room { self.new.mailboxes.turn_room ≡ self.old.mailboxes.turn_room }
         ensures turns { self.new.turns ≡ self.old.turns }
     {
-        let _letter = self.waiting.leave(message);
+        let _letter = self.mailboxes.leave(message);
     }
 
-    /// Puts the message that an effect sends in flight, if it sends one.
-    pub(crate) fn send(&mut self, message: u32, effect: &Effect)
-        requires last { AllBelow message self.old.waiting.letters }
-        requires room { IfSome (receiver_of effect.now) (λ u. 1 ≤ room self.old.waiting.rooms u) }
-        ensures letters { self.new.waiting.letters ≡ with_letter message self.old.waiting.letters (receiver_of effect.now) }
-        ensures busy { self.new.waiting.busy ≡ self.old.waiting.busy }
+    /// Puts the message that an effect sends in flight, if it sends one, where its receiver is at this node.
+    pub(crate) fn send(&mut self, message: u32, node: u32, effect: &Effect)
+        requires node { node < self.old.mailboxes.nodes }
+        requires last { AllBelow message self.old.mailboxes.letters }
+        requires room { IfSome (receiver_of effect.now) (λ u. 1 ≤ room self.old.mailboxes.rooms u) }
+        ensures nodes { self.new.mailboxes.nodes ≡ self.old.mailboxes.nodes }
+        ensures letters { self.new.mailboxes.letters ≡ with_letter message node self.old.mailboxes.letters (receiver_of effect.now) }
+        ensures busy { self.new.mailboxes.busy ≡ self.old.mailboxes.busy }
         ensures turns { self.new.turns.items ≡ self.old.turns.items }
     {
         if let Effect::Send(to, _) = effect {
-            self.waiting.arrive_spare(Letter { message, who: *to });
+            self.mailboxes.arrive_spare(Letter {
+                message,
+                who: *to,
+                node,
+            });
         }
     }
 
     /// Ends the turn of a transactor that began at a place, if one did.
     pub(crate) fn end(&mut self, who: u32, turn: Option<u32>)
-        ensures letters { self.new.waiting.letters ≡ self.old.waiting.letters }
-        ensures busy { self.new.waiting.busy ≡ busy_ended who self.old.waiting.busy turn }
+        ensures nodes { self.new.mailboxes.nodes ≡ self.old.mailboxes.nodes }
+        ensures letters { self.new.mailboxes.letters ≡ self.old.mailboxes.letters }
+        ensures busy { self.new.mailboxes.busy ≡ busy_ended who self.old.mailboxes.busy turn }
         ensures turns { self.new.turns.items ≡ turns_ended self.old.turns.items turn }
     {
         if let Some(place) = turn {
-            self.waiting.close(who);
+            self.mailboxes.close(who);
             self.turns.retain(|turn| *turn != place);
         }
     }
 
-    /// Takes in what came of an effect, where the next message has this number.
+    /// Takes in what came of an effect, where the next message has this number and its receiver this node.
     pub(crate) fn act(
         &mut self,
         message: u32,
+        node: u32,
         pending: &Pending<'_>,
         effect: &Effect,
         acted: &Acted<'_>,
     )
-        requires last { AllBelow message self.old.waiting.letters }
-        requires room { IfSome (receiver_of effect.now) (λ u. 1 ≤ room self.old.waiting.rooms u) }
-        ensures letters { self.new.waiting.letters ≡ letters_acted message self.old.waiting.letters effect.now acted.now }
-        ensures busy { self.new.waiting.busy ≡ busy_acted pending.now.who self.old.waiting.busy acted.now }
+        requires node { node < self.old.mailboxes.nodes }
+        requires last { AllBelow message self.old.mailboxes.letters }
+        requires room { IfSome (receiver_of effect.now) (λ u. 1 ≤ room self.old.mailboxes.rooms u) }
+        ensures nodes { self.new.mailboxes.nodes ≡ self.old.mailboxes.nodes }
+        ensures letters { self.new.mailboxes.letters ≡ letters_acted message node self.old.mailboxes.letters effect.now acted.now }
+        ensures busy { self.new.mailboxes.busy ≡ busy_acted pending.now.who self.old.mailboxes.busy acted.now }
         ensures turns { self.new.turns.items ≡ turns_acted pending.now.place self.old.turns.items acted.now }
     {
         match acted {
-            Acted::Reply(_) => self.send(message, effect),
+            Acted::Reply(_) => self.send(message, node, effect),
             Acted::TurnOver => self.end(pending.who(), Some(pending.turn())),
             Acted::Redo(_) => {}
         }

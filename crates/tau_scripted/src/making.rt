@@ -10,9 +10,9 @@ ghost use Rattle.tau_rules.specs.Answers.{IsDelivered};
 ghost use Rattle.tau_scripted.specs.Flight.{IsWaiting};
 
 use std::alloc::AllocError;
+use tau_mailbox::Letter;
 use tau_rules::{DeliverError, Delivered, FailError, LoseError, System};
 use tau_view::View;
-use tau_waiting::Letter;
 
 /// Lets a transactor that hasn't ended fail.
 pub(crate) fn make_fail<'p, V: View + Drop>(

@@ -1,24 +1,46 @@
 //! The posts of an opening.
-ghost use Rattle.std.specs.Prelude.{◌≡◌, [], OnOk};
+ghost use Rattle.std.specs.Prelude.{◌≡◌, ◌<◌, [], OnOk};
+ghost use Rattle.tau_trace.specs.Run.{len};
+ghost use Rattle.tau_trace.specs.Numbering.{sent, Receives, IsHome};
 ghost use Rattle.tau_scripted.specs.Flight.{AreInFlight};
 
 use std::alloc::AllocError;
+use tau_mailbox::{Letter, Mailboxes};
 use tau_trace::Trace;
-use tau_waiting::{Letter, Waiting};
 
 /// Puts the letters of the messages of a trace without steps in.
-pub(crate) fn post_all(waiting: &mut Waiting, trace: &Trace) -> Result<(), AllocError>
-    requires none { waiting.old.letters ≡ [] }
+pub(crate) fn post_all(mailboxes: &mut Mailboxes, trace: &Trace) -> Result<(), AllocError>
+    requires nodes { mailboxes.old.nodes ≡ trace.now.run.opening.nodes }
+    requires none { mailboxes.old.letters ≡ [] }
     requires first { trace.now.run.steps ≡ [] }
-    ensures letters { OnOk result (AreInFlight trace.now.run waiting.new.letters) }
-    ensures busy { waiting.new.busy ≡ waiting.old.busy }
+    ensures nodes { mailboxes.new.nodes ≡ mailboxes.old.nodes }
+    ensures letters { OnOk result (AreInFlight trace.now.run mailboxes.new.letters) }
+    ensures busy { mailboxes.new.busy ≡ mailboxes.old.busy }
 {
+    // The trace is well formed, so each transactor has one node.
+    let _len = trace.len();
     let count = trace.sent();
     for message in 0..count {
-        let Some(who) = trace.target(message) else {
-            unreachable!()
-        };
-        waiting.arrive(Letter { message, who })?;
+        mailboxes.arrive(letter_of(trace, message))?;
     }
     Ok(())
+}
+
+/// The letter of a message.
+fn letter_of(trace: &Trace, message: u32) -> Letter
+    requires { message < sent trace.now.run (len trace.now.run) }
+    ensures message { result.message ≡ message }
+    ensures receiver { Receives trace.now.run message result.who }
+    ensures home { IsHome trace.now.run result.who result.node }
+    ensures node { result.node < trace.now.run.opening.nodes }
+{
+    // The trace is well formed, so what a message names exists.
+    let _len = trace.len();
+    let Some(who) = trace.target(message) else {
+        unreachable!()
+    };
+    let Some(node) = trace.home(who) else {
+        unreachable!()
+    };
+    Letter { message, who, node }
 }

@@ -23,7 +23,7 @@ impl<'p, V: View + Drop> Scripted<'p, V> {
         ensures one { length self.new.turns ≤ length self.old.turns + 1 }
         ensures err { OnErr result (self.new ≡ self.old) }
     {
-        let Some(letter) = self.index.waiting.deliverable(number) else {
+        let Some(letter) = self.index.mailboxes.deliverable(number) else {
             unreachable!()
         };
         self.index.reserve_turn()?;

@@ -42,9 +42,9 @@ impl<'p, V: View + Drop> Model for Scripted<'p, V> {
 
     ghost coded = { Prim.hlevel (codes, val_code, code_code) };
 
-    ghost view = { λ s. record { system = s.system; cursor = s.cursor; letters = s.index.waiting.letters; messages = messages_of s.index.waiting.busy s.index.waiting.letters; turns = s.index.turns.items } };
+    ghost view = { λ s. record { system = s.system; cursor = s.cursor; letters = s.index.mailboxes.letters; messages = messages_of s.index.mailboxes.busy s.index.mailboxes.letters; turns = s.index.turns.items } };
 
-    ghost invariant = { λ s. IsScripted s.system.program s.system.run s.cursor s.index.waiting.letters s.index.waiting.busy s.index.turns.items };
+    ghost invariant = { λ s. IsScripted s.system.program s.system.run s.cursor s.index.mailboxes.nodes s.index.mailboxes.letters s.index.mailboxes.busy s.index.turns.items };
 }
 
 impl<'p, V: View + Drop> Scripted<'p, V> {
@@ -56,8 +56,9 @@ impl<'p, V: View + Drop> Scripted<'p, V> {
         ensures turns { IfOk result (λ s. s.turns ≡ []) }
     {
         let system = System::open(alloc, program)?;
-        let mut index = Index::new(alloc);
-        post_all(&mut index.waiting, system.trace())?;
+        let trace = system.trace();
+        let mut index = Index::new(alloc, trace.opening().nodes);
+        post_all(&mut index.mailboxes, trace)?;
         let mut cursor = Cursor::first();
         let _due = due_by(&system, &mut cursor);
         Ok(Scripted {
@@ -107,7 +108,7 @@ impl<'p, V: View + Drop> Scripted<'p, V> {
     pub fn deliverable(&self) -> usize
         ensures { result ≡ length self.now.messages }
     {
-        self.index.waiting.deliverable_len()
+        self.index.mailboxes.deliverable_len()
     }
 
     /// Whether the run is complete (docs/definitions.md, "Complete").
@@ -127,7 +128,7 @@ impl<'p, V: View + Drop> Scripted<'p, V> {
         if !self.index.has_no_turn() {
             return false;
         }
-        self.index.waiting.is_empty()
+        self.index.mailboxes.is_empty()
     }
 
     // The due step of the script.

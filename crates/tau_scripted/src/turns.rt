@@ -4,11 +4,13 @@ ghost use Rattle.tau_trace.specs.Run.{len};
 ghost use Rattle.tau_script.specs.Scripts.{NoneDue};
 ghost use Rattle.tau_rules.specs.Answers.{IsActed, IsUnacted};
 ghost use Rattle.tau_scripted.specs.ScriptedRun.{IsUnchangedAtRedo};
+ghost use Rattle.tau_scripted.specs.Inner.Index.{IsNodeOf};
 
 use crate::Scripted;
 use crate::cursors::due_by;
-use tau_eval::Pending;
+use tau_eval::{Effect, Pending};
 use tau_rules::{ActError, Acted};
+use tau_trace::Trace;
 use tau_view::View;
 
 impl<'p, V: View + Drop> Scripted<'p, V> {
@@ -26,9 +28,23 @@ impl<'p, V: View + Drop> Scripted<'p, V> {
         let effect = pending.effect();
         self.index.reserve_letter(effect)?;
         let message = self.system.trace().sent();
+        let node = node_of(self.system.trace(), effect);
         let acted = self.system.act(pending)?;
-        self.index.act(message, pending, effect, &acted);
+        self.index.act(message, node, pending, effect, &acted);
         let _due = due_by(&self.system, &mut self.cursor);
         Ok(acted)
+    }
+}
+
+/// The node of the receiver of the message that an effect sends; some node where there is no such receiver.
+fn node_of(trace: &Trace, effect: &Effect) -> u32
+    ensures node { IsNodeOf trace.now.run effect.now result }
+    ensures below { result < trace.now.run.opening.nodes }
+{
+    // The trace is well formed, so it has a node.
+    let _len = trace.len();
+    match effect {
+        Effect::Send(to, _) => trace.home(*to).unwrap_or(0),
+        _ => 0,
     }
 }

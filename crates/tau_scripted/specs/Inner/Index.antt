@@ -1,8 +1,10 @@
 -- What the index of messages and open turns becomes.
-use Rattle.std.specs.Prelude.{◌≡◌, ℕ, List, [], ◌∷◌, ◌++◌, Option, Some, None, filter}
-use Rattle.tau_waiting.specs.declared.letter.Letter.{Letter}
-use Rattle.tau_waiting.specs.Letters.{is_other}
-use Rattle.tau_waiting.specs.MailState.{is_not}
+use Rattle.std.specs.Prelude.{◌≡◌, ◌<◌, ℕ, List, [], ◌∷◌, ◌++◌, Option, Some, None, filter}
+use Rattle.tau_mailbox.specs.declared.letter.Letter.{Letter}
+use Rattle.tau_mailbox.specs.Letters.{is_other}
+use Rattle.tau_mailbox.specs.MailState.{is_not}
+use Rattle.tau_trace.specs.Run.{Run, len}
+use Rattle.tau_trace.specs.Numbering.{born, IsHome}
 use Rattle.tau_eval.specs.declared.effects.Effect.{Effect}
 use Rattle.tau_eval.specs.declared.effects.Effect.TheVariants.{Send}
 use Rattle.tau_rules.specs.declared.answers.Delivered.{Delivered}
@@ -11,10 +13,11 @@ use Rattle.tau_rules.specs.declared.answers.Acted.{Acted}
 use Rattle.tau_rules.specs.declared.answers.Acted.TheVariants.{Reply, TurnOver, Redo}
 use Rattle.tau_scripted.specs.declared.index.Index.{Index}
 
--- the same letters, receivers in a turn, and open turns
+-- the same nodes, letters, receivers in a turn, and open turns
 pub record IsSame (old new : Index) : Type 0 where
-  pub letters : new.waiting.letters ≡ old.waiting.letters
-  pub busy : new.waiting.busy ≡ old.waiting.busy
+  pub nodes : new.mailboxes.nodes ≡ old.mailboxes.nodes
+  pub letters : new.mailboxes.letters ≡ old.mailboxes.letters
+  pub busy : new.mailboxes.busy ≡ old.mailboxes.busy
   pub turns : new.turns.items ≡ old.turns.items
 
 -- the receiver of the message that an effect sends
@@ -22,10 +25,14 @@ abbrev pub receiver_of : Effect → Option ℕ
 receiver_of (Send to v) = Some to
 receiver_of e = None
 
--- the letters with one for this receiver
-abbrev pub with_letter : ℕ → List Letter → Option ℕ → List Letter
-with_letter m ls None = ls
-with_letter m ls (Some u) = ls ++ record { message = m; who = u } ∷ []
+-- n is the node of the receiver of the message that an effect sends, where there is such a transactor
+abbrev pub IsNodeOf : Run → Effect → ℕ → Type 0
+IsNodeOf T e n = (u : ℕ) → receiver_of e ≡ Some u → u < born T (len T) → IsHome T u n
+
+-- the letters with one for this receiver, at the node n
+abbrev pub with_letter : ℕ → ℕ → List Letter → Option ℕ → List Letter
+with_letter m n ls None = ls
+with_letter m n ls (Some u) = ls ++ record { message = m; who = u; node = n } ∷ []
 
 -- the letters, the receivers in a turn and the open turns after a receipt: each but a Fall takes the message out of flight, and a
 -- Take opens a turn
@@ -53,10 +60,10 @@ turns_ended turns None = turns
 turns_ended turns (Some place) = filter (is_not place) turns
 
 -- the letters, the receivers in a turn and the open turns after the step of an effect of t's turn from a place
-abbrev pub letters_acted : ℕ → List Letter → Effect → Acted → List Letter
-letters_acted m ls e (Reply r) = with_letter m ls (receiver_of e)
-letters_acted m ls e TurnOver = ls
-letters_acted m ls e (Redo job) = ls
+abbrev pub letters_acted : ℕ → ℕ → List Letter → Effect → Acted → List Letter
+letters_acted m n ls e (Reply r) = with_letter m n ls (receiver_of e)
+letters_acted m n ls e TurnOver = ls
+letters_acted m n ls e (Redo job) = ls
 
 abbrev pub busy_acted : ℕ → List ℕ → Acted → List ℕ
 busy_acted t busy (Reply r) = busy

@@ -4,6 +4,7 @@ use Rattle.tau_scripted.proofs.posts.post_all.Given as goal
 
 abbrev pub invariant-loop-message : goal.invariant-loop-message
 invariant-loop-message l = record {
-  posted : ArePosted l.trace.run l.message l.waiting.letters;
-  busy : l.waiting.busy ≡ l.initial.waiting.busy;
+  nodes : l.mailboxes.nodes ≡ l.initial.mailboxes.nodes;
+  posted : ArePosted l.trace.run l.message l.mailboxes.letters;
+  busy : l.mailboxes.busy ≡ l.initial.mailboxes.busy;
 }

@@ -1,6 +1,6 @@
 use Rattle.std.proofs.Common.{◌≤◌, arith, eqb, subst}
 use Rattle.std.specs.List.{list_any}
-use Rattle.tau_waiting.proofs.Lists.{length-filter-le}
+use Rattle.tau_mailbox.proofs.Lists.{length-filter-le}
 use Rattle.tau_eval.specs.Turn.{TurnSoFar}
 use Rattle.tau_book.specs.Hands.{Held}
 use Rattle.tau_book.proofs.hand.Hand.count_open.Goals as goal

@@ -1,6 +1,6 @@
 use Rattle.std.proofs.Common.{◌≡◌, length, ap, arith, eqb}
 use Rattle.std.specs.List.{list_any}
-use Rattle.tau_waiting.proofs.Lists.{length-filter-le}
+use Rattle.tau_mailbox.proofs.Lists.{length-filter-le}
 use Rattle.tau_eval.specs.Turn.{TurnSoFar}
 use Rattle.tau_book.specs.Offers.{open_jobs}
 use Rattle.tau_book.proofs.hand.Hand.keep_open.Goals as goal

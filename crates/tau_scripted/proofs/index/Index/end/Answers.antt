@@ -1,6 +1,6 @@
 use Rattle.std.proofs.Common.{◌∙◌, rules, sym, ap}
 use Rattle.std.proofs.lemmas.Fn.{filter_same}
-use Rattle.tau_waiting.specs.MailState.{is_not}
+use Rattle.tau_mailbox.specs.MailState.{is_not}
 use Rattle.tau_scripted.specs.Inner.Index.{turns_ended}
 use Rattle.tau_scripted.proofs.index.Index.end.Goals as goal
 

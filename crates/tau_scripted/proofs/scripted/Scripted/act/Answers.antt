@@ -1,6 +1,6 @@
-use Rattle.std.proofs.Common.{◌≡◌, ◌∙◌, ◌≤◌, ℕ, List, length, sym, ap, subst}
-use Rattle.tau_waiting.specs.declared.letter.Letter.{Letter}
-use Rattle.tau_waiting.specs.Letters.{AllBelow}
+use Rattle.std.proofs.Common.{◌≡◌, ◌∙◌, ◌<◌, ◌≤◌, ℕ, List, length, sym, ap, subst}
+use Rattle.tau_mailbox.specs.declared.letter.Letter.{Letter}
+use Rattle.tau_mailbox.specs.Letters.{AllBelow}
 use Rattle.tau_trace.specs.Run.{Run, len}
 use Rattle.tau_trace.specs.Numbering.{sent}
 use Rattle.tau_script.specs.Scripts.{NoneDue}
@@ -8,7 +8,7 @@ use Rattle.tau_eval.specs.Turn as jobs
 use Rattle.tau_rules.specs.System.{Core}
 use Rattle.tau_rules.specs.Answers.{IsActed}
 use Rattle.tau_scripted.specs.ScriptedRun.{ScriptedRun, IsUnchangedAtRedo, messages_of}
-use Rattle.tau_scripted.specs.Inner.Index.{letters_acted, busy_acted, turns_acted}
+use Rattle.tau_scripted.specs.Inner.Index.{IsNodeOf, letters_acted, busy_acted, turns_acted}
 use Rattle.tau_scripted.proofs.FlightLemmas.{letters_below}
 use Rattle.tau_scripted.proofs.Steps.{after_act, redo_same, of_lists}
 use Rattle.tau_scripted.proofs.TurnCounts.{fewer_acted}
@@ -18,8 +18,14 @@ pub act-requires-2-clause-last : goal.act-requires-2-clause-last
 act-requires-2-clause-last g c =
     let s = c.self.inside in
     let message : c.sent-message.result ≡ sent s.system.run (len s.system.run) = c.sent-message.ensures ∙ ap (λ (T : Run). sent T (len T)) c.trace.ensures.run in
-    subst (λ (n : ℕ). AllBelow n c.reserve_letter.new.self.waiting.letters) (sym message)
-    (subst (λ (ls : List Letter). AllBelow (sent s.system.run (len s.system.run)) ls) (sym c.in_ok-reserve_letter.ensures.same.letters) (letters_below s.system.run s.index.waiting.letters c.self.invariant.letters_are))
+    subst (λ (n : ℕ). AllBelow n c.reserve_letter.new.self.mailboxes.letters) (sym message)
+    (subst (λ (ls : List Letter). AllBelow (sent s.system.run (len s.system.run)) ls) (sym c.in_ok-reserve_letter.ensures.same.letters) (letters_below s.system.run s.index.mailboxes.letters c.self.invariant.letters_are))
+
+pub act-requires-2-clause-node : goal.act-requires-2-clause-node
+act-requires-2-clause-node g c =
+    let s = c.self.inside in
+    let below : c.node_of-node.result < s.system.run.opening.nodes = subst (λ (T : Run). c.node_of-node.result < T.opening.nodes) c.trace-2.ensures.run c.node_of-node.ensures.below in
+    subst (λ (n : ℕ). c.node_of-node.result < n) (sym (c.in_ok-reserve_letter.ensures.same.nodes ∙ c.self.invariant.nodes_are)) below
 
 pub invariant_of-self-2 : goal.invariant_of-self-2
 invariant_of-self-2 g c =
@@ -31,13 +37,14 @@ invariant_of-self-2 g c =
     let acted = c.in_ok-acted.acted in
     let none : NoneDue old.program.script old.run (len old.run) = subst (λ (r : ScriptedRun). NoneDue r.system.program.script r.system.run (len r.system.run)) (sym c.self.view_is) c.requires.none_due in
     let message : c.sent-message.result ≡ sent old.run (len old.run) = c.sent-message.ensures ∙ ap (λ (T : Run). sent T (len T)) c.trace.ensures.run in
-    of_lists new.program new.run c.due_by-due.new.cursor (letters_acted (sent old.run (len old.run)) s.index.waiting.letters effect acted) c.act-2.new.self.waiting.letters (busy_acted job.who s.index.waiting.busy acted) c.act-2.new.self.waiting.busy
+    of_lists new.program new.run c.due_by-due.new.cursor s.index.mailboxes.nodes c.act-2.new.self.mailboxes.nodes (letters_acted (sent old.run (len old.run)) c.node_of-node.result s.index.mailboxes.letters effect acted) c.act-2.new.self.mailboxes.letters (busy_acted job.who s.index.mailboxes.busy acted) c.act-2.new.self.mailboxes.busy
     (turns_acted job.place s.index.turns.items acted) c.act-2.new.self.turns.items
-    (c.act-2.ensures.letters ∙ (λ i. letters_acted (message i) (c.in_ok-reserve_letter.ensures.same.letters i) effect acted))
+    (c.act-2.ensures.nodes ∙ c.in_ok-reserve_letter.ensures.same.nodes)
+    (c.act-2.ensures.letters ∙ (λ i. letters_acted (message i) c.node_of-node.result (c.in_ok-reserve_letter.ensures.same.letters i) effect acted))
     (c.act-2.ensures.busy ∙ ap (λ (bs : List ℕ). busy_acted job.who bs acted) c.in_ok-reserve_letter.ensures.same.busy)
     (c.act-2.ensures.turns ∙ ap (λ (ts : List ℕ). turns_acted job.place ts acted) c.in_ok-reserve_letter.ensures.same.turns)
-    (after_act old new s.cursor c.due_by-due.new.cursor s.index.waiting.letters s.index.waiting.busy s.index.turns.items c.self.invariant c.due_by-due.ensures.well_formed c.due_by-due.ensures.fitting
-    job effect none c.effect-effect.ensures c.due_by-due.ensures.current acted c.in_ok-acted.ensures.ok)
+    (after_act old new s.cursor c.due_by-due.new.cursor s.index.mailboxes.nodes s.index.mailboxes.letters s.index.mailboxes.busy s.index.turns.items c.self.invariant c.due_by-due.ensures.well_formed c.due_by-due.ensures.fitting
+    job effect none c.effect-effect.ensures c.node_of-node.result (subst (λ (T : Run). IsNodeOf T effect c.node_of-node.result) c.trace-2.ensures.run c.node_of-node.ensures.node) c.due_by-due.ensures.current acted c.in_ok-acted.ensures.ok)
 
 pub returns-clause-ok : goal.returns-clause-ok
 returns-clause-ok g c = subst (λ (r : ScriptedRun). IsActed r.system c.act.new.self c.args.pending.now c.in_ok-acted.acted) c.self.view_is c.in_ok-acted.ensures.ok
@@ -48,10 +55,10 @@ returns-clause-redone g c =
     let job : jobs.TurnSoFar = c.args.pending.now in
     let effect = c.effect-effect.result.now in
     let acted = c.in_ok-acted.acted in
-    subst (λ (r : ScriptedRun). IsUnchangedAtRedo r (record { system = c.act.new.self; cursor = c.due_by-due.new.cursor; letters = c.act-2.new.self.waiting.letters; messages = messages_of c.act-2.new.self.waiting.busy c.act-2.new.self.waiting.letters; turns = c.act-2.new.self.turns.items }) acted) c.self.view_is
-    (redo_same s.system c.act.new.self s.cursor c.due_by-due.new.cursor s.index.waiting.letters c.act-2.new.self.waiting.letters s.index.waiting.busy c.act-2.new.self.waiting.busy s.index.turns.items c.act-2.new.self.turns.items c.sent-message.result
+    subst (λ (r : ScriptedRun). IsUnchangedAtRedo r (record { system = c.act.new.self; cursor = c.due_by-due.new.cursor; letters = c.act-2.new.self.mailboxes.letters; messages = messages_of c.act-2.new.self.mailboxes.busy c.act-2.new.self.mailboxes.letters; turns = c.act-2.new.self.turns.items }) acted) c.self.view_is
+    (redo_same s.system c.act.new.self s.cursor c.due_by-due.new.cursor s.index.mailboxes.nodes s.index.mailboxes.letters c.act-2.new.self.mailboxes.letters s.index.mailboxes.busy c.act-2.new.self.mailboxes.busy s.index.turns.items c.act-2.new.self.turns.items c.sent-message.result c.node_of-node.result
     job effect acted c.self.invariant c.due_by-due.ensures.passes c.in_ok-acted.ensures.ok
-    (c.act-2.ensures.letters ∙ ap (λ (ls : List Letter). letters_acted c.sent-message.result ls effect acted) c.in_ok-reserve_letter.ensures.same.letters)
+    (c.act-2.ensures.letters ∙ ap (λ (ls : List Letter). letters_acted c.sent-message.result c.node_of-node.result ls effect acted) c.in_ok-reserve_letter.ensures.same.letters)
     (c.act-2.ensures.busy ∙ ap (λ (bs : List ℕ). busy_acted job.who bs acted) c.in_ok-reserve_letter.ensures.same.busy)
     (c.act-2.ensures.turns ∙ ap (λ (ts : List ℕ). turns_acted job.place ts acted) c.in_ok-reserve_letter.ensures.same.turns))
 

@@ -1,7 +1,7 @@
 use Rattle.std.proofs.Common.{◌≡◌, ◌∙◌, ◌+◌, ◌≤◌, ℕ, Some, List, length, take, sym, ap, subst}
 use Rattle.std.specs.Prelude.{slice_get}
-use Rattle.tau_waiting.specs.declared.letter.Letter.{Letter}
-use Rattle.tau_waiting.specs.MailState.{is_busy}
+use Rattle.tau_mailbox.specs.declared.letter.Letter.{Letter}
+use Rattle.tau_mailbox.specs.MailState.{is_busy}
 use Rattle.tau_trace.specs.Run.{len}
 use Rattle.tau_script.specs.Scripts.{NoneDue}
 use Rattle.tau_rules.specs.System.{Core}
@@ -16,19 +16,19 @@ use Rattle.tau_scripted.proofs.scripted.Scripted.deliver.Goals as goal
 pub make_receipt-requires-clause-waits : goal.make_receipt-requires-clause-waits
 make_receipt-requires-clause-waits g c =
     let s = c.self.inside in
-    letter_waits s.system.run s.index.waiting.letters s.index.waiting.busy c.self.invariant.letters_are c.self.invariant.busy_are c.args.number c.in-Some.letter (sym c.deliverable.ensures ∙ c.in-Some.is)
+    letter_waits s.system.run s.index.mailboxes.letters s.index.mailboxes.busy c.self.invariant.letters_are c.self.invariant.busy_are c.args.number c.in-Some.letter (sym c.deliverable.ensures ∙ c.in-Some.is)
 
 pub make_receipt-requires-clause-idle : goal.make_receipt-requires-clause-idle
 make_receipt-requires-clause-idle g c =
     let s = c.self.inside in
-    receiver_idle s.system.run s.index.waiting.letters s.index.waiting.busy c.self.invariant.letters_are c.self.invariant.busy_are c.args.number c.in-Some.letter (sym c.deliverable.ensures ∙ c.in-Some.is)
+    receiver_idle s.system.run s.index.mailboxes.letters s.index.mailboxes.busy c.self.invariant.letters_are c.self.invariant.busy_are c.args.number c.in-Some.letter (sym c.deliverable.ensures ∙ c.in-Some.is)
 
 pub receive-requires-clause-idle : goal.receive-requires-clause-idle
 receive-requires-clause-idle g c =
     let s = c.self.inside in
     ap (λ (busy : List ℕ). is_busy busy c.in-Some.letter.who) c.in_ok-reserve_turn.ensures.same.busy
-    ∙ not_busy s.index.waiting.busy c.in-Some.letter.who
-    (receiver_free s.system.run s.index.waiting.letters s.index.waiting.busy c.self.invariant.letters_are c.self.invariant.busy_are c.args.number c.in-Some.letter (sym c.deliverable.ensures ∙ c.in-Some.is))
+    ∙ not_busy s.index.mailboxes.busy c.in-Some.letter.who
+    (receiver_free s.system.run s.index.mailboxes.letters s.index.mailboxes.busy c.self.invariant.letters_are c.self.invariant.busy_are c.args.number c.in-Some.letter (sym c.deliverable.ensures ∙ c.in-Some.is))
 
 pub invariant_of-self-2 : goal.invariant_of-self-2
 invariant_of-self-2 g c =
@@ -40,14 +40,15 @@ invariant_of-self-2 g c =
     let none : NoneDue old.program.script old.run (len old.run) = subst (λ (r : ScriptedRun). NoneDue r.system.program.script r.system.run (len r.system.run)) (sym c.self.view_is) c.requires.none_due in
     let place : c.len-place.result ≡ len old.run = c.len-place.ensures.len ∙ ap len c.trace.ensures.run in
     let delivered = c.in_ok-delivered.delivered in
-    of_lists new.program new.run c.due_by-due.new.cursor (letters_received l.message s.index.waiting.letters delivered) c.receive.new.self.waiting.letters (busy_received l.who s.index.waiting.busy delivered) c.receive.new.self.waiting.busy
+    of_lists new.program new.run c.due_by-due.new.cursor s.index.mailboxes.nodes c.receive.new.self.mailboxes.nodes (letters_received l.message s.index.mailboxes.letters delivered) c.receive.new.self.mailboxes.letters (busy_received l.who s.index.mailboxes.busy delivered) c.receive.new.self.mailboxes.busy
     (turns_received (len old.run) s.index.turns.items delivered) c.receive.new.self.turns.items
+    (c.receive.ensures.nodes ∙ c.in_ok-reserve_turn.ensures.same.nodes)
     (c.receive.ensures.letters ∙ ap (λ (ls : List Letter). letters_received l.message ls delivered) c.in_ok-reserve_turn.ensures.same.letters)
     (c.receive.ensures.busy ∙ ap (λ (bs : List ℕ). busy_received l.who bs delivered) c.in_ok-reserve_turn.ensures.same.busy)
     (c.receive.ensures.turns ∙ (λ i. turns_received (place i) (c.in_ok-reserve_turn.ensures.same.turns i) delivered))
-    (after_receipt old new s.cursor c.due_by-due.new.cursor s.index.waiting.letters s.index.waiting.busy s.index.turns.items c.self.invariant c.due_by-due.ensures.well_formed c.due_by-due.ensures.fitting
-    l (letter_waits s.system.run s.index.waiting.letters s.index.waiting.busy c.self.invariant.letters_are c.self.invariant.busy_are c.args.number l at)
-    (receiver_idle s.system.run s.index.waiting.letters s.index.waiting.busy c.self.invariant.letters_are c.self.invariant.busy_are c.args.number l at)
+    (after_receipt old new s.cursor c.due_by-due.new.cursor s.index.mailboxes.nodes s.index.mailboxes.letters s.index.mailboxes.busy s.index.turns.items c.self.invariant c.due_by-due.ensures.well_formed c.due_by-due.ensures.fitting
+    l (letter_waits s.system.run s.index.mailboxes.letters s.index.mailboxes.busy c.self.invariant.letters_are c.self.invariant.busy_are c.args.number l at)
+    (receiver_idle s.system.run s.index.mailboxes.letters s.index.mailboxes.busy c.self.invariant.letters_are c.self.invariant.busy_are c.args.number l at)
     none c.due_by-due.ensures.current delivered c.in_ok-delivered.ensures.ok)
 
 pub returns-clause-ok : goal.returns-clause-ok
@@ -56,7 +57,7 @@ returns-clause-ok g c m e =
     let l : Letter = c.in-Some.letter in
     let at = sym c.deliverable.ensures ∙ c.in-Some.is in
     let here = subst (λ (r : ScriptedRun). slice_get r.messages c.args.number ≡ Some m) (sym c.self.view_is) e in
-    let same : l.message ≡ m = message_is s.system.run s.index.waiting.letters s.index.waiting.busy c.self.invariant.letters_are c.self.invariant.busy_are c.args.number l at m here in
+    let same : l.message ≡ m = message_is s.system.run s.index.mailboxes.letters s.index.mailboxes.busy c.self.invariant.letters_are c.self.invariant.busy_are c.args.number l at m here in
     subst (λ (r : ScriptedRun). IsDelivered r.system c.make_receipt.new.system m c.in_ok-delivered.delivered) c.self.view_is
     (subst (λ (n : ℕ). IsDelivered s.system c.make_receipt.new.system n c.in_ok-delivered.delivered) same c.in_ok-delivered.ensures.ok)
 

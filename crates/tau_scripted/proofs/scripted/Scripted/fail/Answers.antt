@@ -17,9 +17,9 @@ invariant_of-self-2 g c =
     let new : Core = c.make_fail.new.system in
     let asked : HasAsked old.program old.run s.cursor (Some (Fail c.args.who)) = subst (λ (r : ScriptedRun). HasAsked r.system.program r.system.run r.cursor (Some (Fail c.args.who))) (sym c.self.view_is) c.requires.asked in
     let turn : IsOpenTurn old.run c.args.who (len old.run) c.open_turn-turn.result = subst (λ (T : Run). IsOpenTurn T c.args.who (len T) c.open_turn-turn.result) c.trace.ensures.run c.open_turn-turn.ensures in
-    of_lists new.program new.run c.move_past.new.cursor s.index.waiting.letters c.end.new.self.waiting.letters (busy_ended c.args.who s.index.waiting.busy c.open_turn-turn.result) c.end.new.self.waiting.busy
-    (turns_ended s.index.turns.items c.open_turn-turn.result) c.end.new.self.turns.items c.end.ensures.letters c.end.ensures.busy c.end.ensures.turns
-    (after_fail old new s.cursor c.move_past.new.cursor s.index.waiting.letters s.index.waiting.busy s.index.turns.items c.self.invariant c.move_past.ensures.well_formed c.move_past.ensures.fitting
+    of_lists new.program new.run c.move_past.new.cursor s.index.mailboxes.nodes c.end.new.self.mailboxes.nodes s.index.mailboxes.letters c.end.new.self.mailboxes.letters (busy_ended c.args.who s.index.mailboxes.busy c.open_turn-turn.result) c.end.new.self.mailboxes.busy
+    (turns_ended s.index.turns.items c.open_turn-turn.result) c.end.new.self.turns.items c.end.ensures.nodes c.end.ensures.letters c.end.ensures.busy c.end.ensures.turns
+    (after_fail old new s.cursor c.move_past.new.cursor s.index.mailboxes.nodes s.index.mailboxes.letters s.index.mailboxes.busy s.index.turns.items c.self.invariant c.move_past.ensures.well_formed c.move_past.ensures.fitting
     c.args.who c.open_turn-turn.result asked c.in_ok-make_fail.ensures.ok c.move_past.ensures.current turn)
 
 pub returns-clause-turns : goal.returns-clause-turns

@@ -18,6 +18,6 @@ pub returns : goal.returns
 returns g c =
     let s = c.self.inside in (
       λ h. subst (λ (r : ScriptedRun). NothingLeft r.system.run) c.self.view_is
-          (nothing_left s.system.run s.index.waiting.letters s.index.turns.items c.self.invariant.letters_are c.self.invariant.turns_are (c.has_no_turn.ensures.0 c.if-not-has_no_turn.false) (c.is_empty.ensures.0 h)),
-      λ left. c.is_empty.ensures.1 (no_letters_left s.system.run s.index.waiting.letters c.self.invariant.letters_are (subst (λ (r : ScriptedRun). NothingLeft r.system.run) (sym c.self.view_is) left)),
+          (nothing_left s.system.run s.index.mailboxes.letters s.index.turns.items c.self.invariant.well_formed c.self.invariant.letters_are c.self.invariant.turns_are (c.has_no_turn.ensures.0 c.if-not-has_no_turn.false) (c.is_empty.ensures.0 h)),
+      λ left. c.is_empty.ensures.1 (no_letters_left s.system.run s.index.mailboxes.letters c.self.invariant.letters_are (subst (λ (r : ScriptedRun). NothingLeft r.system.run) (sym c.self.view_is) left)),
     )

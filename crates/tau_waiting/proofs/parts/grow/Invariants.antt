@@ -1,6 +1,0 @@
-use Rattle.std.proofs.Common.{◌≤◌, vec_len}
-use Rattle.tau_waiting.specs.Parts.{Widens}
-use Rattle.tau_waiting.proofs.parts.grow.Given as goal
-
-abbrev pub invariant-loop-place : goal.invariant-loop-place
-invariant-loop-place l = (l._place ≤ vec_len l.parts) × Widens l.fn.parts.items l.parts.items

@@ -1,5 +1,0 @@
-pub mod Consistent
-pub mod Letters
-pub mod MailState
-pub mod Order
-pub mod Parts
