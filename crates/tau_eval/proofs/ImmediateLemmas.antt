@@ -1,18 +1,18 @@
 -- Expressions whose evaluation needs no frame: what they come to.
-use Rattle.std.proofs.Common.{◌≡◌, ℕ, ◌+◌, ◌<◌, ◌≤◌, true, false, Bool, cond, List, drop, slice_get, Ok, Option, Some, None, IfSome, refl, sym, ap, ◌∙◌, subst, arith}
+use Rattle.std.proofs.Common.{◌≡◌, ℕ, ◌+◌, ◌<◌, ◌≤◌, Bool, cond, List, drop, slice_get, Option, Some, None, IfSome, sym, ap, ◌∙◌, subst, arith}
 use Rattle.std.proofs.lemmas.Bool.{lt-ltb}
-use Rattle.tau_value.specs.Val.{Val, truth, inside}
-use Rattle.tau_tree.specs.Code.{Code, apply, if_else, none, more}
+use Rattle.tau_value.specs.Val.{Val, inside}
+use Rattle.tau_tree.specs.Code.{Code, apply, none, more}
 use Rattle.tau_tree.specs.declared.expressions.Operation.{Operation}
 use Rattle.tau_eval.specs.Operations.{Answer, of_two}
 use Rattle.tau_eval.specs.Eff as eff
 use Rattle.tau_eval.specs.Outcome.{Outcome, After, stops, and_then, begun, gives, finished}
-use Rattle.tau_eval.specs.Meaning.{Setting, Scope, meaning, chooses, for_each}
+use Rattle.tau_eval.specs.Meaning.{Setting, Scope, meaning, for_each}
 use Rattle.tau_tree.specs.Expr.{code_of}
 use Rattle.tau_eval.specs.Frames.{round_of, scope_in}
 use Rattle.tau_eval.specs.declared.frames.Round.{Round}
 use Rattle.tau_eval.proofs.MachineLemmas.{dropped_at}
-use Rattle.tau_eval.specs.Immediates.{Reads, Finishes, GoesTo, FinishesWith, Gives}
+use Rattle.tau_eval.specs.Immediates.{Reads, Finishes, FinishesWith, Gives}
 
 pub begun-within : (n : ℕ) (f : ℕ → Outcome) → n < 100000 → begun n f ≡ f (n + 1)
 begun-within n f lt = ap (λ (b : Bool). cond b (f (n + 1)) (stops (eff.trap 6))) (lt-ltb n 100000 lt)
@@ -36,37 +36,10 @@ finishes_two p c d s env v w a one two is = λ n rs within.
     let other : Val → After = λ u k ss. and_then (meaning d s env k ss) (λ x. finished (of_two p u x)) in
     begun-within n (λ m. and_then (meaning c s env m rs) other) first ∙ read_on c s env v other (n + 1) rs one second ∙ read_on d s env w (λ x. finished (of_two p v x)) (n + 1 + 1) rs two third ∙ ap (λ (b : Answer). finished b (n + 1 + 1 + 1) rs) (sym is) ∙ ap (λ (k : ℕ). finished a k rs) all
 
--- an operation whose parts have values, after so many evaluations
-pub gives_two : (p : Operation) (c d : Code) (s : Setting) (env : Scope) (v w u : Val) (j k spent : ℕ) → Gives c s env j v → Gives d s env k w → of_two p v w ≡ Ok u → spent ≡ j + k + 1 → Gives (apply p (more c (more d none))) s env spent u
-gives_two p c d s env v w u j k spent one two is all = λ n rs within.
-    let first : n < 100000 = omega arith in
-    let second : n + 1 + j ≤ 100000 = omega arith in
-    let third : n + 1 + j + k ≤ 100000 = omega arith in
-    let count : n + 1 + j + k ≡ n + spent = omega arith in
-    let other : Val → After = λ x m ss. and_then (meaning d s env m ss) (λ y. finished (of_two p x y)) in
-    begun-within n (λ m. and_then (meaning c s env m rs) other) first ∙ ap (λ (o : Outcome). and_then o other) (one (n + 1) rs second) ∙ ap (λ (o : Outcome). and_then o (λ y. finished (of_two p v y))) (two (n + 1 + j) rs third) ∙ ap (λ (b : Answer). finished b (n + 1 + j + k) rs) is ∙ ap (λ (m : ℕ). gives u m rs) count
-
-pub gives_one : (c : Code) (s : Setting) (env : Scope) (v : Val) → Reads c s env v → Gives c s env 1 v
-gives_one c s env v reads = λ n rs within.
-    let lt : n < 100000 = omega arith in
-    reads n rs ∙ begun-within n (λ m. gives v m rs) lt
-
 -- a round of a fold whose value is at hand
 pub round_given : (list : List Val) (k : ℕ) (a b v : Val) (r : Round) (s : Setting) (env : Scope) (n spent : ℕ) (rs : List Val) → slice_get list k ≡ Some b → Gives (code_of r.body.now) s (scope_in r env a b) spent v → n + spent ≤ 100000 → for_each (inside (drop k list)) a (round_of r s env) n rs ≡ for_each (inside (drop (k + 1) list)) v (round_of r s env) (n + spent) rs
 round_given list k a b v r s env n spent rs item given within =
     ap (λ (vs : List Val). for_each (inside vs) a (round_of r s env) n rs) (dropped_at list k b item) ∙ ap (λ (o : Outcome). and_then o (λ w m ss. for_each (inside (drop (k + 1) list)) w (round_of r s env) m ss)) (given n rs within)
-
--- an if whose test comes to a truth goes to a branch
-pub goes_to : (c y z : Code) (s : Setting) (env : Scope) (b : Bool) (d : Code) → Finishes c s env 3 (Ok (truth b)) → d ≡ cond b y z → GoesTo (if_else c y z) s env 4 d
-goes_to c y z s env b d test is = λ n rs within.
-    let first : n < 100000 = omega arith in
-    let rest : n + 1 + 3 ≤ 100000 = omega arith in
-    let all : n + 1 + 3 ≡ n + 4 = omega arith in
-    let choice : Val → After = λ v. chooses v (meaning y s env) (meaning z s env) in
-    begun-within n (λ m. and_then (meaning c s env m rs) choice) first ∙ ap (λ (o : Outcome). and_then o choice) (test (n + 1) rs rest) ∙ taken b (n + 1 + 3) rs ∙ ap (λ (e : Code). meaning e s env (n + 1 + 3) rs) (sym is) ∙ ap (λ (k : ℕ). meaning d s env k rs) all where
-      taken : (t : Bool) (m : ℕ) (ss : List Val) → chooses (truth t) (meaning y s env) (meaning z s env) m ss ≡ meaning (cond t y z) s env m ss
-      taken true m ss = refl
-      taken false m ss = refl
 
 -- a clause on the value of an option, where it is known which one it is, and where another one follows from it
 pub took : {A : Type 0} (o : Option A) (a : A) (P : A → Type 0) → o ≡ Some a → IfSome o P → P a

@@ -1,6 +1,7 @@
 -- The test of equality is true exactly of equal values.
-use Rattle.std.proofs.Common.{◌≡◌, ◌↔◌, ℕ, ℤ, pos, negsuc, Bool, true, false, eqb, ◌&&◌, IsTrue, refl, ap, ◌∙◌, sym, eq-eqb, eqb-true}
+use Rattle.std.proofs.Common.{◌≡◌, ◌↔◌, ℤ, pos, negsuc, Bool, true, false, ◌&&◌, IsTrue, refl, ap, ◌∙◌, sym, eq-eqb, eqb-true}
 use Rattle.std.proofs.lemmas.Slice.Eq.{bytes_eq-Decides}
+use Rattle.std.proofs.lemmas.Bool.{and_parts}
 use Rattle.tau_value.specs.Val.{Val, Vals, unit, truth, int, text, name, list, none, more}
 use Rattle.tau_eval.specs.Same.{same_truths, same_integers, same_values, same_items}
 
@@ -24,14 +25,6 @@ same_integers-true : (x y : ℤ) → same_integers x y ≡ true → x ≡ y
 same_integers-true (pos m) (pos n) e = ap pos (eqb-true m n e)
 same_integers-true (negsuc m) (negsuc n) e = ap negsuc (eqb-true m n e)
 same_integers-true x y e = cc
-
-first_true : (a b : Bool) → (a && b) ≡ true → a ≡ true
-first_true true b e = refl
-first_true false b e = e
-
-second_true : (a b : Bool) → (a && b) ≡ true → b ≡ true
-second_true true b e = e
-second_true false b e = cc
 
 mutual
   same_values-refl : (v : Val) → same_values v v ≡ true
@@ -59,7 +52,7 @@ mutual
   same_items-true : (us vs : Vals) → same_items us vs ≡ true → us ≡ vs
   same_items-true none none e = refl
   same_items-true (more u us) (more v vs) e =
-      λ i. more (same_values-true u v (first_true _ _ e) i) (same_items-true us vs (second_true _ _ e) i)
+      let parts = and_parts _ _ e in λ i. more (same_values-true u v parts.0 i) (same_items-true us vs parts.1 i)
   same_items-true us vs e = cc
 
 -- a truth that says whether two values are equal is the test

@@ -1,23 +1,13 @@
 -- What forms at the top define, by their first word and their other items.
-use Rattle.std.proofs.Common.{◌≡◌, ◌≢◌, ℕ, ◌+◌, ◌<◌, ◌≤◌, ◌^◌, Bool, true, false, cond, min, List, [], ◌∷◌, ◌++◌, length, take, map, filter_map, Option, Some, None, option_map, unwrap_or, Result, Ok, Err, refl, sym, ap, ap₂, subst, ◌∙◌, arith}
+use Rattle.std.proofs.Common.{◌≡◌, ℕ, ◌+◌, Bool, true, false, cond, List, [], ◌∷◌, ◌++◌, map, filter_map, Option, Some, None, refl, sym, ap, ap₂, subst, ◌∙◌}
 use Rattle.std.specs.List.{cons_option}
 use Rattle.std.specs.Option.{option_to_list}
 use Rattle.std.proofs.lemmas.List.Elements.{filter_map-append}
-use Rattle.std.proofs.lemmas.List.{map-append}
-use Rattle.tau_sexpr.specs.Form.{tree_of}
 use Rattle.tau_sexpr.specs.Tree.{Tree, Trees, word, text, list, none, more}
-use Rattle.tau_sexpr.specs.declared.trees.Form.{Form}
-use Rattle.tau_sexpr.specs.declared.trees.Form.TheVariants as trees
-use Rattle.tau_value.specs.Numbers.{count_in, capped}
-use Rattle.tau_forms.specs.Inner.Build.{HasParts}
-use Rattle.tau_forms.specs.Inner.Building.{behaviour_items, start_items, post_items, entry_items, failure_entry, behaviour_told, start_told, post_told, entry_told, IsTopForm, TellsBehaviour, TellsStart, TellsPost, TellsEntry, TellsFailure, HasBuilt}
-use Rattle.tau_forms.specs.Keywords.{sort_in, failure_in}
-use Rattle.tau_forms.specs.Meaning.{PlainProgram, program_in, plain_start, plain_post, count_of, behaviour_in, start_in, post_in, entry_in, entry_of, failure_of}
-use Rattle.tau_forms.specs.Inner.Passing.{is_headed}
-use Rattle.tau_forms.specs.Roles as roles
+use Rattle.tau_forms.specs.Inner.Building.{behaviour_items, start_items, post_items, entry_items, behaviour_told, start_told, post_told, entry_told, IsTopForm, TellsBehaviour, TellsStart, TellsPost, TellsEntry, HasBuilt}
+use Rattle.tau_forms.specs.Keywords.{sort_in}
+use Rattle.tau_forms.specs.Meaning.{PlainProgram, program_in, plain_start, plain_post, behaviour_in, start_in, post_in, entry_in}
 use Rattle.tau_forms.specs.Tops.{is_behaviour, is_start, is_post, is_entry, tables_of}
-use Rattle.tau_forms.specs.declared.build.Parts.{Parts}
-use Rattle.tau_forms.specs.declared.build.Parts.TheVariants as parts
 use Rattle.tau_forms.specs.declared.keywords.Sort.{Sort}
 use Rattle.tau_forms.specs.declared.keywords.Sort.TheVariants as sorts
 use Rattle.tau_forms.specs.declared.programs.Draft.{Draft}
@@ -79,91 +69,6 @@ top_start tb t ts us h f whole e d k = top_of_items tb t ts us h sorts.Start f w
 pub top_post : (tb : Tables) (t : Tree) (ts us : Trees) (h : List ℕ) (f : TopForm) → t ≡ list ts → ts ≡ more (word h) us → sorts.Post ≡ sort_in h → TellsPost tb us f → IsTopForm tb t f
 top_post tb t ts us h f whole e d k = top_of_items tb t ts us h sorts.Post f whole e d (sym k.no_behaviour) (sym k.no_start) k.post (sym k.no_entry)
 
-pub top_entry : (tb : Tables) (t : Tree) (ts us : Trees) (h : List ℕ) (f : TopForm) → t ≡ list ts → ts ≡ more (word h) us → sorts.At ≡ sort_in h → TellsEntry us f → IsTopForm tb t f
-top_entry tb t ts us h f whole e d k = top_of_items tb t ts us h sorts.At f whole e d (sym (k.no_behaviour tb)) (sym (k.no_start tb)) (sym (k.no_post tb)) k.entry
-
-pub top_nothing : (tb : Tables) (t : Tree) (ts us : Trees) (h : List ℕ) (s : Sort) → t ≡ list ts → ts ≡ more (word h) us → s ≡ sort_in h → is_behaviour s ≡ false → is_start s ≡ false → is_post s ≡ false → is_entry s ≡ false → IsTopForm tb t forms.Other
-top_nothing tb t ts us h s whole e d a b c g = top_of_items tb t ts us h s forms.Other whole e d (ap (λ q. cond q (behaviour_items tb us) None) a) (ap (λ q. cond q (start_items tb us) None) b) (ap (λ q. cond q (post_items tb us) None) c) (ap (λ q. cond q (entry_items us) None) g)
-
-headless : (tb : Tables) (ts : Trees) → is_headed ts ≡ false → IsTopForm tb (list ts) forms.Other
-headless tb none h = record { behaviour = refl; start = refl; post = refl; entry = refl }
-headless tb (more (word w) ts) h = absurd (cc)
-headless tb (more (text t) ts) h = record { behaviour = refl; start = refl; post = refl; entry = refl }
-headless tb (more (list us) ts) h = record { behaviour = refl; start = refl; post = refl; entry = refl }
-
-pub top_headless : (tb : Tables) (t : Tree) (ts : Trees) → t ≡ list ts → is_headed ts ≡ false → IsTopForm tb t forms.Other
-top_headless tb t ts e h = subst (λ u. IsTopForm tb u forms.Other) (sym e) (headless tb ts h)
-
-pub top_no_list : (tb : Tables) (f : Form) → ((ts : List Tree) → f ≢ trees.List ts) → IsTopForm tb (tree_of f) forms.Other
-top_no_list tb (trees.Word w) h = record { behaviour = refl; start = refl; post = refl; entry = refl }
-top_no_list tb (trees.Text w) h = record { behaviour = refl; start = refl; post = refl; entry = refl }
-top_no_list tb (trees.List ts) h = absurd (h ts refl)
-
--- how many parts there are
-pub not_one : (us : Trees) (p : Parts) → HasParts us p → ((a : _) → p ≢ parts.One a) → roles.count_of us ≢ 1
-not_one us parts.Zero h n k = absurd (omega (arith, ap roles.count_of h))
-not_one us (parts.One a) h n k = n a refl
-not_one us (parts.Two a b) h n k = absurd (omega (arith, ap roles.count_of h))
-not_one us (parts.Three a b c) h n k = absurd (omega (arith, ap roles.count_of h))
-not_one us (parts.Four a b c d) h n k = absurd (omega (arith, ap roles.count_of h))
-not_one us parts.Other h n k = long us h k
-  where
-    long : (vs : Trees) → HasParts vs parts.Other → roles.count_of vs ≡ 1 → ⊥
-    long (more a none) g e = elim g [ ]
-    long none g e = elim g [ ]
-    long (more a (more b vs)) g e = omega arith
-
-pub not_two : (us : Trees) (p : Parts) → HasParts us p → ((a b : _) → p ≢ parts.Two a b) → roles.count_of us ≢ 2
-not_two us parts.Zero h n k = absurd (omega (arith, ap roles.count_of h))
-not_two us (parts.One a) h n k = absurd (omega (arith, ap roles.count_of h))
-not_two us (parts.Two a b) h n k = n a b refl
-not_two us (parts.Three a b c) h n k = absurd (omega (arith, ap roles.count_of h))
-not_two us (parts.Four a b c d) h n k = absurd (omega (arith, ap roles.count_of h))
-not_two us parts.Other h n k = long us h k
-  where
-    long : (vs : Trees) → HasParts vs parts.Other → roles.count_of vs ≡ 2 → ⊥
-    long none g e = elim g [ ]
-    long (more a none) g e = elim g [ ]
-    long (more a (more b none)) g e = elim g [ ]
-    long (more a (more b (more c vs))) g e = omega arith
-
-pub not_four : (us : Trees) (p : Parts) → HasParts us p → ((a b c d : _) → p ≢ parts.Four a b c d) → roles.count_of us ≢ 4
-not_four us parts.Zero h n k = absurd (omega (arith, ap roles.count_of h))
-not_four us (parts.One a) h n k = absurd (omega (arith, ap roles.count_of h))
-not_four us (parts.Two a b) h n k = absurd (omega (arith, ap roles.count_of h))
-not_four us (parts.Three a b c) h n k = absurd (omega (arith, ap roles.count_of h))
-not_four us (parts.Four a b c d) h n k = n a b c d refl
-not_four us parts.Other h n k = long us h k
-  where
-    long : (vs : Trees) → HasParts vs parts.Other → roles.count_of vs ≡ 4 → ⊥
-    long none g e = elim g [ ]
-    long (more a none) g e = elim g [ ]
-    long (more a (more b none)) g e = elim g [ ]
-    long (more a (more b (more c none))) g e = elim g [ ]
-    long (more a (more b (more c (more d none)))) g e = elim g [ ]
-    long (more a (more b (more c (more d (more x vs))))) g e = omega arith
-
--- lists with another number of items define nothing
-behaviour_none : (tb : Tables) (us : Trees) → roles.count_of us ≢ 2 → behaviour_items tb us ≡ None
-behaviour_none tb (more (word n) (more e none)) h = absurd (h refl)
-behaviour_none tb us h = refl
-
-post_none : (tb : Tables) (us : Trees) → roles.count_of us ≢ 2 → post_items tb us ≡ None
-post_none tb (more (word n) (more e none)) h = absurd (h refl)
-post_none tb us h = refl
-
-start_none : (tb : Tables) (us : Trees) → roles.count_of us ≢ 4 → start_items tb us ≡ None
-start_none tb (more (word n) (more (word b) (more (word k) (more v none)))) h = absurd (h refl)
-start_none tb us h = refl
-
-entry_none : (us : Trees) → roles.count_of us ≢ 2 → entry_items us ≡ None
-entry_none (more (word p) (more (list ts) none)) h = absurd (h refl)
-entry_none us h = refl
-
-failure_none : (p : List ℕ) (h : List ℕ) (us : Trees) → roles.count_of us ≢ 1 → failure_entry p (more (word h) us) ≡ None
-failure_none p h (more (word n) none) c = absurd (c refl)
-failure_none p h us c = refl
-
 pub no_behaviour : (tb : Tables) (us : Trees) → behaviour_items tb us ≡ None → TellsBehaviour tb us forms.Other
 no_behaviour tb us e = record { behaviour = e; no_start = refl; no_post = refl; no_entry = refl }
 
@@ -175,38 +80,6 @@ no_post tb us e = record { post = e; no_behaviour = refl; no_start = refl; no_en
 
 pub no_entry : (us : Trees) → entry_items us ≡ None → TellsEntry us forms.Other
 no_entry us e = record { entry = e; no_behaviour = λ tb. refl; no_start = λ tb. refl; no_post = λ tb. refl }
-
-pub no_failure : (p : List ℕ) (us : Trees) → failure_entry p us ≡ None → TellsFailure p us forms.Other
-no_failure p us e = record { entry = e; no_behaviour = λ tb. refl; no_start = λ tb. refl; no_post = λ tb. refl }
-
-pub behaviour_parts : (tb : Tables) (us : Trees) (p : Parts) → HasParts us p → ((a b : _) → p ≢ parts.Two a b) → TellsBehaviour tb us forms.Other
-behaviour_parts tb us p h n = no_behaviour tb us (behaviour_none tb us (not_two us p h n))
-
-pub post_parts : (tb : Tables) (us : Trees) (p : Parts) → HasParts us p → ((a b : _) → p ≢ parts.Two a b) → TellsPost tb us forms.Other
-post_parts tb us p h n = no_post tb us (post_none tb us (not_two us p h n))
-
-pub start_parts : (tb : Tables) (us : Trees) (p : Parts) → HasParts us p → ((a b c d : _) → p ≢ parts.Four a b c d) → TellsStart tb us forms.Other
-start_parts tb us p h n = no_start tb us (start_none tb us (not_four us p h n))
-
-pub entry_parts : (us : Trees) (p : Parts) → HasParts us p → ((a b : _) → p ≢ parts.Two a b) → TellsEntry us forms.Other
-entry_parts us p h n = no_entry us (entry_none us (not_two us p h n))
-
-pub failure_parts : (place h : List ℕ) (ts us : Trees) (p : Parts) → ts ≡ more (word h) us → HasParts us p → ((a : _) → p ≢ parts.One a) → TellsFailure place ts forms.Other
-failure_parts place h ts us p e i n = no_failure place ts (ap (failure_entry place) e ∙ failure_none place h us (not_one us p i n))
-
-pub failure_headless : (place : List ℕ) (ts : Trees) → is_headed ts ≡ false → TellsFailure place ts forms.Other
-failure_headless place ts h = no_failure place ts (by ts h)
-  where
-    by : (us : Trees) → is_headed us ≡ false → failure_entry place us ≡ None
-    by (more (word w) vs) g = absurd (cc)
-    by us g = refl
-
--- the numbers of counts
-pub meant : (o : Option ℕ) (m : ℕ) → option_map capped o ≡ Some m → m < 2 ^ 32 → m ≡ unwrap_or o 0
-meant None m e lt = absurd (cc)
-meant (Some n) m e lt =
-    let same : capped n ≡ m = cc in
-    omega arith
 
 -- one more form
 one_more : {X : Type 0} → (o : Option X) → cons_option o [] ≡ option_to_list o

@@ -1,15 +1,15 @@
 -- Expressions that are built from forms, part by part.
-use Rattle.std.proofs.Common.{◌≡◌, ◌<◌, None, List, [], ◌∷◌, ◌++◌, length, map, if◌then◌else◌, ◌==◌, refl, ap, ap₂, arith}
+use Rattle.std.proofs.Common.{◌≡◌, ◌<◌, List, [], ◌∷◌, ◌++◌, length, map, if◌then◌else◌, ◌==◌, refl, ap, ap₂, arith}
 use Rattle.std.proofs.lemmas.Bool.{ne_eqb}
 use Rattle.tau_sexpr.specs.Form.{tree_of}
-use Rattle.tau_sexpr.specs.Tree.{Tree, Trees}
+use Rattle.tau_sexpr.specs.Tree.{Tree}
 use Rattle.tau_sexpr.specs.Tree as tree
 use Rattle.tau_sexpr.specs.declared.trees.Form.{Form}
-use Rattle.tau_tree.specs.Code.{Code, unit, get, stabilize, checkpoint, rollback, dependent, Codes, none, more, inside}
+use Rattle.tau_tree.specs.Code.{Code, unit, get, stabilize, checkpoint, rollback, dependent, none, more, inside}
 use Rattle.tau_forms.specs.declared.keywords.Keyword.{Keyword}
 use Rattle.tau_forms.specs.declared.keywords.Keyword.TheVariants as keywords
 use Rattle.tau_forms.specs.declared.tables.Tables.{Tables}
-use Rattle.tau_forms.specs.Inner.Build.{IsLong, head_in}
+use Rattle.tau_forms.specs.Inner.Build.{IsLong}
 use Rattle.tau_forms.specs.Meaning.{list_code, code_in, codes_in}
 
 -- more than four forms
@@ -20,13 +20,6 @@ long (a ∷ (b ∷ [])) h = absurd (omega arith)
 long (a ∷ (b ∷ (c ∷ []))) h = absurd (omega arith)
 long (a ∷ (b ∷ (c ∷ (d ∷ [])))) h = absurd (omega arith)
 long (a ∷ (b ∷ (c ∷ (d ∷ (e ∷ fs))))) h = tt
-
--- a list that no word begins
-pub headless : (tb : Tables) (ts : Trees) → head_in ts ≡ None → code_in tb (tree.list ts) ≡ unit
-headless tb tree.none e = refl
-headless tb (tree.more (tree.word h) ts) e = cc
-headless tb (tree.more (tree.text t) ts) e = refl
-headless tb (tree.more (tree.list us) ts) e = refl
 
 -- one form more
 pub codes_in-push : (tb : Tables) (ts : List Tree) (t : Tree) (cs : List Code) (c : Code) → inside cs ≡ codes_in tb (tree.inside ts) → c ≡ code_in tb t → inside (cs ++ c ∷ []) ≡ codes_in tb (tree.inside (ts ++ t ∷ []))

@@ -1,27 +1,19 @@
 -- What the forms at the top define, form by form.
-use Rattle.std.proofs.Common.{◌≡◌, ◌≢◌, ℕ, zero, suc, ◌+◌, ◌<◌, ◌≤◌, ◌^◌, ◌==◌, Bool, true, false, not, cond, map, take, ◌&&◌, is_some, nat_le, nat_lt, List, [], ◌∷◌, ◌++◌, length, filter, Option, Some, None, option_map, unwrap_or, refl, sym, ap, subst, ◌∙◌, arith}
-use Rattle.std.specs.Option.{option_or, option_map_or}
-use Rattle.std.proofs.lemmas.List.Elements.{filter-append}
-use Rattle.std.proofs.lemmas.List.{length_push}
+use Rattle.std.proofs.Common.{◌≡◌, ℕ, zero, suc, ◌+◌, ◌≤◌, ◌==◌, Bool, true, false, not, cond, map, take, ◌&&◌, is_some, List, [], ◌∷◌, ◌++◌, length, filter, Option, Some, None, refl, sym, ap, ◌∙◌, arith}
+use Rattle.std.specs.Option.{option_or}
 use Rattle.tau_sexpr.specs.Form.{tree_of}
 use Rattle.tau_sexpr.specs.Tree.{Tree, Trees, word, text, list, none, more, inside}
 use Rattle.tau_sexpr.specs.declared.trees.Form.{Form}
-use Rattle.tau_value.specs.Names.{is_name, place_of}
-use Rattle.tau_value.specs.Numbers.{count_in, capped}
+use Rattle.tau_value.specs.Names.{place_of}
+use Rattle.tau_value.specs.Numbers.{count_in}
 use Rattle.tau_forms.specs.declared.keywords.Sort.{Sort}
-use Rattle.tau_forms.specs.declared.keywords.Sort.TheVariants as sorts
 use Rattle.tau_forms.specs.declared.tables.Defined.{Defined}
 use Rattle.tau_forms.specs.declared.tables.Definition.{Definition}
-use Rattle.tau_forms.specs.declared.tables.Definition.TheVariants as definitions
-use Rattle.tau_forms.specs.Inner.Defined.{IsDefined, Defines, name_told, nodes_told, behaviour_name, start_name, nodes_number}
+use Rattle.tau_forms.specs.Inner.Defined.{IsDefined, Defines, nodes_told, behaviour_name, start_name, nodes_number}
 use Rattle.tau_forms.specs.Keywords.{sort_in}
-use Rattle.tau_forms.specs.Tops.{sort_of, is_nodes, is_behaviour, is_start, named_by, name_in, with_name, defined_after, behaviours_of, starts_of, is_count_in, nodes_in, nodes_of, count_of, has}
+use Rattle.tau_forms.specs.Tops.{sort_of, is_nodes, is_behaviour, is_start, with_name, behaviours_of, starts_of, is_count_in, nodes_in, nodes_of, count_of}
 use Rattle.tau_forms.proofs.WordLemmas.{placed}
-
--- one more form
-pub defined_push : (is : Sort → Bool) (ws : List (List ℕ)) (ts : List Tree) (t : Tree) → defined_after is ws (ts ++ t ∷ []) ≡ with_name (defined_after is ws ts) (named_by is t)
-defined_push is ws [] t = refl
-defined_push is ws (u ∷ us) t = defined_push is (with_name ws (named_by is u)) us t
+use Rattle.tau_forms.proofs.SoundNames.{defined_after-push}
 
 nodes_after : (a b c : Option ℕ) → option_or a (option_or b c) ≡ option_or (option_or a b) c
 nodes_after None b c = refl
@@ -37,20 +29,10 @@ nodes_push (u ∷ us) t = ap (option_or (nodes_in u)) (nodes_push us t) ∙ node
 
 pub defined_more : (before : List Tree) (t : Tree) (d e : Defined) (f : Definition) → IsDefined before d → Defines t f → e.behaviours ≡ with_name d.behaviours (behaviour_name f) → e.starts ≡ with_name d.starts (start_name f) → e.nodes ≡ option_or d.nodes (nodes_number f) → IsDefined (before ++ t ∷ []) e
 defined_more before t d e f h g a b c = record {
-  behaviours = a ∙ ap (λ ws. with_name ws (behaviour_name f)) h.behaviours ∙ ap (with_name (behaviours_of before)) (sym g.behaviour) ∙ sym (defined_push is_behaviour [] before t);
-  starts = b ∙ ap (λ ws. with_name ws (start_name f)) h.starts ∙ ap (with_name (starts_of before)) (sym g.start) ∙ sym (defined_push is_start [] before t);
+  behaviours = a ∙ ap (λ ws. with_name ws (behaviour_name f)) h.behaviours ∙ ap (with_name (behaviours_of before)) (sym g.behaviour) ∙ sym (defined_after-push is_behaviour [] before t);
+  starts = b ∙ ap (λ ws. with_name ws (start_name f)) h.starts ∙ ap (with_name (starts_of before)) (sym g.start) ∙ sym (defined_after-push is_start [] before t);
   nodes = c ∙ ap (λ o. option_or o (nodes_number f)) h.nodes ∙ ap (option_or (nodes_of before)) (sym g.nodes) ∙ sym (nodes_push before t);
 }
-
--- what a list defines, by its first word and its other items
-named_by_list : (is : Sort → Bool) (h : List ℕ) (us : Trees) (b : Bool) → is (sort_in h) ≡ b → named_by is (list (more (word h) us)) ≡ cond b (name_told us) None
-named_by_list is h none true e = refl
-named_by_list is h none false e = refl
-named_by_list is h (more (word w) us) b e = ap (λ c. cond c (name_in w) None) e
-named_by_list is h (more (text t) us) true e = refl
-named_by_list is h (more (text t) us) false e = refl
-named_by_list is h (more (list t) us) true e = refl
-named_by_list is h (more (list t) us) false e = refl
 
 nodes_both : (b c : Bool) (o : Option ℕ) → cond (b && c) o None ≡ cond b (cond c o None) None
 nodes_both true c o = refl
@@ -66,22 +48,6 @@ nodes_in_list h (more (text t) us) true e = refl
 nodes_in_list h (more (text t) us) false e = refl
 nodes_in_list h (more (list t) us) true e = refl
 nodes_in_list h (more (list t) us) false e = refl
-
-pub defines_list : (ts us : Trees) (h : List ℕ) (s : Sort) (d : Definition) → ts ≡ more (word h) us → s ≡ sort_in h → cond (is_behaviour s) (name_told us) None ≡ behaviour_name d → cond (is_start s) (name_told us) None ≡ start_name d → cond (is_nodes s) (nodes_told us) None ≡ nodes_number d → Defines (list ts) d
-defines_list ts us h s d e f a b c = record {
-  behaviour = ap (λ q. named_by is_behaviour (list q)) e ∙ named_by_list is_behaviour h us (is_behaviour s) (ap is_behaviour (sym f)) ∙ a;
-  start = ap (λ q. named_by is_start (list q)) e ∙ named_by_list is_start h us (is_start s) (ap is_start (sym f)) ∙ b;
-  nodes = ap (λ q. nodes_in (list q)) e ∙ nodes_in_list h us (is_nodes s) (ap is_nodes (sym f)) ∙ c;
-}
-
--- how many lists of a sort there are, with one more form
-pub count_push : (is : Sort → Bool) (ts : List Tree) (t : Tree) → count_of is (ts ++ t ∷ []) ≡ count_of is ts + cond (is (sort_of t)) 1 0
-count_push is ts t = ap length (filter-append (λ u. is (sort_of u)) ts (t ∷ [])) ∙ by (is (sort_of t)) (filter (λ u. is (sort_of u)) ts)
-  where
-    by : (b : Bool) (us : List Tree) → length (us ++ cond b (t ∷ []) []) ≡ length us + cond b 1 0
-    by true us = length_push us t
-    by false [] = refl
-    by false (u ∷ us) = omega (arith, by false us)
 
 pub count_le : (is : Sort → Bool) (ts : List Tree) → count_of is ts ≤ length ts
 count_le is [] = omega arith

@@ -1,18 +1,17 @@
 -- The items of a list, passed one by one.
-use Rattle.std.proofs.Common.{◌≡◌, ◌≢◌, ℕ, ◌+◌, ◌-◌, ◌<◌, ◌≤◌, List, [], ◌∷◌, length, get_or, drop, map, Option, Some, None, Result, Ok, Err, refl, sym, ap, subst, ◌∙◌, arith}
+use Rattle.std.proofs.Common.{◌≡◌, ◌≢◌, ℕ, ◌+◌, ◌-◌, ◌<◌, ◌≤◌, List, ◌∷◌, length, get_or, drop, Some, refl, sym, ap, subst, ◌∙◌, arith}
 use Rattle.tau_sexpr.specs.Form.{tree_of}
-use Rattle.tau_sexpr.specs.Tree.{Tree, Trees, list, none, more, inside, size_of, size_of_all}
+use Rattle.tau_sexpr.specs.Tree.{Trees, list, more, size_of, size_of_all}
 use Rattle.tau_sexpr.specs.declared.trees.Form.{Form}
 use Rattle.tau_forms.specs.declared.faults.ProgramError.{ProgramError}
 use Rattle.tau_forms.specs.declared.rows.Row.{Row}
 use Rattle.tau_forms.specs.declared.tables.Tables.{Tables}
-use Rattle.tau_forms.specs.declared.wanted.Wanted.{Wanted}
-use Rattle.tau_forms.specs.Faults.{Fault, FaultAt, FaultIn, IsClean}
-use Rattle.tau_forms.specs.Inner.Passing.{TellsFault, Passes, roles_along, roles_of}
+use Rattle.tau_forms.specs.Faults.{FaultAt, FaultIn, IsClean}
+use Rattle.tau_forms.specs.Inner.Passing.{TellsFault, roles_along}
 use Rattle.tau_forms.specs.Roles.{Role, value, row}
 use Rattle.tau_forms.specs.Inner.Wanted.{role_of}
 use Rattle.tau_forms.proofs.ListLemmas.{left, left_item, left_all}
-use Rattle.tau_forms.proofs.PassLemmas.{Shift, shift_none, shift_both, shift_clean, shift_tells, item_shift, item_tells, no_items_clean, list_shift, no_row_tells}
+use Rattle.tau_forms.proofs.PassLemmas.{Shift, shift_both, shift_clean, shift_tells, item_shift, item_tells, no_items_clean, list_shift}
 use Rattle.tau_forms.proofs.RowLemmas.{roles_step}
 
 -- the roles of the items that are left from the k-th on
@@ -24,12 +23,6 @@ pub record Reached (tb : Tables) (w : Row) (fs : List Form) (first k node : ℕ)
   pub low : first ≤ node
   pub passed : node + size_of_all (left fs k) ≡ first + size_of_all (left fs 0)
   pub shift : Shift (FaultIn tb (roles_left w fs 0) (left fs 0)) (FaultIn tb (roles_left w fs k) (left fs k)) (node - first)
-
-pub reached_start : (tb : Tables) (w : Row) (fs : List Form) (first : ℕ) → Reached tb w fs first 0 first
-reached_start tb w fs first =
-    let F = FaultIn tb (roles_left w fs 0) (left fs 0) in
-    let z : 0 ≡ first - first = omega arith in
-    record { low = omega arith; passed = refl; shift = subst (Shift F F) z (shift_none F) }
 
 pub reached_more : (tb : Tables) (w : Row) (fs : List Form) (first k node next : ℕ) (f : Form) (r : Role) → k < length fs → f ≡ get_or fs k f → r ≡ role_of (get_or w.leading k w.rest) → Reached tb w fs first k node → IsClean (FaultAt tb r (tree_of f)) → next ≡ node + size_of (tree_of f) → Reached tb w fs first (k + 1) next
 reached_more tb w fs first k node next f r lt is role h clean e =

@@ -1,5 +1,5 @@
 -- The faults of a form are those of its own node and of its items.
-use Rattle.std.proofs.Common.{◌≡◌, ◌≢◌, ℕ, ◌+◌, ◌-◌, ◌<◌, ◌≤◌, Bool, true, false, cond, List, [], ◌∷◌, length, Option, Some, None, option_map, is_some, Result, Ok, Err, refl, sym, ap, subst, ◌∙◌, arith}
+use Rattle.std.proofs.Common.{◌≡◌, ◌≢◌, ℕ, ◌+◌, ◌-◌, ◌<◌, ◌≤◌, List, [], ◌∷◌, length, Option, Some, None, option_map, is_some, Result, Ok, Err, refl, sym, ap, subst, ◌∙◌, arith}
 use Rattle.tau_sexpr.specs.Tree.{Tree, Trees, word, text, list, none, more, size_of, size_of_all}
 use Rattle.tau_value.specs.Meaning as values
 use Rattle.tau_value.proofs.MeaningLemmas as values_lemmas
@@ -17,9 +17,6 @@ use Rattle.tau_forms.specs.Inner.Wanted.{fault_in}
 pub record Shift (F G : ℕ → Fault → Type 0) (d : ℕ) : Type 0 where
   pub to : (n : ℕ) (f : Fault) → F n f → (m : ℕ) × (n ≡ d + m) × G m f
   pub from : (m : ℕ) (f : Fault) → G m f → F (d + m) f
-
-pub shift_none : (F : ℕ → Fault → Type 0) → Shift F F 0
-shift_none F = record { to = λ n f h. (n, omega arith, h); from = λ m f h. let z : m ≡ 0 + m = omega arith in subst (λ k. F k f) z h }
 
 pub shift_both : (F G H : ℕ → Fault → Type 0) (d e : ℕ) → Shift F G d → Shift G H e → Shift F H (d + e)
 shift_both F G H d e one two = record { to = to; from = from }
@@ -55,16 +52,10 @@ shift_tells F G d at node (errors.Twice k) s z t = (d + t.0, omega (arith, t.1),
 shift_tells F G d at node (errors.Limit k) s z t = elim t [ ]
 shift_tells F G d at node errors.NoMemory s z t = tt
 
--- a form has a node
-pub size_positive : (t : Tree) → 1 ≤ size_of t
-size_positive (word w) = omega arith
-size_positive (text t) = omega arith
-size_positive (list ts) = omega arith
-
 -- a faulty node is one of the form's
 mutual
   pub fault_within : (tb : Tables) (r : Role) (t : Tree) (n : ℕ) (f : Fault) → FaultAt tb r t n f → n < size_of t
-  fault_within tb r t n f (itself z e) = omega (arith, size_positive t)
+  fault_within tb r t n f (itself z e) = omega (arith, values_lemmas.size_positive t)
   fault_within tb r t n f (in_value {g = g} e d h) = values_lemmas.FaultAt-lt tb.starts (length tb.starts) t n g h
   fault_within tb r t n f (in_item {ts = ts} {rs = rs} {m = m} e d z h) = omega (arith, ap size_of e, faults_within tb rs ts m f h)
 

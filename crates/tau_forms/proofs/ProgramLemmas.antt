@@ -1,21 +1,20 @@
 -- The bounds of what a program's forms define, and what the reader tells of them.
-use Rattle.std.proofs.Common.{◌≡◌, ◌≢◌, ℕ, ◌+◌, ◌<◌, ◌≤◌, ◌^◌, Bool, true, false, cond, ◌&&◌, nat_le, nat_lt, List, [], ◌∷◌, ◌++◌, length, filter, Option, Some, None, unwrap_or, Result, Ok, Err, refl, sym, ap, subst, ◌∙◌, arith}
+use Rattle.std.proofs.Common.{◌≡◌, ℕ, ◌+◌, ◌≤◌, Bool, true, false, cond, ◌&&◌, nat_le, nat_lt, List, [], ◌∷◌, ◌++◌, length, filter, Option, Some, None, unwrap_or, Result, Ok, Err, refl, subst, arith}
 use Rattle.std.specs.Option.{option_or, option_map_or}
 use Rattle.std.specs.Result.{IfOk, IfErr}
 use Rattle.std.proofs.lemmas.Bool.{ltb-true, ltb-false}
 use Rattle.std.proofs.lemmas.List.{length_push}
-use Rattle.tau_sexpr.specs.Tree.{Tree, Trees, word, text, list, none, more}
+use Rattle.tau_sexpr.specs.Tree.{Tree, word, list, none, more}
 use Rattle.tau_value.specs.Numbers.{count_in}
 use Rattle.tau_tree.specs.declared.programs.Program.{Program}
 use Rattle.tau_forms.specs.declared.faults.ProgramError.{ProgramError}
 use Rattle.tau_forms.specs.declared.faults.ProgramError.TheVariants as errors
 use Rattle.tau_forms.specs.declared.keywords.Sort.{Sort}
-use Rattle.tau_forms.specs.Faults.{Fault, shape, unknown, twice, ProgramFaultAt, IsClean, IsFirst, IsFault}
+use Rattle.tau_forms.specs.Faults.{shape, unknown, twice, ProgramFaultAt, IsFirst, IsFault}
 use Rattle.tau_forms.specs.Keywords.{sort_in}
-use Rattle.tau_forms.specs.Meaning.{Means, plain_of, program_in}
-use Rattle.tau_forms.specs.Inner.Passing.{TellsFault, PassesForms, IsRead}
-use Rattle.tau_forms.specs.Tops.{sort_of, is_nodes, is_behaviour, is_start, is_post, is_entry, has, name_in, named_by, with_name, defined_after, starts_of, is_count_in, nodes_in, nodes_of, count_of, limit_of}
-use Rattle.tau_forms.proofs.DefinedLemmas.{count_push}
+use Rattle.tau_forms.specs.Meaning.{Means}
+use Rattle.tau_forms.specs.Inner.Passing.{TellsFault, IsRead}
+use Rattle.tau_forms.specs.Tops.{sort_of, is_nodes, is_behaviour, is_start, is_post, is_entry, has, name_in, named_by, with_name, defined_after, starts_of, nodes_in, nodes_of, count_of, limit_of}
 
 -- there are at most 64 nodes
 in_range : (b : Bool) (o : Option ℕ) → unwrap_or (cond (b && option_map_or (λ n. nat_le 1 n && nat_lt n 65) o false) o None) 64 ≤ 64
@@ -108,6 +107,3 @@ none_read ts p (Err (errors.Unknown n)) means h = absurd (means.faultless h.0 un
 none_read ts p (Err (errors.Twice n)) means h = absurd (means.faultless h.0 twice h.2.fault)
 none_read ts p (Err (errors.Limit n)) means h = elim h [ ]
 none_read ts p (Err errors.NoMemory) means h = refl
-
-pub read_ok : (ts : List Tree) (r : Result Program ProgramError) (p : Program) → r ≡ Ok p → IsClean (ProgramFaultAt ts) → plain_of p ≡ program_in ts → IfOk r (IsRead ts)
-read_ok ts r p e clean is = subst (λ q. IfOk q (IsRead ts)) (sym e) (record { faultless = clean; is = is })

@@ -1,13 +1,12 @@
 -- The form of an expression is read back as the expression; how deep it is, and that none of its words is empty.
-use Rattle.std.proofs.Common.{◌≡◌, ◌≢◌, ℕ, ◌+◌, ◌<◌, ◌≤◌, max, ◌==◌, ◌||◌, nat_le, Bool, true, false, cond, List, [], ◌∷◌, ◌++◌, length, Option, Some, None, refl, sym, ap, ap₂, subst, ◌∙◌, arith, codes}
+use Rattle.std.proofs.Common.{◌≡◌, ◌≢◌, ℕ, ◌+◌, ◌<◌, ◌≤◌, max, ◌||◌, Bool, true, false, cond, List, [], ◌∷◌, ◌++◌, length, Some, None, refl, sym, ap, ap₂, subst, ◌∙◌, arith, codes}
 use Rattle.std.specs.List.{Contains}
-use Rattle.std.specs.Str.{bytes_eq}
 use Rattle.std.proofs.lemmas.Bool.{le-leb, eq-eqb}
 use Rattle.tau_sexpr.specs.Tree.{Tree, Trees, HasWords, AllHaveWords}
 use Rattle.tau_sexpr.specs.Tree as tree
 use Rattle.tau_value.specs.Names.{is_name, IsName, AreNames}
-use Rattle.tau_value.specs.Numbers.{in_i64}
 use Rattle.tau_value.proofs.NameLemmas.{apart_bytes}
+use Rattle.tau_value.proofs.WrittenLemmas.{name_nonempty, signed_nonempty}
 use Rattle.tau_tree.specs.Code.{Code, Codes}
 use Rattle.tau_tree.specs.Code as code
 use Rattle.tau_tree.specs.Parts.{IsBoundIn, AllBoundIn, Throughout, AllThroughout, arity}
@@ -21,12 +20,12 @@ use Rattle.tau_forms.specs.declared.tables.Tables.{Tables}
 use Rattle.tau_forms.specs.Inner.Fitting.{HasFittingInteger}
 use Rattle.tau_forms.specs.Keywords.{keyword_in}
 use Rattle.tau_forms.specs.Tops.{has}
-use Rattle.tau_forms.specs.Roles.{Role, first, known, fresh, expression, two_names, every, count_of, word_of, names_in, has_items, parts_of}
-use Rattle.tau_forms.specs.Faults.{Fault, shape, twice, unknown, unless, is_constant, FaultAt, FaultIn, IsClean}
-use Rattle.tau_forms.specs.Meaning.{number_of, word_code, list_code, code_in, codes_in}
+use Rattle.tau_forms.specs.Roles.{Role, first, known, fresh, expression, two_names, every, count_of, has_items, parts_of}
+use Rattle.tau_forms.specs.Faults.{shape, twice, unknown, unless, is_constant, FaultAt, FaultIn, IsClean}
+use Rattle.tau_forms.specs.Meaning.{word_code, list_code, code_in, codes_in}
 use Rattle.tau_forms.specs.Printed.{prim_word, name_of, code_form, code_forms}
 use Rattle.tau_forms.proofs.ReadBackFaults.{clean_word, clean_text, clean_list, clean_none, clean_more, clean_first, expression_row}
-use Rattle.tau_forms.proofs.ReadBackWords.{nonempty, name_nonempty, word_code-name, word_code-integer, is_constant-integer, signed_nonempty, IsNameAt, name_at}
+use Rattle.tau_forms.proofs.ReadBackWords.{word_code-name, word_code-integer, is_constant-integer, name_filled, IsNameAt, name_at}
 use Rattle.tau_forms.proofs.SoundNames.{has_at}
 
 keyword_of-prim : (p : Operation) → keyword_in (prim_word p) ≡ keywords.Apply p
@@ -97,9 +96,6 @@ module _ (tb : Tables) (behaviours_are : AreNames tb.behaviours) (starts_are : A
 
   abbrev forms : Codes → Trees
   forms cs = code_forms tb.behaviours tb.starts cs
-
-  name_filled : (names : List (List ℕ)) (n : ℕ) → IsNameAt names n → HasWords (name_of names n)
-  name_filled names n w = rw w.is (name_nonempty w.name w.named)
 
   mutual
     pub form_words : (c : Code) → Throughout Fits c → HasWords (form c)

@@ -1,5 +1,5 @@
 -- The forms that a program is printed as are read back as the program.
-use Rattle.std.proofs.Common.{◌≡◌, ◌≢◌, ℕ, ◌+◌, ◌^◌, ◌<◌, ◌≤◌, max, Bool, true, false, cond, ◌&&◌, nat_lt, List, [], ◌∷◌, ◌++◌, length, map, get_or, Option, Some, None, unwrap_or, slice_get, Result, Ok, Err, IfOk, OnOk, refl, sym, ap, ap₂, subst, ◌∙◌, append_assoc, arith, codes}
+use Rattle.std.proofs.Common.{◌≡◌, ℕ, ◌+◌, ◌^◌, ◌<◌, ◌≤◌, Bool, cond, nat_lt, List, [], ◌∷◌, ◌++◌, length, map, get_or, Option, Some, None, unwrap_or, slice_get, Result, Ok, Err, IfOk, OnOk, refl, sym, ap, subst, ◌∙◌, arith, codes}
 use Rattle.std.specs.Fmt.{decimal}
 use Rattle.std.specs.List.{All, filter_map}
 use Rattle.std.specs.Option.{option_or}
@@ -7,21 +7,20 @@ use Rattle.std.specs.declared.alloc.AllocError.{AllocError}
 use Rattle.std.proofs.lemmas.Bool.{le-ltb}
 use Rattle.std.proofs.lemmas.List.{append-nil, length-map}
 use Rattle.std.proofs.lemmas.List.Elements.{All-head, All-tail, All-cons, All-append, All-map, filter_map-append}
-use Rattle.tau_sexpr.specs.Tree.{Tree, Trees, word, list, none, more, inside, depth_of, depths, depths-append, HasWords, headed}
-use Rattle.tau_value.specs.Names.{IsName, AreNames}
+use Rattle.tau_sexpr.specs.Tree.{Tree, inside, depth_of, depths, depths-append, HasWords, headed}
+use Rattle.tau_value.specs.Names.{AreNames}
 use Rattle.tau_value.specs.Numbers.{count_in}
-use Rattle.tau_value.specs.Sizes.{levels_of, IsInBounds, NamesBelow}
+use Rattle.tau_value.specs.Sizes.{NamesBelow}
 use Rattle.tau_value.specs.Value.{val_of}
 use Rattle.tau_value.specs.Written.{written, count_form}
 use Rattle.tau_value.specs.Meaning.{counted}
 use Rattle.tau_value.specs.Meaning as values
 use Rattle.tau_value.proofs.NumberLemmas.{count_in-decimal}
+use Rattle.tau_value.proofs.WrittenLemmas.{name_nonempty, decimal_filled}
 use Rattle.tau_tree.specs.Behaviour.{NamedCode}
 use Rattle.tau_tree.specs.Checks.{KeepsRules, IsSoundBehaviour}
 use Rattle.tau_tree.specs.Parts.{Throughout}
-use Rattle.tau_tree.specs.Parts as parts
 use Rattle.tau_tree.specs.Sound.{Sound, FailsBelow, behaviour_names, start_names, behaviour_names-are, start_names-are}
-use Rattle.tau_tree.specs.declared.entries.Entry.{Entry}
 use Rattle.tau_tree.specs.declared.entries.Failure.{Failure}
 use Rattle.tau_tree.specs.declared.entries.Failure.TheVariants.{Fail, Lose}
 use Rattle.tau_tree.specs.declared.posts.Post.{Post}
@@ -31,17 +30,17 @@ use Rattle.tau_tree.proofs.SoundLemmas.{All-unmap, PassesChecks, checks_from_sou
 use Rattle.tau_tree.proofs.SplitLemmas.{throughout_both}
 use Rattle.tau_forms.specs.declared.keywords.Sort.{Sort}
 use Rattle.tau_forms.specs.declared.tables.Tables.{Tables}
-use Rattle.tau_forms.specs.Inner.Fitting.{HasFittingInteger, HasFittingNumbers, HasFittingMessage, IsWritten, IsFitting}
-use Rattle.tau_forms.specs.Tops.{is_behaviour, is_start, is_post, is_entry, is_nodes, named_by, with_name, defined_after, is_count_in, nodes_in, nodes_of, behaviours_of, starts_of, tables_of, count_of, limit_of}
+use Rattle.tau_forms.specs.Inner.Fitting.{HasFittingInteger, HasFittingMessage, IsFitting}
+use Rattle.tau_forms.specs.Tops.{is_behaviour, is_start, is_post, is_entry, with_name, defined_after, nodes_in, nodes_of, behaviours_of, starts_of, tables_of, count_of, limit_of}
 use Rattle.tau_forms.specs.Roles.{top}
-use Rattle.tau_forms.specs.Faults.{Fault, FaultAt, FaultIn, tops_after, ProgramFaultAt, in_top, no_nodes, IsClean}
-use Rattle.tau_forms.specs.Meaning.{number_of, code_in, PlainProgram, plain_start, plain_post, plain_of, behaviour_in, start_in, post_in, entry_in, program_in, Means}
+use Rattle.tau_forms.specs.Faults.{FaultIn, tops_after, ProgramFaultAt, in_top, no_nodes, IsClean}
+use Rattle.tau_forms.specs.Meaning.{number_of, PlainProgram, plain_start, plain_post, plain_of, behaviour_in, start_in, post_in, entry_in, program_in, Means}
 use Rattle.tau_forms.specs.Meaning as meaning
-use Rattle.tau_forms.specs.Printed.{name_of, code_form, behaviour_form, start_form, post_form, failure_form, entry_form, printed}
+use Rattle.tau_forms.specs.Printed.{code_form, behaviour_form, start_form, post_form, failure_form, entry_form, printed}
 use Rattle.tau_forms.proofs.ReadBackExpressions.{Fits, IsRead, depth_of-form, form_words, read}
 use Rattle.tau_forms.proofs.ReadBackFaults.{clean_more}
 use Rattle.tau_forms.proofs.ReadBackTops.{defined_after-append, count_of-append, all_counted, none_counted, defined_quiet, defined_names, kept, dropped, tops_clean-append, tops_clean, named_clean, nodes_clean, behaviour_clean, start_clean, post_clean, entry_clean}
-use Rattle.tau_forms.proofs.ReadBackWords.{name_nonempty, decimal_filled, count_of-decimal, is_count_in-decimal, IsNameAt, name_at}
+use Rattle.tau_forms.proofs.ReadBackWords.{name_filled, count_of-decimal, is_count_in-decimal, IsNameAt, name_at}
 use Rattle.tau_forms.proofs.SoundTops.{start_none, post_none, entry_none}
 
 sum_first : {a b c d n : ℕ} → a ≡ n → b ≡ 0 → c ≡ 0 → d ≡ 0 → a + b + c + d ≡ n
@@ -335,9 +334,6 @@ module _ (p : Program) (sound : Sound p) (fitting : IsFitting p) where
       omega (arith, depths-append (behaviour_lists ++ start_lists ++ post_lists) entry_lists, depths-append (behaviour_lists ++ start_lists) post_lists, depths-append behaviour_lists start_lists, a, b, c, e)
 
   -- no word in them is empty
-  name_filled : (names : List (List ℕ)) (n : ℕ) → IsNameAt names n → HasWords (name_of names n)
-  name_filled names n w = rw w.is (name_nonempty w.name w.named)
-
   pub words_printed : All HasWords (printed p)
   words_printed =
       let a : All HasWords behaviour_lists = All-map HasWords as_behaviour p.behaviours (λ k d lt. (λ e. cc, (name_nonempty (get_or p.behaviours k d).name (each_behaviour k d lt).named, (form_words tb behaviours_are starts_are (get_or p.behaviours k d).body (each_fits k d lt), tt)))) in

@@ -1,18 +1,18 @@
 -- The words that names and numbers are printed as.
-use Rattle.std.proofs.Common.{◌≡◌, ◌≢◌, ℕ, ◌+◌, ◌^◌, ◌<◌, ◌≤◌, ℤ, pos, negsuc, Bool, true, false, cond, ◌&&◌, ◌||◌, not, nat_le, nat_lt, List, [], ◌∷◌, length, get_or, Option, Some, None, option_map, option_and_then, is_some, unwrap_or, slice_get, refl, sym, ap, subst, ◌∙◌, ⊎_elim, arith, codes}
+use Rattle.std.proofs.Common.{◌≡◌, ◌≢◌, ℕ, ◌^◌, ◌<◌, ◌≤◌, ℤ, Bool, true, false, cond, ◌&&◌, ◌||◌, not, nat_le, nat_lt, List, [], ◌∷◌, length, get_or, Option, Some, None, is_some, unwrap_or, slice_get, refl, ap, subst, ◌∙◌, ⊎_elim, arith, codes}
 use Rattle.std.specs.Fmt.{decimal, signed_decimal}
-use Rattle.std.specs.List.{list_all, list_any}
+use Rattle.std.specs.List.{list_all}
 use Rattle.std.specs.Option.{option_map_or}
 use Rattle.std.specs.Str.{bytes_eq, all_ascii_digits}
-use Rattle.std.proofs.lemmas.Bool.{ne_eqb, leb-true, le-leb, lt-ltb, and_parts, and_from, or_parts, or_left, or_right, not-true}
-use Rattle.std.proofs.lemmas.Fmt.{decimal_nonempty}
+use Rattle.std.proofs.lemmas.Bool.{ne_eqb, le-leb, lt-ltb, and_parts, and_from, or_parts, or_right, not-true}
 use Rattle.std.proofs.lemmas.Option.{slice_get_cases}
 use Rattle.std.proofs.lemmas.Str.Parse.{tells_all_ascii_digits}
-use Rattle.tau_value.specs.Names.{is_small_letter, is_name_byte, is_reserved, is_name, IsName, AreNames, place_of}
-use Rattle.tau_value.specs.Numbers.{count_in, number_in, in_i64, integer_in}
+use Rattle.tau_value.specs.Names.{is_small_letter, is_name_byte, is_reserved, IsName, AreNames}
+use Rattle.tau_value.specs.Numbers.{in_i64, integer_in}
 use Rattle.tau_value.proofs.NameLemmas.{place_of-at}
-use Rattle.tau_value.proofs.NumberLemmas.{decimal_digits, count_in-decimal, integer_in-decimal, pos_fits}
-use Rattle.tau_tree.specs.Code.{Code, unit, truth, int, msg, own, var}
+use Rattle.tau_value.proofs.NumberLemmas.{count_in-decimal, integer_in-decimal}
+use Rattle.tau_value.proofs.WrittenLemmas.{name_first, signed_first, name_nonempty}
+use Rattle.tau_tree.specs.Code.{unit, truth, int, msg, own, var}
 use Rattle.tau_forms.specs.Tops.{has, is_count_in}
 use Rattle.tau_forms.specs.Faults.{is_constant}
 use Rattle.tau_forms.specs.Meaning.{number_of, count_of, word_code}
@@ -26,17 +26,7 @@ record NameParts (w : List ℕ) : Type 0 where
 name_parts : (w : List ℕ) → IsName w → NameParts w
 name_parts w h =
     let all = and_parts (nat_le (length w) 64 && is_small_letter (get_or w 0 0) && list_all is_name_byte w) (not (is_reserved w)) h in
-    let begins = and_parts (nat_le (length w) 64 && is_small_letter (get_or w 0 0)) (list_all is_name_byte w) all.0 in
-    let letter = and_parts (nat_le (length w) 64) (is_small_letter (get_or w 0 0)) begins.0 in
-    let low = and_parts (nat_le 97 (get_or w 0 0)) (nat_le (get_or w 0 0) 122) letter.1 in
-    record { first = leb-true 97 (get_or w 0 0) low.0; free = not-true (is_reserved w) all.1 }
-
-pub nonempty : (w : List ℕ) → 0 < length w → w ≢ []
-nonempty [] h e = omega arith
-nonempty (c ∷ cs) h e = cc
-
-pub name_nonempty : (w : List ℕ) → IsName w → w ≢ []
-name_nonempty w named e = omega (arith, (name_parts w named).first, ap (λ v. get_or v 0 0) e)
+    record { first = name_first w h; free = not-true (is_reserved w) all.1 }
 
 -- a name is no number
 letters : (c : ℕ) (cs : List ℕ) → 97 ≤ c → all_ascii_digits (c ∷ cs) ≡ false
@@ -79,14 +69,6 @@ word_code-name w named =
     code_by w (bytes_eq w (codes "unit")) (bytes_eq w (codes "true")) (bytes_eq w (codes "false")) (bytes_eq w (codes "msg")) (bytes_eq w (codes "self")) (integer_in w) free.no_unit free.no_true free.no_false free.no_msg free.no_self ∙ ap (λ o. option_map_or int o (var w)) (integer_in-name w parts.first)
 
 -- a word that is a number
-digits_first : (ds : List ℕ) → all_ascii_digits ds ≡ true → get_or ds 0 0 ≤ 57
-digits_first [] h = omega arith
-digits_first (c ∷ cs) h = (tells_all_ascii_digits.parts c cs h).0.1
-
-signed_first : (z : ℤ) → in_i64 z ≡ Some z → get_or (signed_decimal z) 0 0 ≤ 57
-signed_first (pos n) fits = digits_first (decimal n) (decimal_digits n (pos_fits n fits))
-signed_first (negsuc n) fits = omega arith
-
 word_code-number : (w : List ℕ) → get_or w 0 0 ≤ 57 → word_code w ≡ option_map_or int (integer_in w) (var w)
 word_code-number [] h = refl
 word_code-number (c ∷ cs) h =
@@ -100,13 +82,6 @@ pub is_constant-integer : (z : ℤ) → in_i64 z ≡ Some z → is_constant (sig
 is_constant-integer z fits =
     let w = signed_decimal z in
     or_right (bytes_eq w (codes "unit") || bytes_eq w (codes "true") || bytes_eq w (codes "false") || bytes_eq w (codes "msg") || bytes_eq w (codes "self")) (is_some (integer_in w)) (ap is_some (integer_in-decimal z fits))
-
-pub signed_nonempty : (z : ℤ) → in_i64 z ≡ Some z → signed_decimal z ≢ []
-signed_nonempty (pos n) fits = nonempty (decimal n) (decimal_nonempty n (pos_fits n fits))
-signed_nonempty (negsuc n) fits = λ e. cc
-
-pub decimal_filled : (n : ℕ) → n < 2 ^ 64 → decimal n ≢ []
-decimal_filled n small = nonempty (decimal n) (decimal_nonempty n small)
 
 -- a count
 pub count_of-decimal : (n : ℕ) → n < 2 ^ 64 → count_of (decimal n) ≡ n
@@ -138,3 +113,6 @@ name_at names n are lt = ⊎_elim start other (slice_get_cases names n).1
 
     other : (length names ≤ n) × (slice_get names n ≡ None) → IsNameAt names n
     other (le, e) = absurd (omega arith)
+
+pub name_filled : (names : List (List ℕ)) (n : ℕ) → IsNameAt names n → unwrap_or (slice_get names n) [] ≢ []
+name_filled names n w = rw w.is (name_nonempty w.name w.named)

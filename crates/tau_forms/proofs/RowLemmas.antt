@@ -1,8 +1,8 @@
 -- What is wanted of the items of lists.
-use Rattle.std.proofs.Common.{◌≡◌, ◌≢◌, ℕ, ◌+◌, ◌<◌, ◌≤◌, ◌^◌, Bool, true, false, cond, nat_le, List, [], ◌∷◌, ◌++◌, length, get_or, take, drop, map, Option, Some, None, option_map, is_some, zero, suc, refl, sym, ap, subst, ◌∙◌, add-one, arith}
+use Rattle.std.proofs.Common.{◌≡◌, ◌≢◌, ℕ, ◌+◌, ◌≤◌, Bool, true, false, cond, List, [], ◌∷◌, ◌++◌, length, get_or, take, drop, map, Some, None, zero, suc, refl, sym, ap, subst, ◌∙◌, add-one, arith}
 use Rattle.std.proofs.Math.Seq.{drop-nil}
 use Rattle.tau_sexpr.specs.Form.{tree_of}
-use Rattle.tau_sexpr.specs.Tree.{Tree, Trees, word, text, list, none, more, inside}
+use Rattle.tau_sexpr.specs.Tree.{Tree, Trees, word, none, more, inside}
 use Rattle.tau_sexpr.specs.declared.trees.Form.{Form}
 use Rattle.tau_forms.specs.declared.keywords.FailureWord.{FailureWord}
 use Rattle.tau_forms.specs.declared.keywords.FailureWord.TheVariants as failures
@@ -12,8 +12,8 @@ use Rattle.tau_forms.specs.declared.tables.Tables.{Tables}
 use Rattle.tau_forms.specs.declared.wanted.Wanted.{Wanted}
 use Rattle.tau_forms.specs.declared.wanted.Wanted.TheVariants as wanteds
 use Rattle.tau_forms.specs.Keywords.{keyword_in, failure_in}
-use Rattle.tau_forms.specs.Inner.Passing.{is_headed, roles_along, bound_by}
-use Rattle.tau_forms.specs.Roles.{Role, top, first, known, fresh, count, failure, value, expression, two_names, row, every, count_of, word_of, words_of, names_in, with_first, failure_items, has_items, expression_items, parts_of}
+use Rattle.tau_forms.specs.Inner.Passing.{roles_along, bound_by}
+use Rattle.tau_forms.specs.Roles.{Role, first, known, fresh, count, failure, value, expression, two_names, row, every, count_of, word_of, words_of, with_first, failure_items, has_items, expression_items, parts_of}
 use Rattle.tau_forms.specs.Inner.Wanted.{role_of}
 
 pub count_of-inside : (fs : List Form) → count_of (inside (map tree_of fs)) ≡ length fs
@@ -25,25 +25,6 @@ pub roles_step : (ws : List Wanted) (rest : Wanted) (k : ℕ) (t : Tree) (ts : T
 roles_step [] rest k t ts = rw (drop-nil {A = Wanted} k, drop-nil {A = Wanted} (k + 1)) refl
 roles_step (w ∷ ws) rest zero t ts = refl
 roles_step (w ∷ ws) rest (suc k) t ts = rw (add-one (suc k)) (subst (λ n. roles_along (drop k ws) rest (more t ts) ≡ role_of (get_or ws k rest) ∷ roles_along (drop n ws) rest ts) (add-one k) (roles_step ws rest k t ts))
-
--- a list that doesn't begin with a word
-pub no_head_failure : (tb : Tables) (ts : Trees) → is_headed ts ≡ false → row tb failure ts ≡ None
-no_head_failure tb none h = refl
-no_head_failure tb (more (word w) ts) h = cc
-no_head_failure tb (more (text t) ts) h = refl
-no_head_failure tb (more (list us) ts) h = refl
-
-pub no_head_expression : (tb : Tables) (scope : List (List ℕ)) (ts : Trees) → is_headed ts ≡ false → row tb (expression scope) ts ≡ None
-no_head_expression tb scope none h = refl
-no_head_expression tb scope (more (word w) ts) h = cc
-no_head_expression tb scope (more (text t) ts) h = refl
-no_head_expression tb scope (more (list us) ts) h = refl
-
-pub no_head_top : (tb : Tables) (before : List Tree) (ts : Trees) → is_headed ts ≡ false → row tb (top before) ts ≡ None
-no_head_top tb before none h = refl
-no_head_top tb before (more (word w) ts) h = cc
-no_head_top tb before (more (text t) ts) h = refl
-no_head_top tb before (more (list us) ts) h = refl
 
 -- failures have one item behind their word
 pub failure_long : (tb : Tables) (f : FailureWord) (ts : Trees) → count_of ts ≢ 1 → failure_items tb f ts ≡ None
@@ -60,12 +41,6 @@ pub one_item : (ts : Trees) → count_of ts ≡ 1 → (t : Tree) × (ts ≡ more
 one_item none h = cc
 one_item (more t none) h = (t, refl)
 one_item (more t (more u us)) h = absurd (omega arith)
-
-pub two_items : (ts : Trees) → count_of ts ≡ 2 → (t u : Tree) × (ts ≡ more t (more u none))
-two_items none h = cc
-two_items (more t none) h = absurd (omega arith)
-two_items (more t (more u none)) h = (t, u, refl)
-two_items (more t (more u (more v us))) h = absurd (omega arith)
 
 -- items that all have one role
 roles_rest : (p : Wanted) (ts : Trees) → roles_along [] p ts ≡ every (role_of p) ts

@@ -1,15 +1,15 @@
 -- What a list at the top without a fault gives to a program.
-use Rattle.std.proofs.Common.{◌≡◌, ℕ, ◌+◌, ◌^◌, ◌<◌, ◌≤◌, Bool, true, false, cond, ◌&&◌, nat_le, nat_lt, List, [], ◌∷◌, ◌++◌, length, Option, Some, None, is_some, unwrap_or, refl, sym, ap, ap₂, subst, ◌∙◌, arith}
+use Rattle.std.proofs.Common.{◌≡◌, ℕ, ◌+◌, ◌^◌, ◌<◌, ◌≤◌, Bool, true, false, cond, ◌&&◌, nat_le, nat_lt, List, [], ◌∷◌, ◌++◌, length, Option, Some, None, is_some, unwrap_or, refl, sym, ap, subst, ◌∙◌, arith}
 use Rattle.std.specs.Option.{option_map_or, IfSome}
-use Rattle.std.proofs.lemmas.Bool.{false≢true, leb-true, leb-false, ltb-true, and_parts}
+use Rattle.std.proofs.lemmas.Bool.{false≢true, ltb-true, and_parts}
 use Rattle.tau_sexpr.specs.Tree.{Tree, Trees, word, text, list, none, more, depth_of}
 use Rattle.tau_value.specs.Val.{Val}
-use Rattle.tau_value.specs.Names.{is_name, IsName}
+use Rattle.tau_value.specs.Names.{IsName}
 use Rattle.tau_value.specs.Numbers.{count_in}
-use Rattle.tau_value.specs.Sizes.{parts_of, levels_of, IsInBounds, NamesBelow}
+use Rattle.tau_value.specs.Sizes.{IsInBounds, NamesBelow}
 use Rattle.tau_value.specs.Meaning.{counted}
 use Rattle.tau_value.specs.Meaning as values
-use Rattle.tau_value.proofs.MeaningLemmas.{counted-names_below}
+use Rattle.tau_value.proofs.MeaningLemmas.{counted-names_below, bounded_from}
 use Rattle.tau_tree.specs.Behaviour.{NamedCode}
 use Rattle.tau_tree.specs.Checks.{IsSoundBehaviour}
 use Rattle.tau_tree.specs.Sound.{FailsBelow}
@@ -22,7 +22,7 @@ use Rattle.tau_forms.specs.declared.tables.Tables.{Tables}
 use Rattle.tau_forms.specs.Keywords.{sort_in, failure_in}
 use Rattle.tau_forms.specs.Tops.{sort_of, is_behaviour, is_start, is_post, is_entry, has, name_in, named_by, with_name, is_count_in, behaviours_of, starts_of}
 use Rattle.tau_forms.specs.Roles.{Role, top, first, known, fresh, count, failure, value, expression, top_items, top_first, with_first, failure_items, row}
-use Rattle.tau_forms.specs.Faults.{Fault, shape, unless, FaultAt, FaultIn, IsClean}
+use Rattle.tau_forms.specs.Faults.{shape, unless, FaultAt, FaultIn, IsClean}
 use Rattle.tau_forms.specs.Meaning.{number_of, count_of, code_in, PlainStart, PlainPost, where_true, behaviour_in, start_in, post_in, failure_of, entry_of, entry_in}
 use Rattle.tau_forms.proofs.SoundExpressions.{regular}
 use Rattle.tau_forms.proofs.SoundFaults.{own_clean, items_clean, head_clean, tail_clean, value_clean, passes, IsKnown, known_clean, IsFresh, fresh_clean, number_of-lt}
@@ -73,17 +73,6 @@ pub entry_none : (t : Tree) → is_entry (sort_of t) ≡ false → entry_in t �
 entry_none (list (more (word h) (more (word p) (more (list (more (word g) (more (word n) none))) none)))) f =
     ap (λ x. cond x (entry_of (count_of p) (failure_of (failure_in g) (count_of n))) None) f
 entry_none t f = refl
-
-bounded_from : (v : Val) → ¬ ¬ IsInBounds v → IsInBounds v
-bounded_from v within = (small (nat_le (parts_of v) 65536) refl, shallow (nat_le (levels_of v) 64) refl)
-  where
-    small : (b : Bool) → nat_le (parts_of v) 65536 ≡ b → parts_of v ≤ 65536
-    small true e = leb-true (parts_of v) 65536 e
-    small false e = absurd (within (λ h. let above = leb-false (parts_of v) 65536 e in omega (arith, h.0)))
-
-    shallow : (b : Bool) → nat_le (levels_of v) 64 ≡ b → levels_of v ≤ 64
-    shallow true e = leb-true (levels_of v) 64 e
-    shallow false e = absurd (within (λ h. let above = leb-false (levels_of v) 64 e in omega (arith, h.1)))
 
 abbrev made_start : Tables → List ℕ → List ℕ → List ℕ → Tree → PlainStart
 made_start tb n b c v =

@@ -1,5 +1,5 @@
 -- The forms at the top: what is wanted of their items, and their faults one after another.
-use Rattle.std.proofs.Common.{◌≡◌, ◌≢◌, ℕ, zero, suc, ◌+◌, ◌-◌, ◌<◌, ◌≤◌, ◌^◌, ◌==◌, Bool, true, false, not, cond, is_some, List, [], ◌∷◌, ◌++◌, length, get_or, take, drop, map, Option, Some, None, option_map, Result, Ok, Err, refl, sym, ap, subst, ◌∙◌, arith}
+use Rattle.std.proofs.Common.{◌≡◌, ◌≢◌, ℕ, zero, suc, ◌+◌, ◌-◌, ◌<◌, ◌≤◌, true, false, List, [], ◌∷◌, ◌++◌, length, get_or, take, drop, map, Option, Some, None, Result, Err, refl, sym, ap, subst, ◌∙◌, arith}
 use Rattle.std.proofs.lemmas.List.{map_more}
 use Rattle.tau_sexpr.specs.Form.{tree_of}
 use Rattle.tau_sexpr.specs.Tree.{Tree, Trees, word, text, list, none, more, inside, size_of, size_of_all, sizes, size_of_all-inside}
@@ -14,12 +14,12 @@ use Rattle.tau_forms.specs.declared.wanted.FaultKind.TheVariants as kinds
 use Rattle.tau_forms.specs.Inner.Defined.{nodes_told}
 use Rattle.tau_forms.specs.Faults.{Fault, shape, unknown, twice, FaultAt, FaultIn, tops_after, ProgramFaultAt, in_top, no_nodes, IsClean, IsFirst}
 use Rattle.tau_forms.specs.Keywords.{sort_in}
-use Rattle.tau_forms.specs.Inner.Passing.{TellsFault, Passes, has_top_items, nodes_first}
-use Rattle.tau_forms.specs.Roles.{Role, top, first, mark, value, row, top_items, top_first, with_first, count_of}
-use Rattle.tau_forms.specs.Tops.{is_nodes, nodes_in, nodes_of, tables_of}
+use Rattle.tau_forms.specs.Inner.Passing.{TellsFault, has_top_items, nodes_first}
+use Rattle.tau_forms.specs.Roles.{top, first, row, top_items, top_first, with_first, count_of}
+use Rattle.tau_forms.specs.Tops.{is_nodes, nodes_of, tables_of}
 use Rattle.tau_forms.proofs.DefinedLemmas.{nodes_in_list}
 use Rattle.tau_forms.proofs.ListLemmas.{drop_item, left, left_item, left_all}
-use Rattle.tau_forms.proofs.PassLemmas.{Shift, shift_none, shift_both, shift_clean, shift_tells, item_shift, item_tells, no_items_clean, faults_within, word_passes, text_passes}
+use Rattle.tau_forms.proofs.PassLemmas.{Shift, shift_both, shift_clean, shift_tells, item_shift, item_tells, no_items_clean, faults_within, word_passes, text_passes}
 
 -- a list with a wrong number of items
 pub top_items_none : (tb : Tables) (before : List Tree) (s : Sort) (ts : Trees) → has_top_items s (count_of ts) ≡ false → top_items tb before s ts ≡ None
@@ -81,9 +81,6 @@ FaultFrom tb fs k = FaultIn tb (tops_after (map tree_of (take k fs)) (map tree_o
 pub record TopsReached (tb : Tables) (fs : List Form) (k node : ℕ) : Type 0 where
   pub passed : node + size_of_all (left fs k) ≡ size_of_all (left fs 0)
   pub shift : Shift (FaultFrom tb fs 0) (FaultFrom tb fs k) node
-
-pub tops_start : (tb : Tables) (fs : List Form) → TopsReached tb fs 0 0
-tops_start tb fs = record { passed = omega arith; shift = shift_none (FaultFrom tb fs 0) }
 
 -- the faults from the k-th form on are those of this form and those behind it
 from_item : (tb : Tables) (fs : List Form) (k : ℕ) (f : Form) → k < length fs → f ≡ get_or fs k f → FaultFrom tb fs k ≡ FaultIn tb (top (map tree_of (take k fs)) ∷ tops_after (map tree_of (take (k + 1) fs)) (map tree_of (drop (k + 1) fs))) (more (tree_of f) (left fs (k + 1)))
