@@ -137,11 +137,6 @@ rows_option : (c : List Rule) (again : Bool) (a : Rule) (v : Option Text) (h : H
 rows_option c again a (Some v) h owns own e k = rows_reacted c again a (v ∷ []) h owns own e k
 rows_option c again a None h owns own e k = rows_settled c again h owns e k
 
-rows_flag : (c : List Rule) (again : Bool) (a : Rule) (v : Option Text) (h : Held) (kinds : Kinds) → Owns c → IsOwn c a → (v ≡ None → kinds ≡ [] → react_fault c again a [] h ≡ []) → kinds ≡ []
-    → RowsPass c h.rows → RowsPass c (flag_met c a v h).0.rows
-rows_flag c again a (Some v) h kinds owns own f e k = k
-rows_flag c again a None h kinds owns own f e k = rows_reacted c again a [] h owns own (f refl e) k
-
 rows_long_at : (c : List Rule) (again b : Bool) (a : Rule) (v : Option Text) (h : Held) (refusal : Kinds) → Owns c → IsOwn c a
     → cond b (option_fault c again a v h) (cond (is_some v) refusal (react_fault c again a [] h)) ≡ [] → RowsPass c h.rows → RowsPass c (cond b (option_met c a v h) (flag_met c a v h)).0.rows
 rows_long_at c again true a v h refusal owns own e k = rows_option c again a v h owns own e k

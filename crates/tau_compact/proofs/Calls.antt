@@ -1,15 +1,14 @@
 -- Calls of a pruned view that need not go over all that is stored.
-use Rattle.std.proofs.Common.{◌≡◌, ◌≢◌, ◌⊎◌, inl, inr, ⊎_elim, Bool, true, false, not, ◌&&◌, ◌||◌, IsTrue, refl, sym, ap, ◌∙◌, subst}
-use Rattle.tau_history.specs.declared.fate.Fate.{Fate}
+use Rattle.std.proofs.Common.{◌≡◌, ◌≢◌, ◌⊎◌, inl, inr, ⊎_elim, Bool, true, false, not, ◌&&◌, ◌||◌, IsTrue, refl, sym, ap, ◌∙◌}
 use Rattle.tau_history.specs.declared.fate.Fate.TheVariants.{Closed, Fallen}
 use Rattle.tau_points.specs.declared.point.Point.{Point}
-use Rattle.tau_view.specs.Held.{Held, Points, fate_in, is_closed, same_point}
+use Rattle.tau_view.specs.Held.{Held, Points, fate_in, same_point}
 use Rattle.tau_view.specs.Edges.{edges_to}
 use Rattle.tau_view.specs.Rules.{touched, depended, with_roots}
 use Rattle.tau_view.specs.Trim.{unless, roots_kept, trim}
 use Rattle.tau_view.specs.Stored.{Stored, held}
 use Rattle.tau_view.proofs.Sets.{is_same, and_left, and_right}
-use Rattle.tau_compact.specs.Pruning.{drops_between, prunes_edge, prunes_root, IsPruned}
+use Rattle.tau_compact.specs.Pruning.{prunes_edge, prunes_root, IsPruned}
 use Rattle.tau_compact.specs.PruningLaws.{closed_of, of_closed, sides, of_sides}
 
 abbrev pub pruned : Held → Held
@@ -64,12 +63,6 @@ module _ (v : Held) (e : v ≡ pruned v) where
       cc
 
   module _ (p : Point) where
-    pub touch_closed : fate_in v.history p ≡ Closed → v ≡ pruned (touched p v)
-    touch_closed c = λ i. record {
-      history = v.history;
-      edge = λ x y. edge_here x y i;
-      root = λ q. drop_new (prunes_root v.history q) (v.root q) (same_point q p) (root_here q) (λ s. of_closed (fate_in v.history q) (ap (fate_in v.history) (is_same q p s) ∙ c)) i;
-    }
 
     pub touch_live : fate_in v.history p ≢ Closed → touched p v ≡ pruned (touched p v)
     touch_live n = λ i. record {

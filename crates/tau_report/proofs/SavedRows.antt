@@ -1,15 +1,11 @@
 -- The forms of saved states, transactor by transactor.
-use Rattle.std.proofs.Common.{◌≡◌, ◌≢◌, ⊎_elim, ℕ, suc, ◌^◌, ◌<◌, ◌≤◌, Bool, true, false, cond, ltb, List, [], ◌∷◌, ◌++◌, length, append-nil, get_or, All, Some, None, unwrap_or, refl, sym, ap, ◌∙◌, subst, arith, eqb-true, eq-eqb}
+use Rattle.std.proofs.Common.{◌≡◌, ◌≢◌, ℕ, suc, ◌^◌, ◌<◌, Bool, true, false, cond, ltb, List, [], ◌∷◌, ◌++◌, length, append-nil, All, Some, refl, sym, ap, ◌∙◌, subst, arith, eqb-true, eq-eqb}
 use Rattle.std.specs.Prelude.{slice_get, codes, ◌||◌, ◌==◌}
-use Rattle.std.specs.Fmt.{decimal}
-use Rattle.std.proofs.lemmas.Fmt.{decimal_nonempty}
-use Rattle.std.proofs.lemmas.Option.{slice_get_cases}
 use Rattle.std.proofs.lemmas.List.Elements.{All-nil, All-cons, All-append, All-map}
 use Rattle.tau_sexpr.specs.Tree.{Tree, depths-append, HasWords}
 use Rattle.tau_value.specs.Value.{val_of}
-use Rattle.tau_value.specs.Names.{IsName, AreNames}
 use Rattle.tau_value.specs.Sizes.{IsInBounds}
-use Rattle.tau_value.specs.Written.{name_written}
+use Rattle.tau_value.proofs.WrittenLemmas.{number_nonempty, decimal_filled}
 use Rattle.tau_history.specs.Timeline.{interval}
 use Rattle.tau_tree.specs.declared.programs.Program.{Program}
 use Rattle.tau_tree.specs.Sound.{Sound}
@@ -28,30 +24,12 @@ use Rattle.tau_states.specs.Table.{Holds}
 use Rattle.tau_states.specs.Answers.{IsSavedAfter}
 use Rattle.tau_states.proofs.Reading as reading
 use Rattle.tau_states.proofs.Bounds.{saved_bounded}
+use Rattle.tau_states.proofs.Tables.{one_at_most}
 use Rattle.tau_report.specs.declared.counts.Counts.{Counts}
 use Rattle.tau_report.specs.Report.{HasSaved, IsSavedForm, SavedForms, none, without, with_one, count_of, IsReport}
 use Rattle.tau_report.specs.Inner.Rows.{saved_form, is_unlisted, saved_row, IsRowWritten, counts_tree, ArePrintable, AreRows}
 use Rattle.tau_report.specs.Inner.Counted.{IsSurvey}
 use Rattle.tau_report.proofs.Counting.{counts_fit}
-
--- words
-name_nonempty : (w : List ℕ) → IsName w → w ≢ []
-name_nonempty w named e = let h = subst IsName e named in cc
-
-decimal_word : (n : ℕ) → n < 2 ^ 64 → decimal n ≢ []
-decimal_word n small e = omega (arith, decimal_nonempty n small, ap length e)
-
-name_word : (names : List (List ℕ)) (n : ℕ) → AreNames names → n < 2 ^ 64 → name_written names n ≢ []
-name_word names n are small = ⊎_elim start other (slice_get_cases names n).1 where
-  start : (w : List ℕ) × (n < length names) × (slice_get names n ≡ Some w) × (get_or names n w ≡ w) → name_written names n ≢ []
-  start (w, lt, e, is) f = name_nonempty w (subst IsName is (are.named n w lt)) (ap (λ o. unwrap_or o (decimal n)) (sym e) ∙ f)
-
-  other : (length names ≤ n) × (slice_get names n ≡ None) → name_written names n ≢ []
-  other (le, e) f = decimal_word n small (ap (λ o. unwrap_or o (decimal n)) (sym e) ∙ f)
-
-one_at_most : (b : Bool) → cond b 1 0 ≤ 1
-one_at_most true = omega arith
-one_at_most false = omega arith
 
 few_intervals : (T : Run) (t : ℕ) → WellFormed T → interval (history T t (len T)) < 2 ^ 64
 few_intervals T t w = omega (arith, (counted T t (len T)).interval_is, count-le (λ j. is_close (move_at T t j)) (len T), one_at_most (ltb t (starts T)), w.few_steps)
@@ -104,7 +82,7 @@ module _ (P : Program) (T : Run) (rs : List StateRecord) (h : Holds T (opening_s
         let is : IsWritten T.opening.names r.base = written u in
         let form = saved_form T.opening t r.interval r.base in
         let small = saved_bounded T (opening_states P.starts) w bounded t (saved_value u).0 r.base (saved_value u).3 in
-        let words : HasWords (saved_form T.opening t r.interval r.base) = ((λ x. cc), (name_word T.opening.names t w.opening.names (few_transactors T t w (saved_value u).1), (decimal_word r.interval (omega (arith, few_intervals T t w, (h.each t r (sym e)).interval)), (is.words, tt)))) in
+        let words : HasWords (saved_form T.opening t r.interval r.base) = ((λ x. cc), (number_nonempty T.opening.names t w.opening.names (few_transactors T t w (saved_value u).1), (decimal_filled r.interval (omega (arith, few_intervals T t w, (h.each t r (sym e)).interval)), (is.words, tt)))) in
         record {
           depth = omega (arith, depths-append fs (saved_form T.opening t r.interval r.base ∷ []), p.depth, is.depth, small.1);
           words = All-append HasWords fs (form ∷ []) p.words (All-cons HasWords form [] words (All-nil HasWords));
@@ -122,7 +100,7 @@ rows_more o rs t r fs e written rows P T w same bounded h =
 counts_words : (c : Counts) → c.checkpoints < 2 ^ 64 → c.holds < 2 ^ 64 → c.drops < 2 ^ 64 → c.falls < 2 ^ 64 → c.losses < 2 ^ 64 → HasWords (counts_tree c)
 counts_words c a b d f l = ((λ x. cc), (one (codes "checkpoints") c.checkpoints (λ x. cc) a, (one (codes "holds") c.holds (λ x. cc) b, (one (codes "drops") c.drops (λ x. cc) d, (one (codes "falls") c.falls (λ x. cc) f, (one (codes "losses") c.losses (λ x. cc) l, tt)))))) where
   one : (name : List ℕ) (n : ℕ) → name ≢ [] → n < 2 ^ 64 → HasWords (count_of name n)
-  one name n not small = (not, (decimal_word n small, tt))
+  one name n not small = (not, (decimal_filled n small, tt))
 
 pub counts_printable : (fs : List Tree) (c : Counts) → c.checkpoints < 2 ^ 64 → c.holds < 2 ^ 64 → c.drops < 2 ^ 64 → c.falls < 2 ^ 64 → c.losses < 2 ^ 64 → ArePrintable fs → ArePrintable (fs ++ counts_tree c ∷ [])
 counts_printable fs c a b d f l p = record {

@@ -1,11 +1,10 @@
 -- The turn from a place: whose it is, whether it is open, and where it ended.
-use Rattle.std.proofs.Common.{◌≡◌, ◌⊎◌, ⊎_elim, ℕ, ◌<◌, Some, None, refl, sym, ◌∙◌, subst, arith}
+use Rattle.std.proofs.Common.{◌≡◌, ◌⊎◌, ⊎_elim, ℕ, ◌<◌, Some, None, refl, arith}
 use Rattle.std.specs.Prelude.{◌||◌}
 use Rattle.tau_trace.specs.declared.step.Step.TheVariants.{Take}
 use Rattle.tau_trace.specs.Steps.{ends_turn, is_take}
 use Rattle.tau_trace.specs.Run.{Run, Does, step_at, len}
 use Rattle.tau_trace.specs.Turns.{Turn, IsOpenTurn}
-use Rattle.tau_trace.proofs.Lists.{same_some}
 use Rattle.tau_legal.proofs.TraceLemmas.{below_length}
 use Rattle.tau_rules.specs.Answers.{NoTurnFrom, IsTurnEnd, ended}
 use Rattle.tau_rules.specs.Inner.Acting.{IsTaker}
@@ -31,17 +30,6 @@ one_open_turn T t k p q m n u v = ⊎_elim
 -- the turn that is open is the one from a place, exactly where both are the same
 pub open_is : (T : Run) (t k p q : ℕ) → IsOpenTurn T t k (Some p) → IsOpenTurn T t k (Some q) → p ≡ q
 open_is T t k p q u v = one_open_turn T t k p q u.0 v.0 u.1 v.1
-
-same_transactor : (t u m n : ℕ) → Take t m ≡ Take u n → t ≡ u
-same_transactor t u m n e = cc
-
--- a turn is that of the transactor of its Take
-pub turn_of_taker : (T : Run) (t u k place m : ℕ) → IsTaker T place (Some t) → Turn T u k place m → u ≡ t
-turn_of_taker T t u k place m taker h = same_transactor u t m taker.0 (same_some (sym h.takes ∙ taker.1))
-
--- where the turn of the transactor of the Take isn't open, none from that place is
-pub none_from : (T : Run) (t place : ℕ) → IsTaker T place (Some t) → ¬ IsOpenTurn T t (len T) (Some place) → NoTurnFrom T place
-none_from T t place taker closed u m h = closed (m, subst (λ v. Turn T v (len T) place m) (turn_of_taker T t u (len T) place m taker h) h)
 
 -- and where there is no Take
 pub none_without_take : (T : Run) (place : ℕ) → IsTaker T place None → NoTurnFrom T place

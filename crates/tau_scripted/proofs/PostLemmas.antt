@@ -20,12 +20,6 @@ use Rattle.tau_scripted.specs.ScriptedRun.{IsScripted}
 use Rattle.tau_scripted.proofs.Members.{contains_nothing}
 use Rattle.tau_scripted.proofs.Receivers.{below_or_last}
 
-pub none_posted : (T : Run) (ls : List Letter) → ls ≡ [] → ArePosted T 0 ls
-none_posted T ls e = subst (ArePosted T 0) (sym e) (record {
-  ascending = λ i j d a b. absurd (omega arith);
-  each = λ l. (λ c. absurd (contains_nothing l c), λ h. absurd (omega (arith, h.0)));
-})
-
 pub posted_below : (T : Run) (n : ℕ) (ls : List Letter) → ArePosted T n ls → AllBelow n ls
 posted_below T n ls h k d lt = ((h.each (get_or ls k d)).0 (Contains-get_or ls k d lt)).0
 

@@ -1,6 +1,6 @@
 -- The options of a hand that has the jobs of all open turns are those of the serial run.
-use Rattle.std.proofs.Common.{◌≡◌, ◌≢◌, ◌⊎◌, ◌↔◌, inl, inr, ⊎_elim, ℕ, zero, suc, ◌+◌, ◌%◌, ◌<◌, ◌≤◌, Bool, true, false, not, cond, ◌||◌, eqb, eqb-true, eq-eqb, ltb, lt-ltb, ltb-false, Option, Some, None, List, [], ◌∷◌, ◌++◌, length, get_or, filter, map, refl, sym, ap, ◌∙◌, subst, arith}
-use Rattle.std.specs.List.{All, Contains, AllPairs, list_any}
+use Rattle.std.proofs.Common.{◌≡◌, ◌≢◌, ◌⊎◌, ⊎_elim, ℕ, zero, suc, ◌+◌, ◌%◌, ◌<◌, ◌≤◌, Bool, true, false, cond, ◌||◌, eqb, eqb-true, eq-eqb, ltb-false, Option, Some, None, List, [], ◌∷◌, ◌++◌, length, get_or, map, refl, sym, ap, ◌∙◌, subst, arith}
+use Rattle.std.specs.List.{Contains, AllPairs, list_any}
 use Rattle.std.specs.Prelude.{count_by, nat_lt, slice_get, option_map, if◌then◌else◌}
 use Rattle.std.specs.Option.{option_to_list}
 use Rattle.std.proofs.lemmas.List.{append-nil, length-append, length-map}
@@ -16,9 +16,9 @@ use Rattle.tau_rules.specs.Answers.{IsOpenJob}
 use Rattle.tau_scripted.specs.OpenTurns.{IsOpenFrom, AreOpenTurns}
 use Rattle.tau_scripted.proofs.Members.{contains_nothing, contains_here, contains_there, contains_cases, contains_filter, filter_contains, contains_map, map_contains}
 use Rattle.tau_book.specs.Hands.{Held, is_earlier, is_of, IsNumbered}
-use Rattle.tau_book.specs.Offers.{open_jobs, earliest, without, taken_up, jobs_with, store_without, options}
+use Rattle.tau_book.specs.Offers.{open_jobs, without, taken_up, jobs_with, store_without, options}
 use Rattle.tau_serial.specs.SerialRun.{Choosable, turn, message}
-use Rattle.tau_serial.specs.Inner.Working.{HasJobFrom, AreJobs, AreOtherJobs}
+use Rattle.tau_serial.specs.Inner.Working.{HasJobFrom, AreJobs}
 use Rattle.tau_serial.proofs.Counts.{AreDistinct, count_none, count_map, count_all, same_counts, place_of, ascending_distinct}
 
 -- elements of two lists in a row
@@ -79,10 +79,6 @@ apart_front (x ∷ xs) job back q h c =
 pub apart_back : (front : List jobs.TurnSoFar) (job : jobs.TurnSoFar) (back : List jobs.TurnSoFar) (q : jobs.TurnSoFar) → AreApart (front ++ job ∷ back) → Contains back q → q.place ≢ job.place
 apart_back [] job back q h c = λ same. apart_head job q back h c (sym same)
 apart_back (x ∷ xs) job back q h c = apart_back xs job back q (apart_tail x (xs ++ job ∷ back) h) c
-
--- and they are apart themselves
-without_one : (x : jobs.TurnSoFar) (front back ys : List jobs.TurnSoFar) → AreApart (front ++ back) → All (λ y. x.place ≢ y.place) (front ++ back) → AreApart (x ∷ front ++ back)
-without_one x front back ys rest head = AllPairs-cons (λ a b. a.place ≢ b.place) x (front ++ back) head rest
 
 pub others_in : (front back : List jobs.TurnSoFar) (job q : jobs.TurnSoFar) → Contains (front ++ back) q → Contains (front ++ job ∷ back) q
 others_in front back job q c =

@@ -1,30 +1,29 @@
 -- What one hand over a book keeps, answer by answer.
-use Rattle.std.proofs.Common.{◌≡◌, ◌≢◌, ◌⊎◌, inl, inr, ⊎_elim, ℕ, suc, ◌+◌, ◌%◌, ◌<◌, ◌≤◌, Bool, true, false, IsTrue, Option, Some, None, List, [], ◌∷◌, ◌++◌, length, refl, sym, ap, ◌∙◌, subst, arith}
+use Rattle.std.proofs.Common.{◌≡◌, ◌≢◌, ◌⊎◌, inl, inr, ⊎_elim, ℕ, suc, ◌+◌, ◌%◌, ◌≤◌, Bool, true, false, Option, Some, None, List, [], ◌∷◌, ◌++◌, length, refl, sym, ap, ◌∙◌, subst, arith}
 use Rattle.std.specs.List.{Contains}
 use Rattle.std.specs.Prelude.{slice_get, unwrap_or}
 use Rattle.rand_core.specs.Pcg32Seed.{pcg32_seed}
 use Rattle.rand_pcg.specs.Pcg.{pcg32, pcg32_of_seed}
 use Rattle.std.proofs.lemmas.List.Elements.{Contains-append_left, Contains-append_right, Contains-append_cases}
 use Rattle.tau_tree.specs.declared.programs.Program.{Program}
-use Rattle.tau_value.specs.declared.shared.Value.{Value}
 use Rattle.tau_value.specs.Value.{val_of}
 use Rattle.tau_trace.specs.declared.step.Step.{Step}
 use Rattle.tau_trace.specs.declared.step.Step.TheVariants as steps
-use Rattle.tau_trace.specs.Steps.{actor, ends_turn}
+use Rattle.tau_trace.specs.Steps.{actor}
 use Rattle.tau_trace.specs.Run.{Run, len, appended}
 use Rattle.tau_trace.specs.Known.{WellFormed}
 use Rattle.tau_trace.specs.Turns.{Turn, IsOpenTurn}
 use Rattle.tau_trace.proofs.Indexing.{len-appended}
 use Rattle.tau_trace.proofs.Lists.{same_some}
 use Rattle.tau_script.specs.Openings.{program_opening}
-use Rattle.tau_script.specs.Scripts.{DueStep, NoneDue, HasObject, fails, loses}
+use Rattle.tau_script.specs.Scripts.{HasObject, fails, loses}
 use Rattle.tau_script.proofs.Determined.{one_step}
 use Rattle.tau_script.proofs.Passing.{object}
-use Rattle.tau_legal.specs.Fits.{Fits, IsStepOfTurn}
-use Rattle.tau_legal.specs.Traces.{Legal, Fitting, Complete}
+use Rattle.tau_legal.specs.Fits.{Fits}
+use Rattle.tau_legal.specs.Traces.{Complete}
 use Rattle.tau_eval.specs.Turn as jobs
 use Rattle.tau_rules.specs.System.{Core, with_step}
-use Rattle.tau_rules.specs.Answers.{IsOpenJob, IsStepped, IsActed, IsDelivered}
+use Rattle.tau_rules.specs.Answers.{IsOpenJob, IsStepped, IsDelivered}
 use Rattle.tau_rules.specs.declared.answers.Delivered.{Delivered}
 use Rattle.tau_rules.specs.declared.answers.Delivered.TheVariants.{Began, Dropped, Fell, Voided}
 use Rattle.tau_check.specs.Families.{received_by}
@@ -32,16 +31,15 @@ use Rattle.tau_check.proofs.Turns.{BeginsNone, of_turn_begins_none, earlier, end
 use Rattle.tau_check.proofs.Endings.{legal_fits, last_fits}
 use Rattle.tau_check.proofs.Receipts.{IsByIdle, by_idle}
 use Rattle.tau_check.proofs.TurnSteps.{not_redone, not_stale}
-use Rattle.tau_scripted.specs.OpenTurns.{IsOpenFrom, AreOpenTurns}
 use Rattle.tau_scripted.proofs.Members.{contains_nothing, contains_here, contains_cases}
 use Rattle.tau_book.specs.Hands.{Held, IsNumbered}
-use Rattle.tau_book.specs.Books.{Booked, IsBook, IsAppended, GoesOn, IsAtLimit, IsComplete}
+use Rattle.tau_book.specs.Books.{Booked, IsBook, IsAtLimit, IsComplete}
 use Rattle.tau_book.specs.Offers.{Offer, open_jobs, jobs_with, store_without, options, number_drawn, generator_after}
 use Rattle.tau_book.specs.Nexts.{IsDueMade, IsIdle, IsHandedOut, IsReceived, begun_with}
 use Rattle.tau_book.specs.Tolds.{IsTurnStep as IsTurnMade, goes_on, is_over, IsStale, IsRedoneWith, IsFinished}
 use Rattle.tau_serial.specs.SerialRun.{IsSerialRun, ComesAbout, begins, due, chooses, turn, message, AreOptions, IsReceipt, take, drop, fall, void, of_turn, of_message}
 use Rattle.tau_serial.specs.Inner.Working.{HasJobFrom, AreJobs, AreOtherJobs, IsAtWork, HasChosen, IsSameWork}
-use Rattle.tau_serial.proofs.Chosen.{AreApart, apart_front, apart_back, apart_others, others_in, with_none, store_none, open_apart, are_open, job_from, lengths, numbered, taken, options_of, turn_chosen, message_chosen}
+use Rattle.tau_serial.proofs.Chosen.{AreApart, apart_front, apart_back, apart_others, others_in, with_none, store_none, open_apart, are_open, job_from, lengths, numbered, options_of, turn_chosen, message_chosen}
 use Rattle.tau_serial.proofs.Kept.{jobs_stay, jobs_begun, jobs_ended, jobs_going}
 
 -- a step of the script begins no turn, and its transactor has none open after it
@@ -215,9 +213,6 @@ module _ (seed : ℕ) (old new : Booked) (h k : Held) (job : jobs.TurnSoFar) (wa
   abbrev Q : Program
   Q = old.system.program
 
-  pub not_stopped : ¬ IsAtLimit old
-  not_stopped e = omega (arith, e, x.goes_on.below)
-
   pub not_later : ¬ IsDueMade old new h k
   not_later d =
       let e : None ≡ Some d.step = one_step Q.script U (len U) None (Some d.step) x.goes_on.none_due d.due in
@@ -259,38 +254,9 @@ module _ (seed : ℕ) (old new : Booked) (h k : Held) (job : jobs.TurnSoFar) (wa
   one_more (goes_on tried hand_is) = ap (λ (c : Core). len c.run) tried.acted.1.appended ∙ len-appended U tried.acted.0
   one_more (is_over tried hand_is) = ap (λ (c : Core). len c.run) tried.acted.1.appended ∙ len-appended U tried.acted.0
 
--- program, limit and room stay
-pub same_due : (old new : Booked) (h k : Held) → IsDueMade old new h k → IsSameWork old new h k
-same_due old new h k d = record { program = ap (λ (c : Core). c.program) d.appended.system_is; limit = d.appended.limit_is; size = ap (λ (x : Held). x.size) d.hand_is }
-
-pub same_handed : (old new : Booked) (h k : Held) (job : jobs.TurnSoFar) → IsHandedOut old new h k job → IsSameWork old new h k
-same_handed old new h k job d = record { program = ap (λ (b : Booked). b.system.program) d.book_is; limit = ap (λ (b : Booked). b.limit) d.book_is; size = ap (λ (x : Held). x.size) d.hand_is }
-
-delivered_program : (old new : Core) (m : ℕ) (a : Delivered) → IsDelivered old new m a → new.program ≡ old.program
-delivered_program old new m (Began job) d = ap (λ (c : Core). c.program) d.appended
-delivered_program old new m Dropped d = ap (λ (c : Core). c.program) d.1
-delivered_program old new m Fell d = ap (λ (c : Core). c.program) d.1
-delivered_program old new m Voided d = ap (λ (c : Core). c.program) d.1
-
-pub same_received : (old new : Booked) (h k : Held) → IsReceived old new h k → IsSameWork old new h k
-same_received old new h k r = record { program = delivered_program old.system new.system r.message r.answer r.delivered; limit = r.limit_is; size = ap (λ (x : Held). x.size) r.hand_is }
-
 pub same_made : (old new : Booked) (h k : Held) (job : jobs.TurnSoFar) → IsTurnMade old new h k job → IsSameWork old new h k
 same_made old new h k job (goes_on tried hand_is) = record { program = ap (λ (c : Core). c.program) tried.acted.1.appended; limit = tried.limit_is; size = ap (λ (x : Held). x.size) hand_is }
 same_made old new h k job (is_over tried hand_is) = record { program = ap (λ (c : Core). c.program) tried.acted.1.appended; limit = tried.limit_is; size = ap (λ (x : Held). x.size) hand_is }
-
--- one step more
-delivered_more : (old new : Core) (m : ℕ) (a : Delivered) → IsDelivered old new m a → len new.run ≡ suc (len old.run)
-delivered_more old new m (Began job) d = ap (λ (c : Core). len c.run) d.appended ∙ len-appended old.run (steps.Take job.who m)
-delivered_more old new m Dropped d = ap (λ (c : Core). len c.run) d.1 ∙ len-appended old.run (steps.Drop d.0 m)
-delivered_more old new m Fell d = ap (λ (c : Core). len c.run) d.1 ∙ len-appended old.run (steps.Fall d.0 m)
-delivered_more old new m Voided d = ap (λ (c : Core). len c.run) d.1 ∙ len-appended old.run (steps.Void d.0 m)
-
-pub more_received : (old new : Booked) (h k : Held) → IsReceived old new h k → len new.system.run ≡ suc (len old.system.run)
-more_received old new h k r = delivered_more old.system new.system r.message r.answer r.delivered
-
-pub more_due : (old new : Booked) (h k : Held) → IsDueMade old new h k → len new.system.run ≡ suc (len old.system.run)
-more_due old new h k d = ap (λ (c : Core). len c.run) d.appended.system_is ∙ len-appended old.system.run d.step
 
 -- a hand at the beginning
 pub begins_work : (P : Program) (seed : ℕ) (b : Booked) (h : Held) → b.system.program ≡ P → b.system.run ≡ record { opening = program_opening P; steps = [] } → b.store ≡ []

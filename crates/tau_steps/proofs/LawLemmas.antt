@@ -6,17 +6,17 @@ use Rattle.std.specs.Fmt.{decimal}
 use Rattle.std.proofs.lemmas.Option.{slice_get_cases, slice_get_within, slice_get_past}
 use Rattle.tau_sexpr.specs.Tree.{Tree, Trees, word, text, list, none, more}
 use Rattle.tau_value.specs.Val as val
-use Rattle.tau_value.specs.Val.{Val, items_of-inside}
+use Rattle.tau_value.specs.Val.{Val}
 use Rattle.tau_value.specs.Value.{val_of}
 use Rattle.tau_value.specs.Names.{AreNames, place_of}
 use Rattle.tau_value.specs.Sizes.{IsInBounds}
 use Rattle.tau_value.specs.Meaning.{number_named, counted}
 use Rattle.tau_value.specs.Written.{name_written, count_form}
 use Rattle.tau_value.specs.declared.shared.Value.{Value}
-use Rattle.tau_value.specs.declared.shared.Value.TheVariants as values
 use Rattle.tau_value.proofs.NameLemmas.{place_of-at}
 use Rattle.tau_value.proofs.NumberLemmas.{count_in-decimal}
 use Rattle.tau_value.proofs.WrittenLemmas.{reads_back}
+use Rattle.tau_value.proofs.ValueLemmas.{value_at, value_at-val_of}
 use Rattle.tau_trace.specs.declared.opening.Opening.{Opening}
 use Rattle.tau_trace.specs.declared.step.Step.{Step}
 use Rattle.tau_trace.specs.declared.step.Step.TheVariants.{Take, Drop, Fall, Void, Get, Set, Skip, Send, New, Stabilize, Ask, Checkpoint, Hold, Rollback, Stay, Done, Trap, Fail, Lose}
@@ -26,6 +26,8 @@ use Rattle.tau_trace.specs.Known.{IsSound, IsKnown, IsKnownValue, WellFormed}
 use Rattle.tau_trace.specs.StepForms.{who_form, truth_form, value_form, step_form, step_form_at, IsWritten, ValueIsWritten, IsWrittenAt}
 use Rattle.tau_trace.proofs.Indexing.{born-le, sent-le}
 use Rattle.tau_trace.proofs.Lists.{same_some}
+use Rattle.tau_trace.proofs.Reading.{element}
+use Rattle.tau_trace.proofs.StepFormLemmas.{same_elements}
 use Rattle.tau_steps.specs.declared.kinds.Kind.{Kind}
 use Rattle.tau_steps.specs.declared.kinds.Kind.TheVariants as kinds
 use Rattle.tau_steps.specs.Kinds.{kind_of, kind_in, message_step, alone_step}
@@ -36,7 +38,7 @@ use Rattle.tau_steps.specs.Faults.{Role, roles_of}
 use Rattle.tau_steps.proofs.TellsLemmas.{role_of}
 use Rattle.tau_steps.proofs.KindLemmas.{kind_of-word}
 use Rattle.tau_steps.proofs.StepLemmas.{roles-step}
-use Rattle.tau_steps.proofs.LoopLemmas.{element, whole_read, born_told, sent_told}
+use Rattle.tau_steps.proofs.LoopLemmas.{whole_read, born_told, sent_told}
 
 -- the word of a transactor names it
 named_from : (o : Option ℕ) (n : ℕ) → option_map_or val.name o val.unit ≡ val.name n → o ≡ Some n
@@ -177,25 +179,6 @@ same_items o b m (i ∷ is) (j ∷ js) (more f fs) e hi hj =
     let rest = same_items o b m is js fs (tail_roles (role_of i) (role_of j) (map role_of is) (map role_of js) e) hi.1 hj.1 in
     λ x. one x ∷ rest x
 
--- the step of a kind with these items
-value_at : Val → Value
-value_at val.unit = values.Unit
-value_at (val.truth b) = values.Truth b
-value_at (val.int z) = values.Int z
-value_at (val.text t) = values.Text t
-value_at (val.name n) = values.Name n
-value_at (val.list vs) = values.List (val.items_of vs)
-
--- that is the value
-value_at-val_of : (v : Value) → value_at (val_of v) ≡ v
-unfolding value_at
-value_at-val_of values.Unit = refl
-value_at-val_of (values.Truth b) = refl
-value_at-val_of (values.Int z) = refl
-value_at-val_of (values.Text t) = refl
-value_at-val_of (values.Name n) = refl
-value_at-val_of (values.List vs) = ap values.List (items_of-inside vs)
-
 -- a step by its kind and items
 step_in : Kind → List Item → Step
 step_in (kinds.OfMessage k) (item.transactor t ∷ item.message x ∷ []) = message_step k t x
@@ -229,16 +212,6 @@ same_step o b m (list (more (list gs) fs)) r s hr hs = absurd hr
 same_step o b m (list none) r s hr hs = absurd hr
 same_step o b m (text w) r s hr hs = absurd hr
 same_step o b m (word w) r s hr hs = absurd hr
-
--- lists with the same element at each place are equal
-same_elements : {A : Type 0} (xs ys : List A) → ((k : ℕ) → slice_get xs k ≡ slice_get ys k) → xs ≡ ys
-same_elements [] [] e = refl
-same_elements [] (y ∷ ys) e = absurd (let h = e 0 in cc)
-same_elements (x ∷ xs) [] e = absurd (let h = e 0 in cc)
-same_elements (x ∷ xs) (y ∷ ys) e =
-    let first : x ≡ y = same_some (e 0) in
-    let rest : xs ≡ ys = same_elements xs ys (λ k. e (suc k)) in
-    λ i. first i ∷ rest i
 
 -- forms mean one run at most
 module _ (o : Opening) (fs : List Tree) (T U : Run) (mt : MeansSteps o fs T) (mu : MeansSteps o fs U) where

@@ -1,5 +1,5 @@
 -- Forms read one by one: the steps so far, and the first fault.
-use Rattle.std.proofs.Common.{◌≡◌, ◌⊎◌, ⊎_elim, ℕ, zero, suc, ◌+◌, ◌<◌, ◌≤◌, false, ◌-◌, take, drop, List, [], ◌∷◌, length, map, get_or, Some, None, Result, Ok, Err, IfErr, refl, sym, ap, ◌∙◌, subst, arith, codes}
+use Rattle.std.proofs.Common.{◌≡◌, ◌⊎◌, ⊎_elim, ℕ, zero, suc, ◌+◌, ◌<◌, ◌≤◌, false, ◌-◌, take, drop, List, [], ◌∷◌, length, map, get_or, Some, Result, Ok, Err, IfErr, refl, sym, ap, ◌∙◌, subst, arith, codes}
 use Rattle.std.specs.Prelude.{slice_get, slice_range}
 use Rattle.std.proofs.lemmas.List.{take-map, drop-map}
 use Rattle.std.specs.Option.{option_map_or}
@@ -20,18 +20,13 @@ use Rattle.tau_trace.proofs.Lists.{same_some, slice_get-push_cases}
 use Rattle.tau_trace.proofs.Counts.{count-same}
 use Rattle.tau_trace.proofs.Agreement.{agree_appended, agree_below, born-same, sent-same}
 use Rattle.tau_trace.proofs.Indexing.{len-appended}
+use Rattle.tau_trace.proofs.Reading.{element}
 use Rattle.tau_steps.specs.declared.errors.StepError.{StepError}
 use Rattle.tau_steps.specs.declared.errors.StepError.TheVariants as errors
 use Rattle.tau_steps.specs.Meaning.{MeansStep, MeansSteps}
 use Rattle.tau_steps.specs.Faults.{FormFault, begins_with, transactors_before, messages_before, StepFault, in_form, too_many, IsFirst, IsFault}
 use Rattle.tau_steps.specs.Inner.Reading.{GoesOn, NextFault, AddsStep}
 use Rattle.tau_steps.proofs.StepLemmas.{clean_step}
-
--- an element below the length
-pub element : {A : Type 0} (xs : List A) (i : ℕ) → i < length xs → (x : A) × (slice_get xs i ≡ Some x)
-element [] i l = absurd (omega arith)
-element (x ∷ xs) zero l = (x, refl)
-element (x ∷ xs) (suc i) l = element xs i (omega arith)
 
 -- the form of an item
 pub item_at : (fs : List Form) (k : ℕ) (f : Form) → k < length fs → f ≡ get_or fs k f → slice_get (map tree_of fs) k ≡ Some (tree_of f)

@@ -13,11 +13,9 @@ use Rattle.tau_steps.specs.declared.kinds.Kind.{Kind}
 use Rattle.tau_steps.specs.declared.kinds.Kind.TheVariants as kinds
 use Rattle.tau_steps.specs.declared.kinds.MessageKind.{MessageKind}
 use Rattle.tau_steps.specs.declared.kinds.MessageKind.TheVariants as messages
-use Rattle.tau_steps.specs.declared.kinds.AloneKind.{AloneKind}
-use Rattle.tau_steps.specs.declared.kinds.AloneKind.TheVariants as alone
-use Rattle.tau_steps.specs.Kinds.{kind_of, message_step, alone_step}
+use Rattle.tau_steps.specs.Kinds.{kind_of, message_step}
 use Rattle.tau_steps.specs.Meaning as item
-use Rattle.tau_steps.specs.Meaning.{Item, MeansItem, MeansItems, items_of}
+use Rattle.tau_steps.specs.Meaning.{Item, MeansItems, items_of}
 use Rattle.tau_steps.specs.Faults as role
 use Rattle.tau_steps.specs.Faults.{Role, roles_of, FaultIn, RowFault}
 use Rattle.tau_steps.specs.Inner.Reading.{TellsMeaning, TellsItem, TellsRow, both_of}
@@ -52,30 +50,6 @@ four_items (x ∷ xs) a b c d n e f g h = λ i. more (tree_of (sym e i)) (three_
 pub five_items : (fs : List Form) (a b c d v : Form) → length fs ≡ 5 → a ≡ get_or fs 0 a → b ≡ get_or fs 1 b → c ≡ get_or fs 2 c → d ≡ get_or fs 3 d → v ≡ get_or fs 4 v → trees_of fs ≡ more (tree_of a) (more (tree_of b) (more (tree_of c) (more (tree_of d) (more (tree_of v) none))))
 five_items [] a b c d v n e f g h j = absurd (omega arith)
 five_items (x ∷ xs) a b c d v n e f g h j = λ i. more (tree_of (sym e i)) (four_items xs b c d v (omega arith) f g h j i)
-
--- the steps of a kind: their kind, and their items
-alone_kind : (k : AloneKind) (t : ℕ) → kind_of (alone_step k t) ≡ kinds.Alone k
-alone_kind alone.Get t = refl
-alone_kind alone.Skip t = refl
-alone_kind alone.Stabilize t = refl
-alone_kind alone.Checkpoint t = refl
-alone_kind alone.Hold t = refl
-alone_kind alone.Rollback t = refl
-alone_kind alone.Stay t = refl
-alone_kind alone.Done t = refl
-alone_kind alone.Fail t = refl
-
--- a step that names its transactor alone has one item
-alone_items : (b m : ℕ) (k : AloneKind) (t : ℕ) → items_of b m (alone_step k t) ≡ item.transactor t ∷ []
-alone_items b m alone.Get t = refl
-alone_items b m alone.Skip t = refl
-alone_items b m alone.Stabilize t = refl
-alone_items b m alone.Checkpoint t = refl
-alone_items b m alone.Hold t = refl
-alone_items b m alone.Rollback t = refl
-alone_items b m alone.Stay t = refl
-alone_items b m alone.Done t = refl
-alone_items b m alone.Fail t = refl
 
 -- the kinds of steps that name a message
 message_kind : (k : MessageKind) (t x : ℕ) → kind_of (message_step k t x) ≡ kinds.OfMessage k
@@ -115,23 +89,6 @@ module _ (p : Place) where
       let P : Trees → Type 0 = λ xs. TellsItems rs is xs all in
       let Q : Result X ItemError → Type 0 = λ c. TellsItems rs is us c in
       subst P (sym et) (subst Q (sym ea) h)
-
-  -- one item
-  is_one : (k : Kind) (r : Role) (i : ℕ → Item) (step : ℕ → Step) (fs : List Form) (a : Form) (all : Result ℕ ItemError) → roles_of p.transactors p.messages k ≡ Some (r ∷ []) → ((x : ℕ) → kind_of (step x) ≡ k) → ((x : ℕ) → items_of p.transactors p.messages (step x) ≡ i x ∷ []) → length fs ≡ 1 → a ≡ get_or fs 0 a → TellsItem p r i (tree_of a) all → IsRow k (trees_of fs) step all
-  is_one k r i step fs a all er ek ei n ea ha =
-      let P : (ℕ → List Item) → Type 0 = λ f. TellsItems (r ∷ []) f (more (tree_of a) none) all in
-      let same : (λ (x : ℕ). i x ∷ []) ≡ (λ (x : ℕ). items_of p.transactors p.messages (step x)) = λ j x. sym (ei x) j in
-      is_row k (r ∷ []) (trees_of fs) step all er ek
-      (moved (r ∷ []) (λ x. items_of p.transactors p.messages (step x)) (trees_of fs) (more (tree_of a) none) all all (one_item fs a n ea) refl
-      (subst P same (tells_one p r i (tree_of a) all ha)))
-
-  -- the item of (KIND WHO)
-  pub tells_alone : (k : AloneKind) (fs : List Form) (a : Form) (who : Result ℕ ItemError) → length fs ≡ 1 → a ≡ get_or fs 0 a → TellsItem p role.transactor item.transactor (tree_of a) who → IsRow (kinds.Alone k) (trees_of fs) (alone_step k) who
-  tells_alone k fs a who n ea ha = is_one (kinds.Alone k) role.transactor item.transactor (alone_step k) fs a who refl (alone_kind k) (alone_items p.transactors p.messages k) n ea ha
-
-  -- the item of (lose M)
-  pub tells_lose : (fs : List Form) (a : Form) (message : Result ℕ ItemError) → length fs ≡ 1 → a ≡ get_or fs 0 a → TellsItem p role.message item.message (tree_of a) message → IsRow kinds.Lose (trees_of fs) steps.Lose message
-  tells_lose fs a message n ea ha = is_one kinds.Lose role.message item.message steps.Lose fs a message refl (λ x. refl) (λ x. refl) n ea ha
 
   -- a transactor and another item
   is_two : {X : Type 0} (k : Kind) (r : Role) (i : X → Item) (step : ℕ × X → Step) (fs : List Form) (a b : Form) (who : Result ℕ ItemError) (other : Result X ItemError) (all : Result (ℕ × X) ItemError) → roles_of p.transactors p.messages k ≡ Some (role.transactor ∷ r ∷ []) → ((z : ℕ × X) → kind_of (step z) ≡ k) → ((z : ℕ × X) → items_of p.transactors p.messages (step z) ≡ item.transactor z.0 ∷ i z.1 ∷ []) → ((x : X) → role_of (i x) ≡ r)

@@ -1,8 +1,7 @@
 -- What is told of the form of a step, and that what a step names exists.
-use Rattle.std.proofs.Common.{◌≡◌, ℕ, ◌<◌, ◌≤◌, Bool, true, false, cond, nat_lt, nat_le, ◌&&◌, ◌-◌, take, drop, List, [], ◌∷◌, length, map, get_or, Option, Some, None, Result, Ok, Err, refl, sym, ap, ◌∙◌, subst, arith}
+use Rattle.std.proofs.Common.{◌≡◌, ℕ, ◌<◌, ◌≤◌, ◌-◌, take, drop, List, [], ◌∷◌, length, map, get_or, Option, Some, None, Result, Ok, Err, refl, sym, ap, ◌∙◌, subst, arith}
 use Rattle.std.specs.Option.{option_or, option_and_then}
 use Rattle.std.proofs.lemmas.List.Quantifiers.{position-Some}
-use Rattle.std.proofs.lemmas.Bool.{ltb-true, leb-true, leb-false}
 use Rattle.std.proofs.Math.Seq.{take-length}
 use Rattle.std.specs.Str.{bytes_eq}
 use Rattle.tau_sexpr.specs.Form.{tree_of}
@@ -15,9 +14,9 @@ use Rattle.tau_value.specs.Value.{val_of}
 use Rattle.tau_value.specs.declared.shared.Value.{Value}
 use Rattle.tau_value.specs.Names.{place_of}
 use Rattle.tau_value.specs.Numbers.{count_in}
-use Rattle.tau_value.specs.Sizes.{parts_of, levels_of, IsInBounds, NamesBelow}
+use Rattle.tau_value.specs.Sizes.{IsInBounds, NamesBelow}
 use Rattle.tau_value.specs.Meaning.{Fault, shape, counted, between, Means, too_large}
-use Rattle.tau_value.proofs.MeaningLemmas.{counted-names_below}
+use Rattle.tau_value.proofs.MeaningLemmas.{counted-names_below, between-lt, bounded_from}
 use Rattle.tau_trace.specs.declared.opening.Opening.{Opening}
 use Rattle.tau_trace.specs.declared.step.Step.{Step}
 use Rattle.tau_trace.specs.declared.step.Step.TheVariants.{Take, Drop, Fall, Void, Get, Set, Skip, Send, New, Stabilize, Ask, Checkpoint, Hold, Rollback, Stay, Done, Trap, Fail, Lose}
@@ -65,19 +64,10 @@ clean_step o b m (list none) s e means fault = means
 clean_step o b m (text w) s e means fault = means
 clean_step o b m (word w) s e means fault = means
 
--- a number that is named exists
-between_below : (low high n t : ℕ) → between low high n ≡ Some t → t < high
-between_below low high n t = by (nat_le low n) (nat_lt n high) refl
-  where
-    by : (a b : Bool) → nat_lt n high ≡ b → cond (a && b) (Some n) None ≡ Some t → t < high
-    by true true e h = let same : n ≡ t = cc in omega (arith, ltb-true n high e)
-    by true false e h = cc
-    by false b e h = cc
-
--- the same of a word that is a count
+-- a word that is a count below a bound
 count_below : (low high t : ℕ) (c : Option ℕ) → option_and_then (between low high) c ≡ Some t → t < high
 count_below low high t None h = cc
-count_below low high t (Some n) h = between_below low high n t h
+count_below low high t (Some n) h = between-lt low high n t h
 
 -- the place of a word is below the number of words
 place_below : (names : List (List ℕ)) (w : List ℕ) (t : ℕ) → place_of names w ≡ Some t → t < length names
@@ -102,23 +92,11 @@ behaviour_below names t (word w) h = place_below names w t h
 behaviour_below names t (text w) h = cc
 behaviour_below names t (list fs) h = cc
 
--- a value that a form means is in bounds
-decided : (a b : ℕ) → ¬ ¬ (a ≤ b) → a ≤ b
-decided a b h = by (nat_le a b) refl
-  where
-    by : (t : Bool) → nat_le a b ≡ t → a ≤ b
-    by true e = leb-true a b e
-    by false e = absurd (h (λ l. omega (arith, leb-false a b e, l)))
-
--- a value that is not out of bounds is in bounds
-within : (v : Val) → ¬ ¬ IsInBounds v → IsInBounds v
-within v h = (decided (parts_of v) 65536 (λ n. h (λ w. n w.0)), decided (levels_of v) 64 (λ n. h (λ w. n w.1)))
-
 -- a value that a form means is known
 known_value : (names : List (List ℕ)) (bound : ℕ) (f : Tree) (v : Val) → length names ≤ bound → Means names bound f v → IsInBounds v × NamesBelow bound v
 known_value names bound f v le means =
     let P : Val → Type 0 = λ w. IsInBounds w × NamesBelow bound w in
-    subst P means.value (within (counted names bound f) (λ n. means.faultless 0 shape (too_large refl n)), counted-names_below names bound f le)
+    subst P means.value (bounded_from (counted names bound f) (λ n. means.faultless 0 shape (too_large refl n)), counted-names_below names bound f le)
 
 -- what an item means exists
 module _ (o : Opening) (b m : ℕ) (starts : length o.names ≤ b) where
