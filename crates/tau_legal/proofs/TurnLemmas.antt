@@ -2,7 +2,7 @@
 use Rattle.std.proofs.Common.{◌≡◌, ◌⊎◌, ⊎_elim, ℕ, zero, suc, ◌<◌, ◌≤◌, Bool, true, false, IsFalse, Option, Some, None, List, [], ◌∷◌, ◌++◌, length, refl, sym, ap, ◌∙◌, subst, arith}
 use Rattle.std.specs.Prelude.{option_and_then, ◌||◌}
 use Rattle.std.specs.Option.{option_map_or}
-use Rattle.std.proofs.lemmas.Bool.{cases_lt}
+use Rattle.std.proofs.lemmas.Bool.{cases_lt, cases_eq}
 use Rattle.std.proofs.lemmas.List.{length-map}
 use Rattle.tau_value.specs.Val as val
 use Rattle.tau_value.specs.Val.{Val}
@@ -23,7 +23,6 @@ use Rattle.tau_trace.proofs.Counts.{count-zero}
 use Rattle.tau_trace.proofs.Counted.{falls_falling}
 use Rattle.tau_trace.proofs.Indexing.{born-next, sent-next}
 use Rattle.tau_trace.proofs.Agreement.{born-grows, origin_before}
-use Rattle.tau_trace.proofs.LivingLemmas.{equal_or_not}
 use Rattle.tau_trace.proofs.Sequences.{cases_last}
 use Rattle.tau_states.specs.Opening.{opening_states}
 use Rattle.tau_eval.specs.Eff.{Eff}
@@ -209,7 +208,7 @@ module _ (P : Program) (T : Run) (sound : Sound P) (well : WellFormed T) (fittin
         by_actor (Some u) e = ⊎_elim
             (λ same. mine (e ∙ ap Some same))
             (λ ne. (so_far.0, another late (not_by (Some u) e (λ x. ne (same_some x))) so_far.1))
-            (equal_or_not u t)
+            (cases_eq u t)
 
     -- and the turn has an effect
     pub effect_exists : (e : Eff) × TurnHas P T t k e

@@ -1,5 +1,5 @@
 -- Which step fits at a place of a run (docs/definitions.md, "Fitting and legal steps").
-use Rattle.std.specs.Prelude.{◌≡◌, ◌⊎◌, ◌↔◌, ℕ, ◌<◌, ◌≤◌, Bool, true, false, IsTrue, IsFalse, None}
+use Rattle.std.specs.Prelude.{◌≡◌, ◌⊎◌, ◌↔◌, ℕ, ◌<◌, ◌≤◌, Bool, true, false, IsTrue, IsFalse, None, Some}
 use Rattle.tau_value.specs.Val.{Val}
 use Rattle.tau_value.specs.Value.{val_of}
 use Rattle.tau_tree.specs.declared.programs.Program.{Program}
