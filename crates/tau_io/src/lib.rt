@@ -18,6 +18,6 @@ pub use memory_source::MemorySource;
 pub use reading::{ReadError, read_all};
 pub use sinks::{Put, Sink};
 pub use sources::{Got, Source};
-pub use standard::{StdSink, StdSource};
+pub use standard::{ReaderSource, StdSink, StdSource, WriterSink};
 pub use steady::{SteadySink, SteadySource};
 pub use writing::{WriteError, write_all_of};

@@ -84,6 +84,16 @@ fn reads_up_to_the_limit(rt: HostRuntime) -> Result<(), Fail> {
 }
 
 #[test]
+fn copies_from_a_reader_to_a_writer(rt: HostRuntime) -> Result<(), Fail> {
+    let mut source = ReaderSource::new(TEXT.as_bytes());
+    let mut sink = WriterSink::new(Vec::new(rt.alloc()));
+    assert_eq!(rt; copy(rt.alloc(), &mut source, &mut sink), Ok(Ok(())));
+    let held = sink.into_writer();
+    assert_eq!(rt; held.as_slice(), TEXT.as_bytes());
+    Ok(())
+}
+
+#[test]
 fn passes_standard_input_and_output(rt: HostRuntime) -> Result<(), Fail> {
     let mut output = StdSink::new(rt.stdout());
     assert_eq!(rt; write_all_of(&mut output, b"written\n"), Ok(()));
