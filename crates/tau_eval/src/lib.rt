@@ -18,7 +18,7 @@ mod settings;
 
 pub use effects::Effect;
 pub use job::{Job, Pending, again, begin};
-pub use laws::effects_are_known;
+pub use laws::{effects_are_known, same_values_are_equal};
 
 #[cfg(test)]
 mod tests;
