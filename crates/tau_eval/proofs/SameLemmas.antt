@@ -3,7 +3,7 @@ use Rattle.std.proofs.Common.{◌≡◌, ◌↔◌, ℤ, pos, negsuc, Bool, true
 use Rattle.std.proofs.lemmas.Slice.Eq.{bytes_eq-Decides}
 use Rattle.std.proofs.lemmas.Bool.{and_parts}
 use Rattle.tau_value.specs.Val.{Val, Vals, unit, truth, int, text, name, list, none, more}
-use Rattle.tau_eval.specs.Same.{same_truths, same_integers, same_values, same_items}
+use Rattle.tau_eval.specs.Same.{same_truths, same_integers, same_values, same_items, SameValuesAreEqual}
 
 both : (a b : Bool) → a ≡ true → b ≡ true → (a && b) ≡ true
 both a b p q = cc
@@ -62,3 +62,6 @@ same_values_is b v w h = by b (same_values v w) refl h.0 h.1 where
   by true t e there back = sym (sym e ∙ ap (same_values v) (sym (there refl)) ∙ same_values-refl v)
   by false true e there back = back (same_values-true v w e)
   by false false e there back = refl
+
+pub same_values_are_equal : SameValuesAreEqual
+same_values_are_equal v w = (same_values-true v w, λ e. ap (same_values v) (sym e) ∙ same_values-refl v)

@@ -1,5 +1,5 @@
 -- Equality of values, as a test.
-use Rattle.std.specs.Prelude.{◌≡◌, ℕ, ℤ, pos, negsuc, Bool, true, false, ◌==◌, ◌&&◌, cond, refl}
+use Rattle.std.specs.Prelude.{◌≡◌, ◌↔◌, ℕ, ℤ, pos, negsuc, Bool, true, false, ◌==◌, ◌&&◌, cond, refl, IsTrue}
 use Rattle.std.specs.Str.{bytes_eq}
 use Rattle.tau_value.specs.Val.{Val, Vals, unit, truth, int, text, name, list, none, more}
 
@@ -30,3 +30,7 @@ abbrev mutual
   same_items none none = true
   same_items (more u us) (more v vs) = same_values u v && same_items us vs
   same_items us vs = false
+
+-- the test is true exactly of equal values
+abbrev pub SameValuesAreEqual : Type 0
+SameValuesAreEqual = (v w : Val) → IsTrue (same_values v w) ↔ (v ≡ w)

@@ -18,4 +18,4 @@ mod settings;
 
 pub use effects::Effect;
 pub use job::{Job, Pending, again, begin};
-pub use laws::effects_are_known;
+pub use laws::{effects_are_known, same_values_are_equal};
