@@ -2,7 +2,11 @@
 #![tactic(auto)]
 
 use std::process::ExitCode;
+use tau_cli::run_process;
+use tau_io::{StdSink, StdSource};
 
 fn main(rt: HostRuntime) -> ExitCode {
-    tau_cli::run_process(&rt, rt.alloc(), rt.stdin(), rt.stdout())
+    let mut input = StdSource::new(rt.stdin());
+    let mut output = StdSink::new(rt.stdout());
+    run_process(&rt, rt.alloc(), &mut input, &mut output)
 }

@@ -7,7 +7,7 @@ mod statuses;
 mod together;
 
 pub use calls::tau_still;
-pub use process::run_process;
+pub use process::{exit_code, run_process, run_words};
 pub use statuses::{Status, number};
 pub use tau_command::{Command, Line, Words, WordsError, read_words};
 pub use tau_workers::{Gate, OpenGate};

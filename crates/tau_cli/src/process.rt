@@ -1,51 +1,81 @@
 //! The process: its command line, its standard input and output, and the number that it ends with.
-ghost use Rattle.std.specs.Prelude.{◌≡◌};
+ghost use Rattle.std.specs.Prelude.{◌≡◌, ℕ, List, Result};
 ghost use Rattle.std.specs.Process.{exit_status};
-ghost use Rattle.tau_cli.specs.declared.statuses.Status.{Status};
+ghost use Rattle.tau_command.specs.declared.commands.WordsError.{WordsError};
+ghost use Rattle.tau_output.specs.Writing.{WritesTogether};
+ghost use Rattle.tau_cli.specs.Ends.{EndsFor, Exits, effect_on};
 ghost use Rattle.tau_cli.specs.Status.{number_of};
 
 use crate::{OpenGate, Status, number, tau};
 use std::alloc::Global;
 use std::env;
-use std::io::{self, ErrorKind, Stdin, Stdout};
+use std::io::{self, ErrorKind};
 use std::process::ExitCode;
 use std::rt::Env;
 use std::sync::Wait;
 use std::thread::Threads;
 use tau_command::{Line, Words, WordsError};
-use tau_io::{StdSink, StdSource};
+use tau_io::{Sink, Source};
 
-/// Does what the command line of the process asks for, from standard input to standard output. It prints the line of
-/// the status on standard error, and gives the number of the status (docs/formats.md, "Statuses"). A word that isn't
-/// UTF-8 is a faulty command line; without memory for the words the status is `NoMemory`.
-pub fn run_process<R: Env + Alloc + Eprint + Threads + Wait + Sync>(
+/// Does what the command line of the process asks for, by one call of [`tau`](crate::tau). It prints the line of the status on
+/// standard error, and gives the number of the status (docs/formats.md, "Statuses"). A word that isn't UTF-8 is a faulty
+/// command line; without memory for the words the status is `NoMemory`.
+///
+/// Which words the process has, and what its standard error takes, no contract says.
+pub fn run_process<R: Env + Alloc + Eprint + Threads + Wait + Sync, I: Source, O: Sink>(
     rt: &R,
     alloc: Global,
-    input: Stdin,
-    output: Stdout,
+    input: &mut I,
+    output: &mut O,
 ) -> ExitCode
-    ensures { (status : Status) × (exit_status result ≡ number_of status) }
+    ensures { (words : Result (List (List ℕ)) WordsError)
+        × Exits WritesTogether words (effect_on I.left I.faults input.old input.new)
+        (effect_on O.held O.faults output.old output.new) (exit_status result) }
 {
-    let status = process_status(rt, alloc, input, output);
+    let words = collect_words(rt, alloc);
+    run_words(rt, alloc, words, input, output)
+}
+
+/// Does what these words ask for, by one call of [`tau`](crate::tau), and nothing where they couldn't be collected. It prints the
+/// line of the status on standard error, and gives the number of the status (docs/formats.md, "Statuses").
+pub fn run_words<R: Eprint + Threads + Wait + Sync, I: Source, O: Sink>(
+    rt: &R,
+    alloc: Global,
+    words: Result<Words, WordsError>,
+    input: &mut I,
+    output: &mut O,
+) -> ExitCode
+    ensures { Exits WritesTogether words (effect_on I.left I.faults input.old input.new)
+        (effect_on O.held O.faults output.old output.new) (exit_status result) }
+{
+    let status = call_tau(rt, alloc, words, input, output);
     if status != Status::Done {
         // Nothing is left to do where standard error takes no line.
         let _ = eprintln!(rt; "{status}");
     }
-    ExitCode::from(number(&status))
+    exit_code(&status)
 }
 
-fn process_status<R: Env + Alloc + Threads + Wait + Sync>(
+/// What ends the process: the number of the status (docs/formats.md, "Statuses").
+pub fn exit_code(status: &Status) -> ExitCode
+    ensures { exit_status result ≡ number_of status.now }
+{
+    ExitCode::from(number(status))
+}
+
+// The call of `tau`, for words of which the collection may have failed.
+fn call_tau<R: Threads + Wait + Sync, I: Source, O: Sink>(
     rt: &R,
     alloc: Global,
-    input: Stdin,
-    output: Stdout,
-) -> Status {
-    match collect_words(rt, alloc) {
-        Ok(words) => {
-            let mut source = StdSource::new(input);
-            let mut sink = StdSink::new(output);
-            tau(rt, alloc, &words, &mut source, &mut sink, &OpenGate)
-        }
+    words: Result<Words, WordsError>,
+    input: &mut I,
+    output: &mut O,
+) -> Status
+    ensures { EndsFor WritesTogether words (effect_on I.left I.faults input.old input.new)
+        (effect_on O.held O.faults output.old output.new) result }
+{
+    match words {
+        Ok(words) => tau(rt, alloc, &words, input, output, &OpenGate),
         Err(error) => Status::from(error),
     }
 }

@@ -1,6 +1,21 @@
+use Rattle.std.proofs.Common.{rules}
 use Rattle.tau_cli.proofs.OutputLemmas.{stops_without_fault}
 use Rattle.tau_cli.proofs.together.tau.Goals as goal
 
-pub returns-clause-complete : goal.returns-clause-complete
-returns-clause-complete g c command bytes e l f r w =
-    stops_without_fault c.in-Err.status c.args.words.now _ _ _ command bytes c.in-Err.ensures.status e l f r
+pub returns : goal.returns
+returns g c = record {
+  words = search rules;
+  unread = search rules;
+  refused = search rules;
+  read_fault = search rules;
+  untouched = search rules;
+  input = search rules;
+  faulty = search rules;
+  unwritten = search rules;
+  written = search rules;
+  write_fault = search rules;
+  front = search rules;
+  no_memory = search rules;
+  complete = λ command bytes e l f r w.
+      stops_without_fault c.in-Err.status c.args.words.now _ _ _ command bytes c.in-Err.ensures.status e l f r;
+}
