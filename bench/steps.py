@@ -2,7 +2,7 @@
 """Measures long runs of the system over views of both types: processor seconds, steps a second, the peak of the memory, and
 how much a step costs in the long run against the short one.
 
-It has the program tau_calls built, behind `bin/tau prove`, and prints a table. The median of several runs is shown; the
+It has the program show_system built, behind `bin/tau prove`, and prints a table. The median of several runs is shown; the
 peak is at least that of the measuring process. The aims are, for 50,000 steps over pruned views, 500,000 steps a second for a transactor that sends to itself, 100,000 for one
 that checkpoints each turn, 8,000 for a ring of 64, and a growth below two; two seconds for the turn of 30,000 Gets; one
 second and 200 MB for the 2,048 transactors.
@@ -16,7 +16,7 @@ import sys
 import programs
 from run import SAVE, SET, ring
 
-PROGRAM = programs.place("tau_calls")
+PROGRAM = programs.place("show_system")
 RUNS = 3
 
 GETS = "(nodes 1)\n(behaviour a (fold msg unit (k i) (get)))\n(start a a 0 0)\n(post a (list" + ' "x"' * 30_000 + "))\n"
@@ -49,12 +49,12 @@ def measured(views, text, steps):
     told = process.stdout.read().decode().split("\n")
     _, _, usage = os.wait4(process.pid, 0)
     if len(told) != 4 or not told[2].startswith("(steps "):
-        sys.exit(f"tau_calls wrote {told!r}")
+        sys.exit(f"show_system wrote {told!r}")
     return usage.ru_utime + usage.ru_stime, usage.ru_maxrss / 1024, int(told[2][7:-1])
 
 
 def main():
-    programs.prove("tau_calls")
+    programs.prove("show_system")
     print(f"{'program':48} {'views':>6} {'steps':>7} {'seconds':>8} {'steps/s':>9} {'MB':>6} {'growth':>7}")
     for name, text, pruned, full in PROGRAMS:
         for views, lengths in (("pruned", pruned), ("full", full)):

@@ -1,4 +1,4 @@
-use Rattle.tau_bodies.proofs.writing.+put_value.Given as goal
+use Rattle.show_bodies.proofs.writing.+put_value.Given as goal
 
 abbrev pub decreases-put_value : goal.decreases-put_value
 decreases-put_value l = l.depth

@@ -5,7 +5,7 @@ use Rattle.tau_trace.specs.Numbering.{born, sent}
 use Rattle.tau_trace.specs.Known.{WellFormed}
 use Rattle.tau_heard.proofs.HeardLaws.{views_are_comparable}
 use Rattle.tau_views.proofs.Trimmed.{comparable_trimmed}
-use Rattle.tau_calls.proofs.showing.merged_view.Goals as goal
+use Rattle.show_system.proofs.showing.merged_view.Goals as goal
 
 pub merge_facts-requires : goal.merge_facts-requires
 merge_facts-requires g c =

@@ -1,5 +1,5 @@
 use Rattle.std.proofs.Common.{◌+◌, ◌*◌}
-use Rattle.tau_bodies.proofs.plain.Plain.+value.Given as goal
+use Rattle.show_bodies.proofs.plain.Plain.+value.Given as goal
 
 abbrev pub decreases-value : goal.decreases-value
 decreases-value l = 2 * l.depth
