@@ -65,7 +65,7 @@ first_scripted P T c nodes ls busy turns w e cursor at_nodes letters no_busy no_
       cursor_is = cursor;
       nodes_are = at_nodes;
       letters_are = letters;
-      busy_are = λ t. (λ h. absurd (contains_nothing t (subst (λ (xs : List ℕ). Contains xs t) no_busy h)), λ h. absurd (omega (arith, h.turn.before, none)));
+      busy_are = λ t. (λ h. absurd (contains_nothing t (subst (λ (xs : List ℕ). Contains xs t) no_busy h)), λ h. absurd (omega (arith, h.1.1.before, none)));
       turns_are = record {
         ascending = λ i j d a b. absurd (omega (arith, b, ap length no_turns));
         each = λ place. (λ h. absurd (contains_nothing place (subst (λ (xs : List ℕ). Contains xs place) no_turns h)), λ h. absurd (omega (arith, h.turn.before, none)));
