@@ -1,5 +1,5 @@
 //! A system that opens.
-use crate::System;
+use crate::{System, fitting_views_are_settled};
 use std::alloc::Global;
 use std::process::Abort;
 use tau_tree::{Behaviours, Posts, Program, Script, Starts};
@@ -31,4 +31,9 @@ fn opens(alloc: Global) -> Option<u32> {
 #[test]
 fn a_system_opens(rt: HostRuntime) {
     assert!(rt; opens(rt.alloc()) == Some(0));
+}
+
+#[test]
+fn laws_are_called() {
+    fitting_views_are_settled();
 }
