@@ -4,5 +4,6 @@ pub mod Offers
 pub mod Nexts
 pub mod Tolds
 pub mod Places
+pub mod Lefts
 pub mod Jobs
 pub mod Returns
