@@ -4,4 +4,5 @@ pub mod Offers
 pub mod Nexts
 pub mod Tolds
 pub mod Places
+pub mod Lefts
 pub mod Inner

@@ -1,6 +1,7 @@
 //! Places on a book.
 ghost use Rattle.std.specs.Prelude.{◌≡◌, ◌<◌, ◌≤◌, [], Bool, Option, IsSome, IsTrue, IfOk, IfErr, OnErr, length};
 ghost use Rattle.tau_book.specs.Places.{End, EndsBy, IsNotIdle, LeavesRoom, ComesBack};
+ghost use Rattle.tau_book.specs.Lefts.{IsLeftOf};
 
 use crate::{Hand, Next, Told};
 use std::alloc::AllocError;
@@ -18,13 +19,15 @@ pub trait StepPlace<'p> {
 
     ghost end: { Self → Option End };
 
-    /// `next` of the book. Where the book is `Idle`, it waits and asks again.
+    /// `next` of the book. Where the book is `Idle`, it waits and asks again. Without memory no word was drawn and no job has come,
+    /// and of the hand's jobs at most those are given up that an `Idle` gives up.
     fn next<R: Wait>(&mut self, rt: &R, hand: &mut Hand<'p>) -> Result<Next<'p>, AllocError>
         ensures key { key self.new ≡ key self.old }
         ensures end { IsTrue tells_end → IfOk result (EndsBy (end self.new)) }
         ensures stays { IsSome (end self.old) → end self.new ≡ end self.old }
         ensures never_idle { IfOk result IsNotIdle }
         ensures room { IfOk result (LeavesRoom hand.new) }
+        ensures hand_on_err { OnErr result (IsLeftOf hand.old hand.new) }
         ensures size { hand.new.size ≡ hand.old.size };
 
     /// `act` of the book.

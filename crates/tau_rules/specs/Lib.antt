@@ -1,4 +1,5 @@
 pub mod Records
 pub mod System
 pub mod Answers
+pub mod ViewLaws
 pub mod Inner

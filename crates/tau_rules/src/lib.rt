@@ -7,6 +7,7 @@ mod appending;
 mod delivering;
 mod errors;
 mod failing;
+mod laws;
 mod reading;
 mod records;
 mod system;
@@ -14,4 +15,5 @@ mod turns;
 
 pub use answers::{Acted, Delivered, Standing};
 pub use errors::{ActError, DeliverError, FailError, LoseError};
+pub use laws::fitting_views_are_settled;
 pub use system::System;

@@ -6,6 +6,7 @@ ghost use Rattle.tau_trace.specs.Numbering.{born, InFlight};
 ghost use Rattle.tau_past.specs.Decisions.{Verdict as VerdictAt, Free};
 ghost use Rattle.tau_past.specs.Safety.{KeepsRules};
 ghost use Rattle.tau_judgement.specs.Laws.{judged};
+ghost use Rattle.tau_judgement.specs.NamedPoints.{NamesFallen};
 ghost use Rattle.tau_views.specs.Kept.{AreViews, held_of, letters_of};
 
 use crate::after::after_merge;
@@ -16,7 +17,8 @@ use tau_trace::Trace;
 use tau_view::View;
 
 impl<V: View + Drop> Views<V> {
-    /// The verdict on a message in flight at its receipt by `who` (docs/rules.md, "Verdict"). The error is want of memory.
+    /// The verdict on a message in flight at its receipt by `who` (docs/rules.md, "Verdict"). The point that it names is fallen by what
+    /// was heard. The error is want of memory.
     pub fn verdict(
         &self,
         alloc: Global,
@@ -28,7 +30,8 @@ impl<V: View + Drop> Views<V> {
         requires rules { KeepsRules trace.now.run }
         requires exists { who < born trace.now.run (len trace.now.run) }
         requires in_flight { InFlight trace.now.run message (len trace.now.run) }
-        ensures { IfOk result (λ v. VerdictAt trace.now.run who (len trace.now.run) message (judged v)) }
+        ensures verdict { IfOk result (λ v. VerdictAt trace.now.run who (len trace.now.run) message (judged v)) }
+        ensures point { IfOk result (NamesFallen trace.now.run who (len trace.now.run) message) }
     {
         // Its contract says that the trace is well-formed.
         let _steps = trace.len();

@@ -1,6 +1,7 @@
 //! A book under a lock.
 ghost use Rattle.std.specs.Prelude.{◌≡◌, ◌<◌, [], IfOk, IfErr, OnErr, length};
 ghost use Rattle.tau_book.specs.Places.{IsNotIdle, LeavesRoom, ComesBack};
+ghost use Rattle.tau_book.specs.Lefts.{IsLeftOf};
 
 use std::alloc::AllocError;
 use std::sync::{Condvar, Mutex, MutexGuard, Wait};
@@ -72,6 +73,7 @@ impl<'p, V: View + Drop> Desk<'p, V> {
     fn next<R: Wait>(&self, rt: &R, hand: &mut Hand<'p>) -> Result<Next<'p>, AllocError>
         ensures never_idle { IfOk result IsNotIdle }
         ensures room { IfOk result (LeavesRoom hand.new) }
+        ensures hand_on_err { OnErr result (IsLeftOf hand.old hand.new) }
         ensures size { hand.new.size ≡ hand.old.size }
     {
         let mut shared = self.shared.lock(rt);

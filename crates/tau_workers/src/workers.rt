@@ -1,7 +1,9 @@
 //! Workers, each on a thread of its own.
-ghost use Rattle.std.specs.Prelude.{◌≡◌, ◌<◌, ℕ, [], IsSome, IsTrue, IsFalse, length, slice_index_or};
+ghost use Rattle.std.specs.Prelude.{◌≡◌, ◌<◌, ℕ, [], IsSome, IsTrue, IsFalse, IfOk, OnErr, length, slice_index_or};
+ghost use Rattle.tau_book.specs.Hands.{joined};
 
 use crate::gates::Gate;
+use std::alloc::AllocError;
 use std::sync::Wait;
 use std::thread;
 use std::thread::Threads;
@@ -63,42 +65,53 @@ impl<'p, P: StepPlace<'p>> Task for Worker<'p, P> {
 }
 
 impl<'p, P: StepPlace<'p>> Worker<'p, P> {
-    // Works until the book answers `Complete` or `Stopped`, or memory is short.
+    // Works until the book answers `Complete` or `Stopped`, or memory is short. Then it gives its jobs back.
     fn work_on<R: Wait, G: Gate>(&mut self, rt: &R, gate: &G)
         ensures number { self.new.number ≡ self.old.number }
         ensures key { P.key self.new.place ≡ P.key self.old.place }
         ensures end { IsTrue P.tells_end → IsFalse self.new.short → IsSome (P.end self.new.place) }
     {
         for _ in rt.forever() {
-            if !self.ask(rt, gate) {
-                return;
+            match self.ask(rt, gate) {
+                Ok(true) => {}
+                Ok(false) => return,
+                Err(_) => {
+                    self.end_short(rt);
+                    return;
+                }
             }
         }
         unreachable!()
     }
 
-    // Asks for something to do, and does it. `false` where the worker has ended.
-    fn ask<R: Wait, G: Gate>(&mut self, rt: &R, gate: &G) -> bool
+    // Asks for something to do, and does it. `false` where the run has ended. The error is want of memory.
+    fn ask<R: Wait, G: Gate>(&mut self, rt: &R, gate: &G) -> Result<bool, AllocError>
         ensures number { self.new.number ≡ self.old.number }
         ensures key { P.key self.new.place ≡ P.key self.old.place }
-        ensures end { IsTrue P.tells_end → IsFalse result → IsFalse self.new.short → IsSome (P.end self.new.place) }
+        ensures end { IfOk result (λ goes_on. IsTrue P.tells_end → IsFalse goes_on → IsSome (P.end self.new.place)) }
     {
-        match self.place.next(rt, &mut self.hand) {
-            Ok(Next::Work(job)) => self.evaluate(rt, gate, job),
-            Ok(Next::Stepped) => true,
-            Ok(Next::Complete | Next::Stopped) => false,
-            Ok(Next::Idle { .. }) => unreachable!(),
-            Err(_) => self.end_short(rt),
+        match self.place.next(rt, &mut self.hand)? {
+            Next::Work(job) => {
+                self.evaluate(rt, gate, job)?;
+                Ok(true)
+            }
+            Next::Stepped => Ok(true),
+            Next::Complete | Next::Stopped => Ok(false),
+            Next::Idle { .. } => unreachable!(),
         }
     }
 
-    // Evaluates a job up to its next effect, and brings that. `false` where memory is short.
-    fn evaluate<R: Wait, G: Gate>(&mut self, rt: &R, gate: &G, job: Job<'p>) -> bool
+    // Evaluates a job up to its next effect, and brings that. Where memory is short, the hand keeps the job.
+    fn evaluate<R: Wait, G: Gate>(
+        &mut self,
+        rt: &R,
+        gate: &G,
+        job: Job<'p>,
+    ) -> Result<(), AllocError>
         requires room { length self.old.hand.jobs < self.old.hand.size }
         ensures number { self.new.number ≡ self.old.number }
         ensures key { P.key self.new.place ≡ P.key self.old.place }
-        ensures short { IsFalse result → IsTrue self.new.short }
-        ensures empty { IsFalse result → self.new.hand.jobs ≡ [] }
+        ensures kept { OnErr result (self.new.hand ≡ joined self.old.hand job.entry) }
     {
         let turn = job.turn();
         gate.enter(self.number, turn);
@@ -106,52 +119,43 @@ impl<'p, P: StepPlace<'p>> Worker<'p, P> {
         gate.leave(self.number, turn);
         match advanced {
             Ok(pending) => self.bring(rt, pending),
-            Err((job, _)) => self.end_short_with(rt, job),
+            Err((job, failed)) => {
+                self.hand.keep(job);
+                Err(failed)
+            }
         }
     }
 
-    // Brings an effect, and brings it again for as long as a step of the script comes first. `false` where memory is short.
-    fn bring<R: Wait>(&mut self, rt: &R, pending: Pending<'p>) -> bool
+    // Brings an effect, and brings it again for as long as a step of the script comes first. Where memory is short, the hand keeps the
+    // job that came to it.
+    fn bring<R: Wait>(&mut self, rt: &R, pending: Pending<'p>) -> Result<(), AllocError>
         requires room { length self.old.hand.jobs < self.old.hand.size }
         ensures number { self.new.number ≡ self.old.number }
         ensures key { P.key self.new.place ≡ P.key self.old.place }
-        ensures short { IsFalse result → IsTrue self.new.short }
-        ensures empty { IsFalse result → self.new.hand.jobs ≡ [] }
+        ensures kept { OnErr result (self.new.hand ≡ joined self.old.hand pending.entry) }
     {
         let mut pending = pending;
         for _ in rt.forever() {
             match self.place.act(rt, &mut self.hand, pending) {
                 Ok(Told::Later(back)) => pending = back,
-                Ok(_) => return true,
-                Err((refused, _)) => return self.end_short_with(rt, refused.back()),
+                Ok(_) => return Ok(()),
+                Err((refused, failed)) => {
+                    self.hand.keep(refused.back());
+                    return Err(failed);
+                }
             }
         }
         unreachable!()
     }
 
-    // Puts the job that was refused into the hand, and ends.
-    fn end_short_with<R: Wait>(&mut self, rt: &R, job: Job<'p>) -> bool
-        requires room { length self.old.hand.jobs < self.old.hand.size }
+    // Gives the jobs back, and has ended as short of memory.
+    fn end_short<R: Wait>(&mut self, rt: &R)
         ensures number { self.new.number ≡ self.old.number }
         ensures key { P.key self.new.place ≡ P.key self.old.place }
-        ensures result { IsFalse result }
-        ensures short { IsTrue self.new.short }
-        ensures empty { self.new.hand.jobs ≡ [] }
-    {
-        self.hand.keep(job);
-        self.end_short(rt)
-    }
-
-    // Gives the jobs back, and ends as short of memory: always `false`.
-    fn end_short<R: Wait>(&mut self, rt: &R) -> bool
-        ensures number { self.new.number ≡ self.old.number }
-        ensures key { P.key self.new.place ≡ P.key self.old.place }
-        ensures result { IsFalse result }
         ensures short { IsTrue self.new.short }
         ensures empty { self.new.hand.jobs ≡ [] }
     {
         self.place.give_back(rt, &mut self.hand);
         self.short = true;
-        false
     }
 }

@@ -66,7 +66,7 @@ append-requires-in-Drop-clause-fits g c =
     let who : ℕ = c.in-Some-target.who in
     let m : ℕ = c.args.message in
     let there : m < sent T (len T) = subst (λ (k : Core). m < sent k.run (len k.run)) (sym c.self.view_is) c.requires.exists in
-    let verdict : Verdict T who (len T) m drops = subst (λ (v : fates.Verdict). Verdict T who (len T) m (judged v)) c.in-Drop.is c.in_ok-verdict.ensures in
+    let verdict : Verdict T who (len T) m drops = subst (λ (v : fates.Verdict). Verdict T who (len T) m (judged v)) c.in-Drop.is c.in_ok-verdict.ensures.verdict in
     subst (λ (k : Core). Arrives k.run who m (len k.run) × Verdict k.run who (len k.run) m drops) c.self.view_is
     (arrives T who m c.end_of.result there c.in_default.ensures c.in-Some-target.ensures.target c.if-is_some.ensures c.end_of.ensures c.in_default-open_turn.ensures, verdict)
 
@@ -84,6 +84,6 @@ append-requires-in-Fall-clause-fits g c =
     let who : ℕ = c.in-Some-target.who in
     let m : ℕ = c.args.message in
     let there : m < sent T (len T) = subst (λ (k : Core). m < sent k.run (len k.run)) (sym c.self.view_is) c.requires.exists in
-    let verdict : Verdict T who (len T) m falls = subst (λ (v : fates.Verdict). Verdict T who (len T) m (judged v)) c.in-Fall.is c.in_ok-verdict.ensures in
+    let verdict : Verdict T who (len T) m falls = subst (λ (v : fates.Verdict). Verdict T who (len T) m (judged v)) c.in-Fall.is c.in_ok-verdict.ensures.verdict in
     subst (λ (k : Core). Arrives k.run who m (len k.run) × Verdict k.run who (len k.run) m falls) c.self.view_is
     (arrives T who m c.end_of.result there c.in_default.ensures c.in-Some-target.ensures.target c.if-is_some.ensures c.end_of.ensures c.in_default-open_turn.ensures, verdict)

@@ -3,4 +3,4 @@ use Rattle.tau_workers.proofs.workers.Worker.bring.Given as goal
 
 abbrev pub invariant-loop : goal.invariant-loop
 invariant-loop g l =
-    (goal.iterator-loop g).can_next l.iterator' × (goal.iterator-loop g).is_finite l.iterator' × (length l.self.hand.jobs < l.self.hand.size) × (l.self.number ≡ l.fn.self.number) × (g.P.StepPlace.key l.self.place ≡ g.P.StepPlace.key l.fn.self.place)
+    (goal.iterator-loop g).can_next l.iterator' × (goal.iterator-loop g).is_finite l.iterator' × (l.self.hand ≡ l.fn.self.hand) × (l.pending ≡ l.fn.pending) × (l.self.number ≡ l.fn.self.number) × (g.P.StepPlace.key l.self.place ≡ g.P.StepPlace.key l.fn.self.place)
