@@ -10,9 +10,9 @@ use Rattle.atomic_table.proofs.Lists.{at_set, at_snoc, at_longer, set_here, set_
 use Rattle.tau_seat.specs.declared.view.SeatView.{SeatView}
 use Rattle.tau_seat.specs.declared.view.Named.{Named}
 use Rattle.tau_seat.specs.Lists.{total, times, bit, upto, places, bare}
-use Rattle.tau_seat.specs.Order.{turn_of_word, first_view, Fits, Apart, AtHome, Out, Orderly}
+use Rattle.tau_seat.specs.Rule.{turn_of_word, first_view, Fits, Apart, AtHome, Out, Orderly}
 use Rattle.tau_seat.specs.Plays.{cleared, waiting, serving, grown, resting, served, Holds, HoldsMore, counted, learned, front_of, back_of, both_of, spent, drawn, looked}
-use Rattle.tau_seat.proofs.Sums.{total_mono, total-append, total-set, term_le, terms_le, cut_total, length_cut, length_upto, times_first, no_owner, owned_part, behind_both, behind_longer, bit_le_one, bits_add, times_head, bare_snoc, total_only, no_numbers, owns_all, every_place}
+use Rattle.tau_seat.proofs.Sums.{total_mono, total-append, total-set, term_le, terms_le, cut_total, length_cut, length_upto, times_first, no_owner, owned_part, behind_both, behind_longer, bit_le_one, bits_add, times_head, bare_snoc, bare_append, total_only, no_numbers, owns_all, every_place}
 
 module _ {G E : Type 0} where
   fits_set : (key : G) (sv out : ℕ) (log : List (E × ℕ)) (views : List (SeatView G E)) (id : ℕ) (w : SeatView G E)
@@ -301,9 +301,9 @@ module _ {B G E : Type 0} (key_of : B → G) (entries : B → List E) (is_sound 
         apart = apart_set views1 other spent (apart_set s.views id b h.apart (λ j u apart e tu tw same. absurd (omega (arith, tw, no_ticket)))) (λ j u apart e tu tw same. absurd (omega (arith, tw)));
       }
 
-  pub learns : (n id : ℕ) (m : Me (Option B) (SeatView G E)) → m.0.turn ≡ false → length m.0.told ≤ length m.0.seen
-      → Allows (Orderly key_of entries is_sound key) n id m 1 (λ k. k) (learned (step n 1 0 0 none) m)
-  learns n id m no_turn short s h _ at _ =
+  pub learns : ((k : G) (xs ys : List E) → is_sound k (xs ++ ys) → is_sound k xs) → (n id : ℕ) (m : Me (Option B) (SeatView G E)) → m.0.turn ≡ false → length m.0.told ≤ length m.0.seen
+      → 0 < length m.0.numbers → Allows (Orderly key_of entries is_sound key) n id m 1 (λ k. k) (learned key_of entries is_sound (step n 1 0 0 none) m)
+  learns prefixes n id m no_turn short some_number s h _ at _ =
       let v = m.0 in
       let w = cleared v in
       let f = h.fits id v at in (
@@ -330,6 +330,7 @@ module _ {B G E : Type 0} (key_of : B → G) (entries : B → List E) (is_sound 
           refl,
           behind_longer v.teller v.told v.seen h.log f.hears (f.behind.0, f.behind.1) short,
           (λ x. let t = term_le (λ (u : SeatView G E). times x u.numbers) s.views id v at in let z = h.shared x in let o = bit_le_one x key.count in omega (arith, t, z, o)),
+          (key.key, f.named some_number, prefixes key.key (bare v.seen) (bare f.behind.0) (subst (is_sound key.key) (ap bare f.behind.1 ∙ bare_append v.seen f.behind.0) h.sound)),
         ),
       )
 
@@ -454,8 +455,9 @@ module _ {B G E : Type 0} (key_of : B → G) (entries : B → List E) (is_sound 
 
   -- the seat with every number has seen all, and the kept value is at home
   pub closes : (s : State (Option B) (SeatView G E)) (id : ℕ) (v : SeatView G E) → Rule s → get_elem? s.views id ≡ some v → length v.numbers ≡ key.count → v.tickets ≡ 0
-      → AtHome key_of entries is_sound key.key v.seen s.homes × (places v.numbers 0 v.seen ≡ upto 0 (length v.seen))
-  closes s id v h at every no_ticket =
+      → 0 < length v.numbers
+      → AtHome key_of entries is_sound key.key v.seen s.homes × (places v.numbers 0 v.seen ≡ upto 0 (length v.seen)) × (v.names ≡ Some key.key) × (total (λ (x : E × ℕ). bit (nat_le key.count x.1)) v.seen ≡ 0)
+  closes s id v h at every no_ticket some_number =
       let z = h.sizes in
       let bare_others : (j : ℕ) (u : SeatView G E) → j ≢ id → get_elem? s.views j ≡ some u → length u.numbers ≡ 0
       = λ j u apart there. (let t = terms_le (λ (x : SeatView G E). length x.numbers) s.views id j v u apart at there in omega (arith, t, z, every)) in
@@ -480,6 +482,8 @@ module _ {B G E : Type 0} (key_of : B → G) (entries : B → List E) (is_sound 
             (λ other. let n = bare_others t.0 t.1 other t.2 in let has = a.0 in omega (arith, n, has, f))))
             h.home),
         every_place v.numbers key.count 0 v.seen all (omega (arith, parts, cut, owners)),
+        mine.named some_number,
+        omega (arith, parts, cut, owners),
       )
     where
       empty_of : (xs : List (E × ℕ)) → length xs ≡ 0 → xs ≡ []

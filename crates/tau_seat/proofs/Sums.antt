@@ -2,7 +2,7 @@
 use Rattle.std.proofs.Common.{◌≡◌, ℕ, zero, suc, ◌+◌, ◌<◌, ◌≤◌, ◌≢◌, List, [], ◌∷◌, ◌++◌, length, set, take, drop, get_or, cond, sym, refl, ap, ◌∙◌, arith, append-nil, append_assoc, subst}
 use mathlib.Core.Logic.{dite}
 use native.Mathlib.Decide.{ℕ_discrete, dec_le}
-use Rattle.std.specs.Prelude.{nat_lt, nat_le, slice_index}
+use Rattle.std.specs.Prelude.{nat_lt, nat_le, slice_index, slice_index_or}
 use Rattle.std.proofs.lemmas.Bool.{lt-ltb, le-ltb, le-leb, lt-leb, eq-eqb, ne_eqb}
 use mathlib.Core.Option.{some, some-injective, some-ne-none}
 use lib.ListN.{get_elem?}
@@ -141,6 +141,15 @@ module _ {E : Type 0} where
   bare_snoc [] e o = refl
   bare_snoc (x ∷ xs) e o = ap (λ l. x.0 ∷ l) (bare_snoc xs e o)
 
+module _ {E : Type 0} where
+  pub length_bare : (xs : List (E × ℕ)) → length (bare xs) ≡ length xs
+  length_bare [] = refl
+  length_bare (x ∷ xs) = omega (arith, length_bare xs)
+
+  pub bare_append : (xs ys : List (E × ℕ)) → bare (xs ++ ys) ≡ bare xs ++ bare ys
+  bare_append [] ys = refl
+  bare_append (x ∷ xs) ys = ap (λ l. x.0 ∷ l) (bare_append xs ys)
+
 pub times_head : (ns : List ℕ) → 0 < length ns → 0 < times (slice_index ns 0) ns
 times_head [] h = absurd (omega (arith, h))
 times_head (n ∷ ns) h = let a = ap bit (eq-eqb n n refl) in omega (arith, a)
@@ -234,17 +243,13 @@ module _ {E : Type 0} where
       (λ nle. subst (λ t. Behind (cond t ms ns) (cond t ys xs) (cond t xs ys) → total f (places (ns ++ ms) 0 (cond t xs ys)) ≡ total f (places ns 0 xs) + total f (places ms 0 ys)) (sym (lt-leb (length ys) (length xs) (omega arith)))
       (λ (r, e, z). let a = places_both ns ms 0 ys f apart in let b = ap (total f) (ap (places ns 0) e ∙ places_watch ns xs r z) in omega (arith, a, b)))
 
-ones : (xs : List ℕ) → total (λ _. 1) xs ≡ length xs
-ones [] = refl
-ones (x ∷ xs) = omega (arith, ones xs)
+pub longer_numbers : (ns ms : List ℕ) → 0 < length ns → 0 < length (ns ++ ms)
+longer_numbers [] ms h = absurd (omega (arith, h))
+longer_numbers (n ∷ ns) ms h = omega arith
 
 module _ {E : Type 0} where
-  length_bare : (xs : List (E × ℕ)) → length (bare xs) ≡ length xs
-  length_bare [] = refl
-  length_bare (x ∷ xs) = omega (arith, length_bare xs)
-
-  -- all places are those of two
-  pub all_of_two : (xs : List (E × ℕ)) (js vs ws : List ℕ) (items : List E) (a b : ℕ) → items ≡ bare xs → js ≡ upto 0 (length xs)
-      → ((f : ℕ → ℕ) → total f js ≡ total f vs + total f ws) → length vs ≡ a → length ws ≡ b → length items ≡ a + b
-  all_of_two xs js vs ws items a b is all weighs one two =
-      omega (arith, ap length is, length_bare xs, ap length all, length_upto 0 (length xs), weighs (λ _. 1), ones js, ones vs, ones ws, one, two)
+  -- no owner is n or more
+  pub all_below : (n : ℕ) (xs : List (E × ℕ)) → total (λ (x : E × ℕ). bit (nat_le n x.1)) xs ≡ 0 → (k : ℕ) (d : E × ℕ) → k < length xs → (slice_index_or xs k d).1 < n
+  all_below n [] none k d lt = absurd (omega (arith, lt))
+  all_below n (x ∷ xs) none zero d lt = dite (dec_le n x.1) (λ le. let e = ap bit (le-leb n x.1 le) in absurd (omega (arith, e, none))) (λ nle. omega arith)
+  all_below n (x ∷ xs) none (suc k) d lt = all_below n xs (omega (arith, none)) k d (omega (arith, lt))

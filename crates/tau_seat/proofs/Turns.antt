@@ -1,14 +1,14 @@
 -- What whole calls do to a seat.
 use Rattle.std.proofs.Common.{◌≡◌, ℕ, ◌+◌, ◌<◌, List, [], ◌∷◌, ◌++◌, length, get_or, Option, Some, None, sym, refl, ap, ◌∙◌, subst, arith, length-append}
-use Rattle.std.specs.Prelude.{unwrap_or}
+use Rattle.std.specs.Prelude.{unwrap_or, nat_le}
 use Rattle.atomic_table.specs.Table.{Me, rest, Final, Seen}
 use mathlib.Core.Option.{some, some-injective}
 use lib.ListN.{get_elem?}
 use Rattle.tau_seat.specs.declared.view.Named.{Named}
-use Rattle.tau_seat.specs.Order.{Orderly}
+use Rattle.tau_seat.specs.Rule.{Orderly}
 use Rattle.tau_seat.proofs.Keeps.{closes}
 use Rattle.tau_seat.specs.declared.view.SeatView.{SeatView}
-use Rattle.tau_seat.specs.Lists.{bare, places, upto}
+use Rattle.tau_seat.specs.Lists.{bare, places, upto, total, bit}
 use Rattle.tau_seat.specs.Plays.{waiting, grown, resting, Begun, Takes}
 use Rattle.tau_seat.specs.Turns.{Watches, Makes, mine}
 use Rattle.tau_seat.proofs.Sums.{places_watch, places_grow, times_head}
@@ -29,12 +29,12 @@ module _ {B G E : Type 0} (key_of : B → G) (entries : B → List E) (is_sound 
       (t, g.1, after ∙ ap (λ (x : Me (Option B) (SeatView G E)). (x.0, (0, None) ∷ rest x.1)) g.2, g.3, g.4, g.5, g.6)
 
   pub gives_back : (key : Named G) (id : ℕ) (v : SeatView G E) (ws : List ℕ) (xs : List (Option B)) (kept : Option B) → Final (Seen (Orderly key_of entries is_sound key) id v) ws xs
-      → length v.numbers ≡ key.count → v.tickets ≡ 0 → get_elem? xs 0 ≡ some kept
-      → (b : B) × (kept ≡ Some b) × (key_of b ≡ key.key) × (entries b ≡ bare v.seen) × (places v.numbers 0 v.seen ≡ upto 0 (length v.seen))
-  gives_back key id v ws xs kept f every none_held there =
-      let c = closes key_of entries is_sound key f.0 id v f.1.0 f.1.1 every none_held in
+      → length v.numbers ≡ key.count → v.tickets ≡ 0 → 0 < length v.numbers → get_elem? xs 0 ≡ some kept
+      → (b : B) × (kept ≡ Some b) × (key_of b ≡ key.key) × (entries b ≡ bare v.seen) × (places v.numbers 0 v.seen ≡ upto 0 (length v.seen)) × (v.names ≡ Some key.key) × (total (λ (x : E × ℕ). bit (nat_le key.count x.1)) v.seen ≡ 0)
+  gives_back key id v ws xs kept f every none_held some_number there =
+      let c = closes key_of entries is_sound key f.0 id v f.1.0 f.1.1 every none_held some_number in
       let home = c.0 in
-      (home.0, some-injective kept (Some home.0) (sym there ∙ f.4 0 (Some home.0) home.1), home.2, home.3, c.1)
+      (home.0, some-injective kept (Some home.0) (sym there ∙ f.4 0 (Some home.0) home.1), home.2, home.3, c.1, c.2, c.3)
 
   pub watches : (v : SeatView G E) (b : B) (n n' : Me (Option B) (SeatView G E)) → Takes key_of entries is_sound v b n → n' ≡ (resting n.0, []) → Watches v n'.0
   watches v b n n' t after =
@@ -55,10 +55,3 @@ module _ {B G E : Type 0} (key_of : B → G) (entries : B → List E) (is_sound 
           places_grow v.numbers t.1 e o has ∙ ap (λ l. places v.numbers 0 l ++ length l ∷ []) t.3.1 ∙ ap (λ p. p ++ length (v.seen ++ t.3.0) ∷ []) (places_watch v.numbers v.seen t.3.0 t.3.2),
         ),
       )
-
-module _ {G E : Type 0} where
-  pub one_more : (v w : SeatView G E) (e : E) → Makes v w e → length (mine w) ≡ length (mine v) + 1
-  one_more v w e m = let t = m.1 in ap length t.4 ∙ length-append (mine v) (length (v.seen ++ t.0) ∷ [])
-
-  pub no_more : (v w : SeatView G E) → Watches v w → length (mine w) ≡ length (mine v) + 0
-  no_more v w m = let t = m.1 in ap length t.2 ∙ (let z : length (mine v) ≡ length (mine v) + 0 = omega arith in z)

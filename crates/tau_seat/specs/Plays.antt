@@ -3,7 +3,7 @@ use Rattle.std.specs.Prelude.{◌≤◌, ◌≡◌, ◌≢◌, ℕ, ◌%◌, Lis
 use Rattle.atomic_table.specs.Table.{Me, Step, rest}
 use Rattle.tau_seat.specs.declared.view.SeatView.{SeatView}
 use Rattle.tau_seat.specs.Lists.{bare, times, Behind}
-use Rattle.tau_seat.specs.Order.{turn_of_word}
+use Rattle.tau_seat.specs.Rule.{turn_of_word}
 
 abbrev pub longer : {E : Type 0} → List (E × ℕ) → List (E × ℕ) → List (E × ℕ)
 longer xs ys = if nat_le (length ys) (length xs) then xs else ys
@@ -56,10 +56,6 @@ module _ {B G E : Type 0} where
   abbrev pub drawn : Step (Option B) → Me (Option B) (SeatView G E) → ℕ → Me (Option B) (SeatView G E) → Type 0
   drawn st m r n = (t : ℕ) × (n ≡ (waiting m.0 t, m.1)) × (r ≡ t % turn_of_word)
 
-  -- it has seen what it was told, and then only entries of others than the teller; it has each number once
-  abbrev pub learned : Step (Option B) → Me (Option B) (SeatView G E) → ℕ → Me (Option B) (SeatView G E) → Type 0
-  learned st m r n = (n ≡ (cleared m.0, m.1)) × Behind m.0.teller m.0.told m.0.seen × ((x : ℕ) → times x m.0.numbers ≤ 1)
-
 module _ {B G E : Type 0} (key_of : B → G) (entries : B → List E) (is_sound : G → List E → Type 0) where
   -- it has the turn, and with it the kept value, whose entries it has seen
   abbrev pub Begun : Me (Option B) (SeatView G E) → Me (Option B) (SeatView G E) → Type 0
@@ -68,6 +64,14 @@ module _ {B G E : Type 0} (key_of : B → G) (entries : B → List E) (is_sound 
 
   abbrev pub looked : Step (Option B) → Me (Option B) (SeatView G E) → ℕ → Me (Option B) (SeatView G E) → Type 0
   looked st m r n = (r ≡ m.0.ticket % turn_of_word → Begun m n) × (r ≢ m.0.ticket % turn_of_word → n ≡ m)
+
+  -- what the seat has seen is sound for the key that it names
+  abbrev pub HasSeenSound : SeatView G E → Type 0
+  HasSeenSound v = (k : G) × (v.names ≡ Some k) × is_sound k (bare v.seen)
+
+  -- it has seen what it was told, and then only entries of others than the teller; it has each number once; what it has seen is sound
+  abbrev pub learned : Step (Option B) → Me (Option B) (SeatView G E) → ℕ → Me (Option B) (SeatView G E) → Type 0
+  learned st m r n = (n ≡ (cleared m.0, m.1)) × Behind m.0.teller m.0.told m.0.seen × ((x : ℕ) → times x m.0.numbers ≤ 1) × HasSeenSound m.0
 
   -- the kept value that is in the slot: what the seat has seen, and one entry more
   abbrev pub Holds : Me (Option B) (SeatView G E) → List E → Type 0

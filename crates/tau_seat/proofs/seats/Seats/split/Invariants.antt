@@ -1,4 +1,0 @@
-use Rattle.tau_seat.proofs.seats.Seats.split.Given as goal
-
-abbrev pub ghosts-cut : goal.ghosts-cut
-ghosts-cut g a = record { keep = a._keep }
