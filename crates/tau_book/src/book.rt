@@ -75,6 +75,13 @@ impl<'p, V: View + Drop> Book<'p, V> {
         self.scripted.system()
     }
 
+    /// The limit of steps.
+    pub fn limit(&self) -> u32
+        ensures { result ≡ self.now.limit }
+    {
+        self.limit
+    }
+
     /// What the worker of this hand is to do next (docs/rules.md, "Choice of a worker"): the first that applies of `Complete`,
     /// `Stopped`, a due step of the script, and, once jobs of turns that aren't open are given up and the hand has taken up a
     /// returned job, `Idle` and a choice by the next word of the hand's generator. The error is want of memory, and nothing is

@@ -17,7 +17,7 @@ use Rattle.tau_trace.specs.Known.{WellFormed}
 use Rattle.tau_past.specs.Decisions.{Verdict as VerdictAt, Free}
 use Rattle.tau_past.specs.Safety.{KeepsRules}
 use Rattle.tau_judgement.specs.Laws.{judged, AreViewsOf, IsFreedomOf}
-use Rattle.tau_judgement.specs.NamedPoints.{NamesFallen}
+use Rattle.tau_judgement.specs.NamedPoints.{NamesKnownFallen}
 use Rattle.tau_views.specs.Kept.{AreViews}
 use Rattle.tau_views.specs.Inner.Trims.{IsAfterBoth}
 use Rattle.tau_judgement.proofs.JudgementLaws.{views_are_settled, merged_views_are_settled, verdicts_agree, freedom_agrees}
@@ -61,5 +61,5 @@ module _ (de : EdgeTest) (dr : RootTest) (T : Run) (own : List Held) (letters : 
     verdict_is settled closed good p v at is =
         verdicts_agree de dr settled closed good T t (len T) m (views.each t h e).whole (views.letter m l f).whole v w rules are_views (on_trimmed p v at is)
 
-    pub point_is : (p : Point) (v : Verdict) → p ≡ point_at T t (len T) → IsVerdict mid p l.root v → NamesFallen T t (len T) m v
+    pub point_is : (p : Point) (v : Verdict) → p ≡ point_at T t (len T) → IsVerdict mid p l.root v → NamesKnownFallen T t (len T) m v
     point_is p v at is = verdicts_name_fallen de dr T t (len T) m (views.each t h e).whole (views.letter m l f).whole v w are_views (on_trimmed p v at is)

@@ -6,7 +6,7 @@ ghost use Rattle.tau_trace.specs.Numbering.{born, InFlight};
 ghost use Rattle.tau_past.specs.Decisions.{Verdict as VerdictAt, Free};
 ghost use Rattle.tau_past.specs.Safety.{KeepsRules};
 ghost use Rattle.tau_judgement.specs.Laws.{judged};
-ghost use Rattle.tau_judgement.specs.NamedPoints.{NamesFallen};
+ghost use Rattle.tau_judgement.specs.NamedPoints.{NamesKnownFallen};
 ghost use Rattle.tau_views.specs.Kept.{AreViews, held_of, letters_of};
 
 use crate::after::after_merge;
@@ -31,7 +31,7 @@ impl<V: View + Drop> Views<V> {
         requires exists { who < born trace.now.run (len trace.now.run) }
         requires in_flight { InFlight trace.now.run message (len trace.now.run) }
         ensures verdict { IfOk result (λ v. VerdictAt trace.now.run who (len trace.now.run) message (judged v)) }
-        ensures point { IfOk result (NamesFallen trace.now.run who (len trace.now.run) message) }
+        ensures point { IfOk result (NamesKnownFallen trace.now.run who (len trace.now.run) message) }
     {
         // Its contract says that the trace is well-formed.
         let _steps = trace.len();

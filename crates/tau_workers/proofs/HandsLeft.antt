@@ -1,6 +1,6 @@
 -- What is left of a hand after each Idle.
 use Rattle.std.proofs.Common.{◌≡◌, ℕ, List, [], ◌∷◌, refl, sym, subst}
-use Rattle.tau_eval.specs.Turn.{Turn}
+use Rattle.tau_eval.specs.Turn.{TurnSoFar}
 use Rattle.tau_book.specs.declared.answers.Next.{Next}
 use Rattle.tau_book.specs.declared.answers.Next.TheVariants.{Idle}
 use Rattle.tau_book.specs.Hands.{Held}
@@ -8,11 +8,11 @@ use Rattle.tau_book.specs.Books.{Booked}
 use Rattle.tau_book.specs.Nexts.{IsNext, IsIdle}
 use Rattle.tau_book.specs.Lefts.{ArePartOf, none, stays, left_out, IsLeftOf}
 
-no_jobs : (jobs : List Turn) → ArePartOf [] jobs
+no_jobs : (jobs : List TurnSoFar) → ArePartOf [] jobs
 no_jobs [] = none
 no_jobs (job ∷ jobs) = left_out (no_jobs jobs)
 
-all_jobs : (jobs : List Turn) → ArePartOf jobs jobs
+all_jobs : (jobs : List TurnSoFar) → ArePartOf jobs jobs
 all_jobs [] = none
 all_jobs (job ∷ jobs) = stays (all_jobs jobs)
 

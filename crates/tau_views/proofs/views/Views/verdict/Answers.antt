@@ -4,7 +4,7 @@ use Rattle.tau_fate.specs.Decisions.{IsVerdict}
 use Rattle.tau_past.specs.Decisions.{Verdict}
 use Rattle.tau_trace.specs.Run.{len}
 use Rattle.tau_judgement.specs.Laws.{judged}
-use Rattle.tau_judgement.specs.NamedPoints.{NamesFallen}
+use Rattle.tau_judgement.specs.NamedPoints.{NamesKnownFallen}
 use Rattle.tau_views.specs.Kept.{held_of, letters_of}
 use Rattle.tau_views.proofs.Next.{comparable}
 use Rattle.tau_views.proofs.Judges.{merged_settled, verdict_is, point_is}
@@ -33,7 +33,7 @@ pub returns-clause-point : goal.returns-clause-point
 returns-clause-point g c =
     if_ok
     (IsVerdict (g.V.View.held c.in_ok-merged.merged) c.own_point-point.result (g.V.View.held c.letter_view-letter.result.now).root)
-    (NamesFallen c.args.trace.now.run c.args.who (len c.args.trace.now.run) c.args.message)
+    (NamesKnownFallen c.args.trace.now.run c.args.who (len c.args.trace.now.run) c.args.message)
     c.judge_settled.result
     (λ v is. point_is g.V.View.drops_edge g.V.View.drops_root c.args.trace.now.run (held_of g.V.View.held c.args.self.now.own.items) (letters_of g.V.View.held c.args.self.now.letters.items) c.requires.views c.len-steps.ensures.well_formed c.requires.rules c.args.who (g.V.View.held c.own_view-view.result.now) c.requires.exists c.own_view-view.ensures c.args.message (g.V.View.held c.letter_view-letter.result.now) (g.V.View.held c.in_ok-merged.merged) c.requires.in_flight.exists c.letter_view-letter.ensures c.in_ok-merged.ensures c.own_point-point.result v c.own_point-point.ensures is)
     c.judge_settled.ensures

@@ -1,0 +1,47 @@
+-- What contracts see of a seat as a worker's place.
+use Rattle.std.specs.Prelude.{◌≡◌, ℕ, Bool, true, false, List, Option, Some, None, length, map}
+use Rattle.atomic_table.specs.Seated.{TableId}
+use Rattle.tau_tree.specs.declared.programs.Program.{Program}
+use Rattle.tau_trace.specs.declared.step.Step.{Step}
+use Rattle.tau_legal.specs.Traces.{Complete}
+use Rattle.tau_book.specs.declared.answers.Next.{Next}
+use Rattle.tau_book.specs.declared.answers.Next.TheVariants as nexts
+use Rattle.tau_book.specs.Places.{End, complete, stopped}
+use Rattle.tau_seat.specs.Lists.{bare, Begins}
+use Rattle.tau_seat.specs.Keys.{run_of}
+use Rattle.tau_seat.specs.Seated.{Seated}
+
+-- the end of a run: whether it is complete
+abbrev pub end_of : Option Bool → Option End
+end_of None = None
+end_of (Some true) = Some complete
+end_of (Some false) = Some stopped
+
+-- the seat, and the end that it was told
+pub record Placed : Type 0 where
+  pub seat : Seated
+  pub is_complete : Option Bool
+
+-- what no call changes: the table, the numbers, the program and the limit
+pub record PlaceKey : Type 0 where
+  pub table : TableId
+  pub numbers : List ℕ
+  pub program : Program
+  pub limit : ℕ
+
+abbrev pub key_of_place : Placed → PlaceKey
+key_of_place p = record { table = p.seat.table; numbers = p.seat.numbers; program = p.seat.program; limit = p.seat.limit }
+
+-- what the seat has seen begins with a complete trace, or with one of as many steps as the limit that isn't complete, as it was told
+abbrev pub HasEnded : Seated → Option Bool → Type 0
+HasEnded s None = Unit {0}
+HasEnded s (Some true) = (front : List (Step × ℕ)) × Begins front s.seen × Complete s.program (run_of s.program (bare front))
+HasEnded s (Some false) = (front : List (Step × ℕ)) × Begins front s.seen × (¬ Complete s.program (run_of s.program (bare front))) × (length front ≡ s.limit)
+
+-- whether the trace is complete, where the answer tells the end
+abbrev pub completeness_told : Next → Option Bool
+completeness_told nexts.Complete = Some true
+completeness_told nexts.Stopped = Some false
+completeness_told (nexts.Idle out) = None
+completeness_told (nexts.Work job) = None
+completeness_told nexts.Stepped = None

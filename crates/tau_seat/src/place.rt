@@ -1,0 +1,136 @@
+//! A seat as the place of a worker.
+ghost use Rattle.std.specs.Prelude.{◌≡◌, None, IfOk};
+ghost use Rattle.tau_book.specs.Places.{IsNotIdle, LeavesRoom};
+ghost use Rattle.tau_seat.specs.Lists.{Begins};
+ghost use Rattle.tau_seat.specs.Seated.{Stays, EndsWith};
+ghost use Rattle.tau_seat.specs.SeatPlaces.{HasEnded, completeness_told};
+
+use crate::seat_book::{BookSeat, SeatBook};
+use std::alloc::AllocError;
+use std::marker::Model;
+use std::sync::Wait;
+use tau_book::{Hand, Next, StepPlace, Told};
+use tau_eval::Pending;
+use tau_view::View;
+
+/// A seat as the place of a worker (docs/rules.md, "Seats"). Contracts see the seat, and the end that the book told it, if it told one.
+#[derive(Drop)]
+pub struct SeatPlace<'a, 'p, V: View + Drop> {
+    table: &'a SeatBook<'p, V>,
+    seat: BookSeat<'p, V>,
+    is_complete: Option<bool>,
+}
+
+impl<'a, 'p, V: View + Drop> Model for SeatPlace<'a, 'p, V> {
+    ghost use Rattle.std.specs.Prelude.{◌≡◌};
+    ghost use Rattle.std.specs.Coded.{codes};
+    ghost use Rattle.atomic_table.specs.Seated.{table_id_coded};
+    ghost use Rattle.tau_value.specs.Val.{val_code};
+    ghost use Rattle.tau_tree.specs.Code.{code_code};
+    ghost use Rattle.tau_seat.specs.SeatPlaces.{Placed, HasEnded};
+
+    ghost Value = { Placed };
+
+    ghost coded = { Prim.hlevel (codes, table_id_coded, val_code, code_code) };
+
+    ghost view = { λ p. record { seat = p.seat; is_complete = p.is_complete } };
+
+    ghost invariant = { λ p. (p.seat.table ≡ p.table.now.table) × HasEnded p.seat p.is_complete };
+}
+
+impl<'a, 'p, V: View + Drop> SeatPlace<'a, 'p, V> {
+    /// The place of a seat at its table, before it was told an end.
+    pub fn new(table: &'a SeatBook<'p, V>, seat: BookSeat<'p, V>) -> SeatPlace<'a, 'p, V>
+        requires { seat.table ≡ table.now.table }
+        ensures seat { result.seat ≡ seat.entry }
+        ensures end { result.is_complete ≡ None }
+    {
+        SeatPlace {
+            table,
+            seat,
+            is_complete: None,
+        }
+    }
+
+    /// The seat, given up by the place.
+    pub fn into_seat(self) -> BookSeat<'p, V>
+        ensures seat { result ≡ self.entry.seat }
+        ensures ended { HasEnded result self.entry.is_complete }
+    {
+        self.seat
+    }
+}
+
+impl<'a, 'p, V: View + Drop> StepPlace<'p> for SeatPlace<'a, 'p, V> {
+    ghost use Rattle.std.specs.Prelude.{Bool, true, Option};
+    ghost use Rattle.tau_book.specs.Places.{End};
+    ghost use Rattle.tau_seat.specs.SeatPlaces.{PlaceKey, key_of_place, end_of};
+
+    ghost Key = { PlaceKey };
+
+    ghost key = { key_of_place };
+
+    ghost tells_end = { true };
+
+    ghost end = { λ p. end_of p.is_complete };
+
+    fn next<R: Wait>(&mut self, rt: &R, hand: &mut Hand<'p>) -> Result<Next<'p>, AllocError> {
+        match self.is_complete {
+            Some(true) => return Ok(Next::Complete),
+            Some(false) => return Ok(Next::Stopped),
+            None => {}
+        }
+        let answer = ask(rt, self.table, &mut self.seat, hand)?;
+        self.is_complete = end_told(&answer);
+        Ok(answer)
+    }
+
+    fn act<R: Wait>(
+        &mut self,
+        rt: &R,
+        hand: &mut Hand<'p>,
+        pending: Pending<'p>,
+    ) -> Result<Told<'p>, (Pending<'p>, AllocError)> {
+        self.table.act(rt, &mut self.seat, hand, pending)
+    }
+
+    fn give_back<R: Wait>(&mut self, rt: &R, hand: &mut Hand<'p>) {
+        self.table.give_back(rt, &mut self.seat, hand);
+    }
+}
+
+// `next` of the book in a turn of the seat. Where the book is `Idle`, the seat waits for a change of it and asks again.
+fn ask<'p, V: View + Drop, R: Wait>(
+    rt: &R,
+    table: &SeatBook<'p, V>,
+    seat: &mut BookSeat<'p, V>,
+    hand: &mut Hand<'p>,
+) -> Result<Next<'p>, AllocError>
+    requires table { seat.old.table ≡ table.now.table }
+    ensures stays { Stays seat.old seat.new }
+    ensures prefix { Begins seat.old.seen seat.new.seen }
+    ensures end { IfOk result (EndsWith seat.new) }
+    ensures never_idle { IfOk result IsNotIdle }
+    ensures room { IfOk result (LeavesRoom hand.new) }
+    ensures size { hand.new.size ≡ hand.old.size }
+{
+    let mut changes = 0;
+    for _ in rt.forever() {
+        match table.next(rt, seat, hand)? {
+            Next::Idle { .. } => changes = table.wait_for_change(rt, changes),
+            answer => return Ok(answer),
+        }
+    }
+    unreachable!()
+}
+
+// Whether the trace is complete, where the answer tells the end.
+fn end_told(answer: &Next<'_>) -> Option<bool>
+    ensures { result ≡ completeness_told answer.now }
+{
+    match answer {
+        Next::Complete => Some(true),
+        Next::Stopped => Some(false),
+        _ => None,
+    }
+}
