@@ -1,3 +1,4 @@
 pub mod JobLists
 pub mod StoreLemmas
 pub mod Choices
+pub mod HandsLeft

@@ -1,6 +1,7 @@
 //! A seat as the place of a worker.
-ghost use Rattle.std.specs.Prelude.{◌≡◌, None, IfOk};
+ghost use Rattle.std.specs.Prelude.{◌≡◌, None, IfOk, OnErr};
 ghost use Rattle.tau_book.specs.Places.{IsNotIdle, LeavesRoom};
+ghost use Rattle.tau_book.specs.Lefts.{IsLeftOf};
 ghost use Rattle.tau_seat.specs.Lists.{Begins};
 ghost use Rattle.tau_seat.specs.Seated.{Stays, EndsWith};
 ghost use Rattle.tau_seat.specs.SeatPlaces.{HasEnded, completeness_told};
@@ -112,6 +113,7 @@ fn ask<'p, V: View + Drop, R: Wait>(
     ensures end { IfOk result (EndsWith seat.new) }
     ensures never_idle { IfOk result IsNotIdle }
     ensures room { IfOk result (LeavesRoom hand.new) }
+    ensures hand_on_err { OnErr result (IsLeftOf hand.old hand.new) }
     ensures size { hand.new.size ≡ hand.old.size }
 {
     let mut changes = 0;

@@ -1,8 +1,15 @@
 use Rattle.std.proofs.Common.{◌≡◌}
+use Rattle.tau_book.specs.Lefts.{IsLeftOf}
 use Rattle.tau_seat.specs.Lists.{Begins}
 use Rattle.tau_seat.specs.Seated.{Stays}
 use Rattle.tau_seat.proofs.place.ask.Given as goal
 
 abbrev pub invariant-loop : goal.invariant-loop
-invariant-loop g l =
-    (goal.iterator-loop g).can_next l.iterator' × (goal.iterator-loop g).is_finite l.iterator' × Stays l.fn.seat l.seat × Begins l.fn.seat.seen l.seat.seen × (l.hand.size ≡ l.fn.hand.size)
+invariant-loop g l = record {
+  can_next : (goal.iterator-loop g).can_next l.iterator';
+  is_finite : (goal.iterator-loop g).is_finite l.iterator';
+  stays : Stays l.fn.seat l.seat;
+  prefix : Begins l.fn.seat.seen l.seat.seen;
+  size : l.hand.size ≡ l.fn.hand.size;
+  left : IsLeftOf l.fn.hand l.hand;
+}

@@ -1,5 +1,5 @@
 use Rattle.std.proofs.Common.{refl, ◌∙◌}
-use Rattle.tau_workers.proofs.HandsLeft.{all_left, idle_left}
+use Rattle.tau_book.proofs.HandsLeft.{all_left, idle_left}
 use Rattle.tau_workers.proofs.locked.Desk.next.Goals as goal
 
 pub loop-init : goal.loop-init
