@@ -63,7 +63,6 @@ module _ (v : Held) (e : v ≡ pruned v) where
       cc
 
   module _ (p : Point) where
-
     pub touch_live : fate_in v.history p ≢ Closed → touched p v ≡ pruned (touched p v)
     touch_live n = λ i. record {
       history = v.history;
