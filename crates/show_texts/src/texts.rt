@@ -1,4 +1,8 @@
 //! Forms, printed, and words and texts that are built anew.
+ghost use Rattle.std.specs.Prelude.{◌≤◌, All};
+ghost use Rattle.tau_sexpr.specs.Form.{tree_of};
+ghost use Rattle.tau_sexpr.specs.Tree.{HasWords, depth_of, depths};
+
 use std::alloc::{AllocError, Global};
 use tau_sexpr::{
     Form, Forms, Text, Word, are_text_bytes, are_word_bytes, is_text_byte, is_word_byte,
@@ -23,21 +27,35 @@ pub(crate) fn add_built(alloc: Global, text: &mut String, spelled: &str) -> Resu
     for form in forms.items() {
         add_form(&mut built, built_form(alloc, form)?)?;
     }
+    if !built.same(&forms) {
+        return text.push_str("other forms\n");
+    }
     add_printed(alloc, text, &built)
 }
 
+/// Adds a printed form.
+pub(crate) fn add_one(alloc: Global, text: &mut String, form: Form) -> Result<(), AllocError>
+    requires depth { depth_of (tree_of form) ≤ 200 }
+    requires words { HasWords (tree_of form) }
+{
+    let mut forms = Forms::new(alloc);
+    match forms.push(form) {
+        Ok(()) => add_printed(alloc, text, &forms),
+        Err((_form, failed)) => Err(failed),
+    }
+}
+
 /// Adds the printed forms.
-pub(crate) fn add_printed(
-    alloc: Global,
-    text: &mut String,
-    forms: &Forms,
-) -> Result<(), AllocError> {
+pub(crate) fn add_printed(alloc: Global, text: &mut String, forms: &Forms) -> Result<(), AllocError>
+    requires depth { depths forms.now ≤ 200 }
+    requires words { All HasWords forms.now }
+{
     let bytes = print_forms(alloc, forms)?;
     text.push_str(str::from_utf8(&bytes).unwrap_or(""))
 }
 
-/// Adds a form to a list of forms.
-pub(crate) fn add_form(forms: &mut Forms, form: Form) -> Result<(), AllocError> {
+// Adds a form to a list of forms.
+fn add_form(forms: &mut Forms, form: Form) -> Result<(), AllocError> {
     match forms.push(form) {
         Ok(()) => Ok(()),
         Err((_form, failed)) => Err(failed),

@@ -1,7 +1,7 @@
 //! Numbers and values.
-use crate::texts::{add_form, add_printed};
+use crate::texts::add_one;
 use std::alloc::{AllocError, Global};
-use tau_sexpr::{Form, Forms, Word, read_forms};
+use tau_sexpr::{Form, Word, read_forms};
 use tau_value::{Names, count_of, form_of, integer_of, value_of, word_of_count, word_of_integer};
 
 // The names that values are read with, and the bound.
@@ -93,11 +93,7 @@ fn add_value(
         return text.push_str("no names\n");
     }
     match value_of(alloc, form, names, BOUND) {
-        Ok(value) => {
-            let mut forms = Forms::new(alloc);
-            add_form(&mut forms, form_of(alloc, &value.copy()?, names)?)?;
-            add_printed(alloc, text, &forms)
-        }
+        Ok(value) => add_one(alloc, text, form_of(alloc, &value.copy()?, names)?),
         Err(error) => writeln!(text, "{error}"),
     }
 }
