@@ -15,12 +15,12 @@ loop-init g c = record {
 
 pub loop-preserved : goal.loop-preserved
 loop-preserved g c =
-  let turn = c.in_ok-answer.ensures.answer in
-  record {
-    can_next = tt;
-    is_finite = tt;
-    stays = stays_longer c.args.seat.now c.loop.seat c.next-in-loop.new.seat c.loop.invariant.stays c.next-in-loop.ensures.stays;
-    prefix = begins_longer c.args.seat.now.seen c.loop.seat.seen c.next-in-loop.new.seat.seen c.loop.invariant.prefix c.next-in-loop.ensures.prefix;
-    size = c.next-in-loop.ensures.size ∙ c.loop.invariant.size;
-    left = idle_left turn.before turn.after c.args.hand.now c.loop.hand c.next-in-loop.new.hand c.in_ok-answer.answer c.in-Idle.out turn.called c.in-Idle.is c.loop.invariant.left;
-  }
+    let turn = c.in_ok-answer.ensures.answer in
+    record {
+      can_next = tt;
+      is_finite = tt;
+      stays = stays_longer c.args.seat.now c.loop.seat c.next-in-loop.new.seat c.loop.invariant.stays c.next-in-loop.ensures.stays;
+      prefix = begins_longer c.args.seat.now.seen c.loop.seat.seen c.next-in-loop.new.seat.seen c.loop.invariant.prefix c.next-in-loop.ensures.prefix;
+      size = c.next-in-loop.ensures.size ∙ c.loop.invariant.size;
+      left = idle_left turn.before turn.after c.args.hand.now c.loop.hand c.next-in-loop.new.hand c.in_ok-answer.answer c.in-Idle.out turn.called c.in-Idle.is c.loop.invariant.left;
+    }
