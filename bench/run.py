@@ -79,10 +79,10 @@ def steps_of(text):
 def main():
     programs.prove()
     numbers = sys.argv[1:] or ["1"]
-    programs = PROGRAMS + [(f"the generated program {number}", generated(number)) for number in numbers]
+    texts = PROGRAMS + [(f"the generated program {number}", generated(number)) for number in numbers]
     print(f"{'program':44} {'steps':>6} {'ms':>9} {'steps/s':>10} {'MB':>7}")
     with tempfile.TemporaryDirectory() as folder:
-        for name, text in programs:
+        for name, text in texts:
             path = os.path.join(folder, "program.tau")
             with open(path, "w", encoding="utf-8") as file:
                 file.write(text)
