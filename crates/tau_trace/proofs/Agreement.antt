@@ -4,10 +4,10 @@ use Rattle.std.specs.Prelude.{slice_get, option_and_then}
 use Rattle.std.specs.Option.{option_map_or}
 use Rattle.tau_history.specs.Timeline.{Timeline, interval, moved, Move, fall}
 use Rattle.tau_trace.specs.declared.step.Step.{Step}
-use Rattle.tau_trace.specs.Steps.{actor, removed_by, is_new, is_send}
+use Rattle.tau_trace.specs.Steps.{actor, removed_by, is_new, makes_message}
 use Rattle.tau_trace.specs.Run.{Run, Agree, step_at, len, appended, starts, ActsAt, Does}
 use Rattle.tau_trace.specs.Places.{count_below}
-use Rattle.tau_trace.specs.Numbering.{born, sent, IsNew, IsOrigin, Receives, post, message, IsHome, start, created, Removes, InFlight}
+use Rattle.tau_trace.specs.Numbering.{born, sent, IsNew, IsSent, IsOrigin, direct, Receives, post, message, IsHome, start, created, Removes, InFlight}
 use Rattle.tau_trace.specs.Histories.{history, opened, move_at, move_by, Falls, EndsAt, Ended}
 use Rattle.tau_trace.specs.Turns.{Turn}
 use Rattle.tau_trace.specs.Laws.{SameAt}
@@ -36,7 +36,7 @@ module _ {T U : Run} where
   born-same k a = omega (arith, ap (λ o. length o.names) a.opening, count-same (λ j. option_map_or is_new (step_at T j) false) (λ j. option_map_or is_new (step_at U j) false) k (λ j l. ap (λ s. option_map_or is_new s false) (a.steps j l)))
 
   pub sent-same : (k : ℕ) → Agree T U k → sent T k ≡ sent U k
-  sent-same k a = omega (arith, ap (λ o. length o.targets) a.opening, count-same (λ j. option_map_or is_send (step_at T j) false) (λ j. option_map_or is_send (step_at U j) false) k (λ j l. ap (λ s. option_map_or is_send s false) (a.steps j l)))
+  sent-same k a = omega (arith, ap (λ o. length o.targets) a.opening, count-same (λ j. option_map_or makes_message (step_at T j) false) (λ j. option_map_or makes_message (step_at U j) false) k (λ j l. ap (λ s. option_map_or makes_message s false) (a.steps j l)))
 
   pub history-same : (t k : ℕ) → Agree T U k → history T t k ≡ history U t k
   history-same t zero a = history-zero T t ∙ opened-same T U t a.opening ∙ sym (history-zero U t)
@@ -66,8 +66,8 @@ module _ {T U : Run} where
     made = n.made ∙ born-same j (agree_below j (omega arith) a);
   }
 
-  pub is_origin-same : (j by m : ℕ) → Agree T U (suc j) → IsOrigin T j by m → IsOrigin U j by m
-  is_origin-same j by m a o = record {
+  pub is_sent-same : (j by m : ℕ) → Agree T U (suc j) → IsSent T j by m → IsSent U j by m
+  is_sent-same j by m a o = record {
     to = o.to;
     value = o.value;
     stands = sym (a.steps j (omega arith)) ∙ o.stands;
@@ -91,23 +91,29 @@ made_before count grows i j h = by (cases i j) where
   by (inr g) = absurd (omega (arith, grows j i g))
 
 pub sent-grows : (T : Run) (i j : ℕ) → i ≤ j → sent T i ≤ sent T j
-sent-grows T i j h = omega (arith, count-grows (λ n. option_map_or is_send (step_at T n) false) i j h)
+sent-grows T i j h = omega (arith, count-grows (λ n. option_map_or makes_message (step_at T n) false) i j h)
 
 pub born-grows : (T : Run) (i j : ℕ) → i ≤ j → born T i ≤ born T j
 born-grows T i j h = omega (arith, count-grows (λ n. option_map_or is_new (step_at T n) false) i j h)
 
+pub sent_before : (T : Run) (j by m k : ℕ) → IsSent T j by m → m < sent T k → j < k
+sent_before T j by m k o h = made_before (sent T) (sent-grows T) j k (omega (arith, o.made))
+
 pub origin_before : (T : Run) (j by m k : ℕ) → IsOrigin T j by m → m < sent T k → j < k
-origin_before T j by m k o h = made_before (sent T) (sent-grows T) j k (omega (arith, o.made))
+origin_before T j by m k (direct o) h = sent_before T j by m k o h
 
 pub new_before : (T : Run) (j by u k : ℕ) → IsNew T j by u → u < born T k → j < k
 new_before T j by u k n h = made_before (born T) (born-grows T) j k (omega (arith, n.made))
 
 module _ {T U : Run} where
   pub receives-same : (k m u : ℕ) → Agree T U k → m < sent T k → Receives T m u → Receives U m u
-  unfolding is_origin-same
+  unfolding is_sent-same
   receives-same k m u a h (post e) = post (ap (λ o. slice_get o.targets m) (sym a.opening) ∙ e)
   receives-same k m u a h (message {j = j} {by = by} o e) =
-      message (is_origin-same j by m (agree_below (suc j) (origin_before T j by m k o h) a) o) e
+      message (is_sent-same j by m (agree_below (suc j) (sent_before T j by m k o h) a) o) e
+
+  pub origin-same : (k m j by : ℕ) → Agree T U k → m < sent T k → IsOrigin T j by m → IsOrigin U j by m
+  origin-same k m j by a h (direct o) = direct (is_sent-same j by m (agree_below (suc j) (sent_before T j by m k o h) a) o)
 
   pub home-same : (k t n : ℕ) → Agree T U k → t < born T k → IsHome T t n → IsHome U t n
   unfolding is_new-same
@@ -142,5 +148,6 @@ same_at T U k a =
       ended = λ t. (ended-same t k a, ended-same t k b);
       turn = λ t place m. (turn-same t k place m a, turn-same t k place m b);
       receives = λ m u h. (receives-same k m u a h, receives-same k m u b (omega (arith, h, sent-same k a)));
+      origin = λ m j by h. (origin-same k m j by a h, origin-same k m j by b (omega (arith, h, sent-same k a)));
       home = λ t n h. (home-same k t n a h, home-same k t n b (omega (arith, h, born-same k a)));
     }

@@ -12,20 +12,20 @@ use Rattle.tau_trace.specs.declared.step.Step.{Step}
 use Rattle.tau_trace.specs.declared.step.Step.TheVariants.{Send, New}
 use Rattle.tau_trace.specs.declared.transactor.Transactor.{Transactor}
 use Rattle.tau_trace.specs.declared.message.Message.{Message}
-use Rattle.tau_trace.specs.Steps.{actor, removed_by, is_new, is_send}
+use Rattle.tau_trace.specs.Steps.{actor, removed_by, is_new, makes_message}
 use Rattle.tau_trace.specs.Run.{Run, len, step_at, starts, appended, Agree}
 use Rattle.tau_trace.specs.Places.{IsFirst}
-use Rattle.tau_trace.specs.Numbering.{born, sent, post, message, start, created, Removes, number_made}
+use Rattle.tau_trace.specs.Numbering.{born, sent, IsOrigin, direct, post, message, start, created, IsPlaceOf, IsReceiver, Removes, number_made}
 use Rattle.tau_trace.specs.Histories.{history, EndsAt}
 use Rattle.tau_trace.specs.Turns.{IsOpenTurn}
 use Rattle.tau_trace.specs.Known.{IsSound, IsKnown, IsKnownAt, MayFollow, WellFormed}
 use Rattle.tau_trace.specs.Tracking.{Tracks, TracksAll, transactor_after, opened_at, created_at}
 use Rattle.tau_trace.specs.Living.{Tracked}
-use Rattle.tau_trace.specs.Stored.{noted_at, noted_of, with_new, transactors_after, sent_to, removed_at, removed_by_record, removed_of, with_sent, messages_after, TracksMessage, TracksMessages, HasNumbers, IsIndexed}
+use Rattle.tau_trace.specs.Stored.{noted_at, noted_of, with_new, transactors_after, sent_to, removed_at, removed_by_record, removed_of, with_sent, messages_after, posted, TracksMessage, TracksMessages, HasNumbers, IsIndexed}
 use Rattle.tau_trace.proofs.Lists.{same_some, slice_get-set_same, slice_get-set_other, slice_get-front, slice_get-last, slice_get-push_cases}
 use Rattle.tau_trace.proofs.Counts.{count-suc, count-zero, count-le}
 use Rattle.tau_trace.proofs.Counted.{history-zero}
-use Rattle.tau_trace.proofs.Agreement.{agree_appended, agree_below, agree_sym, step_at-appended, born-same, sent-same, ends-same, removes-same, home-same, receives-same, same_at}
+use Rattle.tau_trace.proofs.Agreement.{agree_appended, agree_below, agree_sym, step_at-appended, born-same, sent-same, ends-same, removes-same, home-same, receives-same, origin-same, same_at}
 use Rattle.tau_trace.proofs.TrackingLemmas.{tracks_own, tracks_other, first-not, first-here, first-later}
 use Rattle.tau_trace.proofs.Quiet.{IsQuiet, quiet_history, quiet_turn, quiet_end, known_actor, known_removed, unborn_quiet, unsent_kept}
 use Rattle.tau_trace.proofs.Sequences.{cases_last}
@@ -39,8 +39,8 @@ len-appended T s = omega (arith, length-append T.steps (s ∷ []))
 pub born-next : (T : Run) (k : ℕ) (s : Step) → step_at T k ≡ Some s → born T (suc k) ≡ born T k + one_if (is_new s)
 born-next T k s e = omega (arith, count-suc (λ j. option_map_or is_new (step_at T j) false) k, ap (λ o. one_if (option_map_or is_new o false)) e)
 
-pub sent-next : (T : Run) (k : ℕ) (s : Step) → step_at T k ≡ Some s → sent T (suc k) ≡ sent T k + one_if (is_send s)
-sent-next T k s e = omega (arith, count-suc (λ j. option_map_or is_send (step_at T j) false) k, ap (λ o. one_if (option_map_or is_send o false)) e)
+pub sent-next : (T : Run) (k : ℕ) (s : Step) → step_at T k ≡ Some s → sent T (suc k) ≡ sent T k + one_if (makes_message s)
+sent-next T k s e = omega (arith, count-suc (λ j. option_map_or makes_message (step_at T j) false) k, ap (λ o. one_if (option_map_or makes_message o false)) e)
 
 pub known_same : (o : Opening) (b c m n : ℕ) (s : Step) → b ≡ c → m ≡ n → IsKnown o b m s → IsKnown o c n s
 known_same o b c m n s e f h = let P : ℕ → Type 0 = λ x. IsKnown o x n s in subst P e (let Q : ℕ → Type 0 = λ x. IsKnown o b x s in subst Q f h)
@@ -213,21 +213,21 @@ length-removed k ms (Some m) = by (slice_get ms m) where
   by None = refl
   by (Some r) = length-set ms m (removed_at k r)
 
-length-with_sent : (s : Step) (ms : List Message) → length (with_sent s ms) ≡ length ms + one_if (is_send s)
-length-with_sent (Send t u v) ms = length-append ms (sent_to u ∷ [])
-length-with_sent s ms = omega arith
+length-with_sent : (k : ℕ) (s : Step) (ms : List Message) → length (with_sent k s ms) ≡ length ms + one_if (makes_message s)
+length-with_sent k (Send t u v) ms = length-append ms (sent_to (Some u) (Some k) ∷ [])
+length-with_sent k s ms = omega arith
 
 -- the record of a message that a step made
-record MadeSend (s : Step) (r : Message) : Type 0 where
+record MadeSend (k : ℕ) (s : Step) (r : Message) : Type 0 where
   by : ℕ
   to : ℕ
   value : Value
   is : s ≡ Send by to value
-  record_is : sent_to to ≡ r
+  record_is : sent_to (Some to) (Some k) ≡ r
 
-with_sent-cases : (s : Step) (ms : List Message) (m : ℕ) (r : Message) → slice_get (with_sent s ms) m ≡ Some r → (slice_get ms m ≡ Some r) ⊎ ((m ≡ length ms) × MadeSend s r)
-with_sent-cases (Send t u v) ms m r e = ⊎_elim (λ x. inl x) (λ p. inr (p.0, record { by = t; to = u; value = v; is = refl; record_is = p.1 })) (slice_get-push_cases ms (sent_to u) r m e)
-with_sent-cases s ms m r e = inl e
+with_sent-cases : (k : ℕ) (s : Step) (ms : List Message) (m : ℕ) (r : Message) → slice_get (with_sent k s ms) m ≡ Some r → (slice_get ms m ≡ Some r) ⊎ ((m ≡ length ms) × MadeSend k s r)
+with_sent-cases k (Send t u v) ms m r e = ⊎_elim (λ x. inl x) (λ p. inr (p.0, record { by = t; to = u; value = v; is = refl; record_is = p.1 })) (slice_get-push_cases ms (sent_to (Some u) (Some k)) r m e)
+with_sent-cases k s ms m r e = inl e
 
 data RemovedCase (k : ℕ) (ms : List Message) (o : Option ℕ) (m : ℕ) (r : Message) : Type 0 where
   own_message : o ≡ Some m → (q : Message) → slice_get ms m ≡ Some q → removed_at k q ≡ r → RemovedCase k ms o m r
@@ -245,33 +245,42 @@ removed-cases k ms (Some u) m r e = by (slice_get ms u) refl e where
 
 -- the record of a message after a step that takes it out of flight
 removed_own : (T : Run) (k m : ℕ) (q : Message) → Removes T m k → TracksMessage T k m q → TracksMessage T (suc k) m (removed_at k q)
-removed_own T k m q r h = record { receiver = h.receiver; ended_by = by q.ended_by h.ended_by } where
+removed_own T k m q r h = record { receiver = h.receiver; origin = h.origin; ended_by = by q.ended_by h.ended_by } where
   by : (o : Option ℕ) → IsFirst (Removes T m) k o → IsFirst (Removes T m) (suc k) (option_or o (Some k))
   by None f = first-here (Removes T m) k r f
   by (Some j) f = first-later (Removes T m) k j f
 
 removed_other : (T : Run) (k m : ℕ) (r : Message) → ¬ Removes T m k → TracksMessage T k m r → TracksMessage T (suc k) m r
-removed_other T k m r n h = record { receiver = h.receiver; ended_by = first-not (Removes T m) k r.ended_by n h.ended_by }
+removed_other T k m r n h = record { receiver = h.receiver; origin = h.origin; ended_by = first-not (Removes T m) k r.ended_by n h.ended_by }
+
+receiver_same : (T U : Run) (k m : ℕ) (o : Option ℕ) → Agree T U k → m < sent T k → IsReceiver T m o → IsReceiver U m o
+receiver_same T U k m None a b h = λ u r. h u (receives-same k m u (agree_sym a) (omega (arith, b, sent-same k a)) r)
+receiver_same T U k m (Some u) a b h = receives-same k m u a b h
+
+place_same : (T U : Run) (k m : ℕ) (o : Option ℕ) → Agree T U k → m < sent T k → IsPlaceOf T m o → IsPlaceOf U m o
+place_same T U k m None a b h = λ j by r. h j by (origin-same k m j by (agree_sym a) (omega (arith, b, sent-same k a)) r)
+place_same T U k m (Some j) a b h = (h.0, origin-same k m j h.0 a b h.1)
 
 message_same : (T U : Run) (k m : ℕ) (r : Message) → Agree T U k → m < sent T k → TracksMessage T k m r → TracksMessage U k m r
-message_same T U k m r a b h = record { receiver = receives-same k m r.target a b h.receiver; ended_by = by r.ended_by h.ended_by } where
+message_same T U k m r a b h = record { receiver = receiver_same T U k m r.target a b h.receiver; origin = place_same T U k m r.origin a b h.origin; ended_by = by r.ended_by h.ended_by } where
   by : (o : Option ℕ) → IsFirst (Removes T m) k o → IsFirst (Removes U m) k o
   by None n = λ j l e. n j l (removes-same m j (agree_below (suc j) l (agree_sym a)) e)
   by (Some i) n = (n.0, removes-same m i (agree_below (suc i) n.0 a) n.1, λ j l e. n.2 j l (removes-same m j (agree_below (suc j) (omega (arith, l, n.0)) (agree_sym a)) e))
 
 -- the record of a message right after its Send
-message_new : (T : Run) (k m : ℕ) (s : Step) (r : Message) → step_at T k ≡ Some s → m ≡ sent T k → MadeSend s r → IsFirst (Removes T m) (suc k) None → TracksMessage T (suc k) m r
+message_new : (T : Run) (k m : ℕ) (s : Step) (r : Message) → step_at T k ≡ Some s → m ≡ sent T k → MadeSend k s r → IsFirst (Removes T m) (suc k) None → TracksMessage T (suc k) m r
 message_new T k m s r e is x f =
     let P : Message → Type 0 = λ y. TracksMessage T (suc k) m y in
     subst P x.record_is (record {
       receiver = message {j = k} {by = x.by} (record { to = x.to; value = x.value; stands = e ∙ ap Some x.is; made = is }) refl;
+      origin = (x.by, direct (record { to = x.to; value = x.value; stands = e ∙ ap Some x.is; made = is }));
       ended_by = f;
     })
 
 pub messages_appended : (T : Run) (s : Step) (ms : List Message) → WellFormed T → MayFollow T s → TracksMessages T ms → TracksMessages (appended T s) (messages_after s (len T) ms)
 messages_appended T s ms w may h = record {
-  count = omega (arith, length-with_sent s (removed_of (len T) ms (removed_by s)), length-removed (len T) ms (removed_by s), h.count, sent-same (len T) (agree_appended T s), sent-next (appended T s) (len T) s (step_at-appended T s), ap (sent (appended T s)) (len-appended T s));
-  each = λ m r e. let P : ℕ → Type 0 = λ k. TracksMessage (appended T s) k m r in subst P (sym (len-appended T s)) (⊎_elim (old m r) (new m r) (with_sent-cases s (removed_of (len T) ms (removed_by s)) m r e));
+  count = omega (arith, length-with_sent (len T) s (removed_of (len T) ms (removed_by s)), length-removed (len T) ms (removed_by s), h.count, sent-same (len T) (agree_appended T s), sent-next (appended T s) (len T) s (step_at-appended T s), ap (sent (appended T s)) (len-appended T s));
+  each = λ m r e. let P : ℕ → Type 0 = λ k. TracksMessage (appended T s) k m r in subst P (sym (len-appended T s)) (⊎_elim (old m r) (new m r) (with_sent-cases (len T) s (removed_of (len T) ms (removed_by s)) m r e));
 } where
   removes : (m : ℕ) → removed_by s ≡ Some m → Removes (appended T s) m (len T)
   removes m e = ap (option_and_then removed_by) (step_at-appended T s) ∙ e
@@ -288,7 +297,7 @@ messages_appended T s ms w may h = record {
     by (own_message a q f g) = let P : Message → Type 0 = λ x. TracksMessage (appended T s) (suc (len T)) m x in subst P g (removed_own (appended T s) (len T) m q (removes m a) (before m q f))
     by (other_message n f) = removed_other (appended T s) (len T) m r (λ x. n (removed m x)) (before m r f)
 
-  new : (m : ℕ) (r : Message) → (m ≡ length (removed_of (len T) ms (removed_by s))) × MadeSend s r → TracksMessage (appended T s) (suc (len T)) m r
+  new : (m : ℕ) (r : Message) → (m ≡ length (removed_of (len T) ms (removed_by s))) × MadeSend (len T) s r → TracksMessage (appended T s) (suc (len T)) m r
   new m r p =
       let is : m ≡ sent T (len T) = omega (arith, p.0, length-removed (len T) ms (removed_by s), h.count) in
       let kept : IsFirst (Removes (appended T s) m) (suc (len T)) None = λ j l a. ⊎_elim
@@ -308,13 +317,13 @@ index_appended T s made old new records number may is after nodes x = record {
 }
 
 -- and at the opening
-pub index_opened : (o : Opening) (tracked : Tracked) (records : List Message) → IsSound o → tracked.transactors ≡ map opened_at o.homes → tracked.nodes ≡ o.nodes → records ≡ map sent_to o.targets → IsIndexed (record { opening = o; steps = [] }) [] tracked records
+pub index_opened : (o : Opening) (tracked : Tracked) (records : List Message) → IsSound o → tracked.transactors ≡ map opened_at o.homes → tracked.nodes ≡ o.nodes → records ≡ map posted o.targets → IsIndexed (record { opening = o; steps = [] }) [] tracked records
 index_opened o tracked records sound ts nodes ms = record {
   well_formed = record { opening = sound; known = λ k s e. absurd (cc); few_steps = omega arith };
   numbers = record { count = refl; each = λ k s e. absurd (cc) };
   transactors = subst (TracksAll T) (sym ts) (record { count = omega (arith, length-map o.homes opened_at, sound.a_home_each, count-zero (λ j. option_map_or is_new (step_at T j) false)); each = starts_at });
   nodes = nodes;
-  messages = subst (TracksMessages T) (sym ms) (record { count = omega (arith, length-map o.targets sent_to, count-zero (λ j. option_map_or is_send (step_at T j) false)); each = posts_at });
+  messages = subst (TracksMessages T) (sym ms) (record { count = omega (arith, length-map o.targets posted, count-zero (λ j. option_map_or makes_message (step_at T j) false)); each = posts_at });
 } where
   T : Run
   T = record { opening = o; steps = [] }
@@ -337,20 +346,23 @@ index_opened o tracked records sound ts nodes ms = record {
           at_opening = ap (λ x. eqb (interval x) 0) (sym here);
         })
 
-  posts_at : (m : ℕ) (r : Message) → slice_get (map sent_to o.targets) m ≡ Some r → TracksMessage (record { opening = o; steps = [] }) 0 m r
-  posts_at m r e = by (slice_get o.targets m) refl (sym (slice_get-map sent_to o.targets m) ∙ e) where
-    by : (h : Option ℕ) → slice_get o.targets m ≡ h → option_map sent_to h ≡ Some r → TracksMessage (record { opening = o; steps = [] }) 0 m r
+  no_origin : (m j by : ℕ) → ¬ IsOrigin (record { opening = o; steps = [] }) j by m
+  no_origin m j by (direct x) = let none = x.stands in cc
+
+  posts_at : (m : ℕ) (r : Message) → slice_get (map posted o.targets) m ≡ Some r → TracksMessage (record { opening = o; steps = [] }) 0 m r
+  posts_at m r e = by (slice_get o.targets m) refl (sym (slice_get-map posted o.targets m) ∙ e) where
+    by : (h : Option ℕ) → slice_get o.targets m ≡ h → option_map posted h ≡ Some r → TracksMessage (record { opening = o; steps = [] }) 0 m r
     by None f g = absurd (cc)
     by (Some n) f g =
         let P : Message → Type 0 = λ x. TracksMessage (record { opening = o; steps = [] }) 0 m x in
-        subst P (same_some g) (record { receiver = post f; ended_by = λ j l. absurd (omega (arith, l)) })
+        subst P (same_some g) (record { receiver = post f; origin = no_origin m; ended_by = λ j l. absurd (omega (arith, l)) })
 
 -- how many transactors and messages there can be
 pub born-le : (T : Run) (k : ℕ) → born T k ≤ starts T + k
 born-le T k = omega (arith, count-le (λ j. option_map_or is_new (step_at T j) false) k)
 
 pub sent-le : (T : Run) (k : ℕ) → sent T k ≤ length T.opening.targets + k
-sent-le T k = omega (arith, count-le (λ j. option_map_or is_send (step_at T j) false) k)
+sent-le T k = omega (arith, count-le (λ j. option_map_or makes_message (step_at T j) false) k)
 
 pub few_transactors : (T : Run) (made : List ℕ) (tracked : Tracked) (records : List Message) → IsIndexed T made tracked records → length tracked.transactors < 2 ^ 32
 few_transactors T made tracked records x = omega (arith, x.transactors.count, born-le T (len T), x.well_formed.opening.few_names, x.well_formed.few_steps)

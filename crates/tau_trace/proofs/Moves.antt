@@ -19,25 +19,10 @@ pub record OwnMove (t : ℕ) (b : Bool) (o : Option Step) (n : Move) : Type 0 wh
   pub moves : move_of b step ≡ n
 
 by_actor : (t : ℕ) (s : Step) → is_by t s ≡ true → actor s ≡ Some t
-by_actor t (Lose m) e = cc
-by_actor t (Take u m) e = ap Some (eqb-true u t e)
-by_actor t (Drop u m) e = ap Some (eqb-true u t e)
-by_actor t (Fall u m) e = ap Some (eqb-true u t e)
-by_actor t (Void u m) e = ap Some (eqb-true u t e)
-by_actor t (Get u) e = ap Some (eqb-true u t e)
-by_actor t (Set u v) e = ap Some (eqb-true u t e)
-by_actor t (Skip u) e = ap Some (eqb-true u t e)
-by_actor t (Send u w v) e = ap Some (eqb-true u t e)
-by_actor t (New u b n v) e = ap Some (eqb-true u t e)
-by_actor t (Stabilize u) e = ap Some (eqb-true u t e)
-by_actor t (Ask u a) e = ap Some (eqb-true u t e)
-by_actor t (Checkpoint u) e = ap Some (eqb-true u t e)
-by_actor t (Hold u) e = ap Some (eqb-true u t e)
-by_actor t (Rollback u) e = ap Some (eqb-true u t e)
-by_actor t (Stay u) e = ap Some (eqb-true u t e)
-by_actor t (Done u) e = ap Some (eqb-true u t e)
-by_actor t (Trap u c) e = ap Some (eqb-true u t e)
-by_actor t (Fail u) e = ap Some (eqb-true u t e)
+by_actor t s e = by (actor s) e where
+  by : (o : Option ℕ) → option_map_or (λ u. eqb u t) o false ≡ true → o ≡ Some t
+  by None f = absurd (cc)
+  by (Some u) f = ap Some (eqb-true u t f)
 
 pub own_move : (t : ℕ) (b : Bool) (o : Option Step) (n : Move) → ¬ (n ≡ keep) → move_by t b o ≡ n → OwnMove t b o n
 own_move t b None n moves e = absurd (moves (sym e))

@@ -6,7 +6,7 @@ use Rattle.tau_trace.specs.declared.transactor.Transactor.{Transactor}
 use Rattle.tau_trace.specs.declared.message.Message.{Message}
 use Rattle.tau_trace.specs.Run.{Run, len}
 use Rattle.tau_trace.specs.Places.{IsFirst}
-use Rattle.tau_trace.specs.Numbering.{born, sent, IsHome, Removes}
+use Rattle.tau_trace.specs.Numbering.{born, sent, IsOrigin, HasSender, IsPlaceOf, IsSender, IsReceiver, IsHome, Removes}
 use Rattle.tau_trace.specs.Histories.{EndsAt}
 use Rattle.tau_trace.specs.Turns.{IsOpenTurn}
 use Rattle.tau_trace.specs.Tracking.{Tracks}
@@ -14,7 +14,7 @@ use Rattle.tau_trace.specs.Living.{Tracked, Lives, IsLeastLiving}
 use Rattle.tau_trace.specs.Nodes.{LivesAt, IsNextLiving}
 use Rattle.tau_trace.specs.Stored.{IsIndexed, TracksMessage}
 use Rattle.tau_trace.proofs.Quiet.{quiet_turn, quiet_end, unborn_quiet, unsent_kept}
-use Rattle.tau_trace.proofs.Once.{home_once}
+use Rattle.tau_trace.proofs.Once.{home_once, origin_is_one, origin_exists, received_exists}
 
 pub past_end : {A : Type 0} (xs : List A) (i : ℕ) → slice_get xs i ≡ None → length xs ≤ i
 past_end [] i e = omega arith
@@ -50,6 +50,12 @@ module _ (T : Run) (made : List ℕ) (tracked : Tracked) (records : List Message
 
   pub not_removed : (m : ℕ) → slice_get records m ≡ None → IsFirst (Removes T m) (len T) None
   not_removed m e = unsent_kept T m (len T) x.well_formed.known (message_absent m e)
+
+  pub no_receiver : (m : ℕ) → slice_get records m ≡ None → IsReceiver T m None
+  no_receiver m e = λ u r. omega (arith, message_absent m e, received_exists T m u r)
+
+  pub no_origin : (m : ℕ) → slice_get records m ≡ None → IsPlaceOf T m None
+  no_origin m e = λ j by o. omega (arith, message_absent m e, origin_exists T j by m o)
 
   -- who lives by the records lives by the steps
   lives_at : (n t : ℕ) → Lives tracked.transactors n t → LivesAt T n t (len T)

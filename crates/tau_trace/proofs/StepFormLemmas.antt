@@ -168,24 +168,7 @@ module _ (T U : Run) (w : WellFormed T) (v : WellFormed U) (wt : (k : ℕ) → I
 
 pub no_mark : (o : Opening) (made : ℕ) (s : Step) (w : List ℕ) → step_form o made s ≢ list (more (word w) none)
 no_mark o made (Take t m) w e = cc
-no_mark o made (Drop t m) w e = cc
-no_mark o made (Fall t m) w e = cc
-no_mark o made (Void t m) w e = cc
-no_mark o made (Get t) w e = cc
-no_mark o made (Set t v) w e = cc
-no_mark o made (Skip t) w e = cc
-no_mark o made (Send t u v) w e = cc
-no_mark o made (New t b n v) w e = cc
-no_mark o made (Stabilize t) w e = cc
-no_mark o made (Ask t a) w e = cc
-no_mark o made (Checkpoint t) w e = cc
-no_mark o made (Hold t) w e = cc
-no_mark o made (Rollback t) w e = cc
-no_mark o made (Stay t) w e = cc
-no_mark o made (Done t) w e = cc
-no_mark o made (Trap t c) w e = cc
-no_mark o made (Fail t) w e = cc
-no_mark o made (Lose m) w e = cc
+no_mark o made s w e = cc
 
 -- the words of a form
 truth_word : (a : Bool) → HasWords (truth_form a)
@@ -194,24 +177,7 @@ truth_word false e = cc
 
 kind_nonempty : (s : Step) → kind_word s ≢ []
 kind_nonempty (Take t m) e = cc
-kind_nonempty (Drop t m) e = cc
-kind_nonempty (Fall t m) e = cc
-kind_nonempty (Void t m) e = cc
-kind_nonempty (Get t) e = cc
-kind_nonempty (Set t v) e = cc
-kind_nonempty (Skip t) e = cc
-kind_nonempty (Send t u v) e = cc
-kind_nonempty (New t b n v) e = cc
-kind_nonempty (Stabilize t) e = cc
-kind_nonempty (Ask t a) e = cc
-kind_nonempty (Checkpoint t) e = cc
-kind_nonempty (Hold t) e = cc
-kind_nonempty (Rollback t) e = cc
-kind_nonempty (Stay t) e = cc
-kind_nonempty (Done t) e = cc
-kind_nonempty (Trap t c) e = cc
-kind_nonempty (Fail t) e = cc
-kind_nonempty (Lose m) e = cc
+kind_nonempty s e = cc
 
 pub step_form-words : (o : Opening) (b m made : ℕ) (s : Step) → IsSound o → b < 2 ^ 32 → m < 2 ^ 32 → made < 2 ^ 32 → IsKnown o b m s → ValueIsWritten o s → HasWords (step_form o made s)
 step_form-words o b m made s sound fb fm fn h w = (kind_nonempty s, items s h w) where

@@ -10,7 +10,7 @@ use Rattle.tau_trace.specs.declared.step.Step.{Step}
 use Rattle.tau_trace.specs.Run.{Run, Agree, ActsAt}
 use Rattle.tau_trace.specs.Known.{WellFormed}
 use Rattle.tau_trace.specs.StepForms.{step_form, step_form_at, IsWrittenAt}
-use Rattle.tau_trace.specs.Numbering.{born, sent, IsNew, IsOrigin, Receives, IsHome, InFlight}
+use Rattle.tau_trace.specs.Numbering.{born, sent, IsOrigin, Receives, IsHome, InFlight}
 use Rattle.tau_trace.specs.Histories.{history, IsCounted, Falls, Closes, EndsAt, Ended}
 use Rattle.tau_trace.specs.Points.{point_at, Stabilizes, Leaves, MadeAt, IsOpeningPoint, IsUpTo, IsEarlier}
 use Rattle.tau_trace.specs.Turns.{Turn}
@@ -28,6 +28,7 @@ pub record SameAt (T U : Run) (k : ℕ) : Type 0 where
   pub ended : (t : ℕ) → Ended T t k ↔ Ended U t k
   pub turn : (t place m : ℕ) → Turn T t k place m ↔ Turn U t k place m
   pub receives : (m u : ℕ) → m < sent T k → Receives T m u ↔ Receives U m u
+  pub origin : (m j by : ℕ) → m < sent T k → IsOrigin T j by m ↔ IsOrigin U j by m
   pub home : (t n : ℕ) → t < born T k → IsHome T t n ↔ IsHome U t n
 
 -- what is said of place k reads the opening and the steps below k alone

@@ -7,6 +7,7 @@ pub mod Points
 pub mod Turns
 pub mod Known
 pub mod Laws
+pub mod MessageLaws
 pub mod Ascending
 pub mod Tracking
 pub mod Living

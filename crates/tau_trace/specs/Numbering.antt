@@ -1,10 +1,11 @@
--- The numbers of transactors and messages, and the messages in flight (docs/definitions.md, "Opening", "In flight").
-use Rattle.std.specs.Prelude.{◌≡◌, ℕ, ◌+◌, ◌<◌, Bool, false, Option, Some, length, slice_get, option_and_then}
+-- The numbers of transactors and messages, what made them, and the messages in flight (docs/definitions.md, "Opening",
+-- "Origin", "In flight").
+use Rattle.std.specs.Prelude.{◌≡◌, ℕ, ◌+◌, ◌<◌, Bool, false, Option, Some, None, IsTrue, length, slice_get, option_and_then}
 use Rattle.std.specs.Option.{option_map_or}
 use Rattle.tau_value.specs.declared.shared.Value.{Value}
 use Rattle.tau_trace.specs.declared.step.Step.{Step}
 use Rattle.tau_trace.specs.declared.step.Step.TheVariants.{Send, New}
-use Rattle.tau_trace.specs.Steps.{removed_by, is_new, is_send}
+use Rattle.tau_trace.specs.Steps.{removed_by, is_new, is_send, makes_message}
 use Rattle.tau_trace.specs.Run.{Run, step_at, starts}
 use Rattle.tau_trace.specs.Places.{count_below}
 
@@ -12,9 +13,9 @@ use Rattle.tau_trace.specs.Places.{count_below}
 abbrev pub born : Run → ℕ → ℕ
 born T k = starts T + count_below (λ j. option_map_or is_new (step_at T j) false) k
 
--- how many messages exist at place k: the posts, and one for each Send before it
+-- how many messages exist at place k: the posts, and one for each step before it that makes one
 abbrev pub sent : Run → ℕ → ℕ
-sent T k = length T.opening.targets + count_below (λ j. option_map_or is_send (step_at T j) false) k
+sent T k = length T.opening.targets + count_below (λ j. option_map_or makes_message (step_at T j) false) k
 
 -- the step at place j is a New by transactor `by`, and makes transactor u
 pub record IsNew (T : Run) (j by u : ℕ) : Type 0 where
@@ -25,16 +26,44 @@ pub record IsNew (T : Run) (j by u : ℕ) : Type 0 where
   pub made : u ≡ born T j
 
 -- the step at place j is a Send by transactor `by`, and makes message m
-pub record IsOrigin (T : Run) (j by m : ℕ) : Type 0 where
+pub record IsSent (T : Run) (j by m : ℕ) : Type 0 where
   pub to : ℕ
   pub value : Value
   pub stands : step_at T j ≡ Some (Send by to value)
   pub made : m ≡ sent T j
 
+-- the origin of a message is the step at place j, by transactor `by`: the Send that made it
+pub data IsOrigin (T : Run) (j by : ℕ) : ℕ → Type 0 where
+  direct : {m : ℕ} → IsSent T j by m → IsOrigin T j by m
+
+-- transactor u is the sender of message m; a post has none
+pub record HasSender (T : Run) (m u : ℕ) : Type 0 where
+  pub place : ℕ
+  pub origin : IsOrigin T place u m
+
+-- the step at place j is a Send
+abbrev pub IsSendAt : Run → ℕ → Type 0
+IsSendAt T j = IsTrue (option_map_or is_send (step_at T j) false)
+
 -- transactor u is the receiver of message m
-pub data Receives (T : Run) (m u : ℕ) : Type 0 where
-  post : slice_get T.opening.targets m ≡ Some u → Receives T m u
-  message : {j by : ℕ} → (origin : IsOrigin T j by m) → origin.to ≡ u → Receives T m u
+pub data Receives (T : Run) : ℕ → ℕ → Type 0 where
+  post : {m u : ℕ} → slice_get T.opening.targets m ≡ Some u → Receives T m u
+  message : {j by m u : ℕ} → (origin : IsSent T j by m) → origin.to ≡ u → Receives T m u
+
+-- the place of the origin of message m; None where it has none
+abbrev pub IsPlaceOf : Run → ℕ → Option ℕ → Type 0
+IsPlaceOf T m None = (j by : ℕ) → ¬ IsOrigin T j by m
+IsPlaceOf T m (Some j) = (by : ℕ) × IsOrigin T j by m
+
+-- the sender of message m; None where it has none
+abbrev pub IsSender : Run → ℕ → Option ℕ → Type 0
+IsSender T m None = (u : ℕ) → ¬ HasSender T m u
+IsSender T m (Some u) = HasSender T m u
+
+-- the receiver of message m; None where it has none
+abbrev pub IsReceiver : Run → ℕ → Option ℕ → Type 0
+IsReceiver T m None = (u : ℕ) → ¬ Receives T m u
+IsReceiver T m (Some u) = Receives T m u
 
 -- transactor t stands at node n
 pub data IsHome (T : Run) (t n : ℕ) : Type 0 where

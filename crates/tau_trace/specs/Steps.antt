@@ -34,6 +34,14 @@ removed_by (Void t m) = Some m
 removed_by (Lose m) = Some m
 removed_by s = None
 
+-- the message that the step receives: a Fall leaves it in flight
+abbrev pub received_by : Step → Option ℕ
+received_by (Take t m) = Some m
+received_by (Drop t m) = Some m
+received_by (Fall t m) = Some m
+received_by (Void t m) = Some m
+received_by s = None
+
 -- the kinds that end their transactor's turn
 abbrev pub ends_turn : Step → Bool
 ends_turn (Fall t m) = true
@@ -61,3 +69,14 @@ is_new s = false
 abbrev pub is_send : Step → Bool
 is_send (Send t u v) = true
 is_send s = false
+
+-- the kinds that make a message
+abbrev pub makes_message : Step → Bool
+makes_message s = is_send s
+
+-- the kinds that neither begin nor end a turn and belong to none
+abbrev pub leaves_turns : Step → Bool
+leaves_turns (Drop t m) = true
+leaves_turns (Void t m) = true
+leaves_turns (Lose m) = true
+leaves_turns s = false

@@ -12,7 +12,7 @@ use Rattle.tau_trace.specs.declared.message.Message.{Message}
 use Rattle.tau_trace.specs.Steps.{actor, removed_by}
 use Rattle.tau_trace.specs.Run.{Run, len, step_at}
 use Rattle.tau_trace.specs.Places.{IsFirst}
-use Rattle.tau_trace.specs.Numbering.{born, sent, Receives, Removes, number_made}
+use Rattle.tau_trace.specs.Numbering.{born, sent, IsPlaceOf, IsReceiver, Removes, number_made}
 use Rattle.tau_trace.specs.Known.{WellFormed}
 use Rattle.tau_trace.specs.Tracking.{transactor_after, created_at, TracksAll}
 use Rattle.tau_trace.specs.Living.{Tracked}
@@ -45,13 +45,17 @@ with_new s ts = ts
 abbrev pub transactors_after : Step → ℕ → List Transactor → List Transactor
 transactors_after s k ts = with_new s (noted_of s k ts (actor s))
 
--- a message right after its Send, or as a post
-abbrev pub sent_to : ℕ → Message
-sent_to u = record { target = u; ended_by = None }
+-- a message right after the step that made it, by its receiver and the place of its origin
+abbrev pub sent_to : Option ℕ → Option ℕ → Message
+sent_to u k = record { target = u; origin = k; ended_by = None }
+
+-- a post, by its receiver
+abbrev pub posted : ℕ → Message
+posted u = sent_to (Some u) None
 
 -- a message after a step at place k that takes it out of flight
 abbrev pub removed_at : ℕ → Message → Message
-removed_at k r = record { target = r.target; ended_by = option_or r.ended_by (Some k) }
+removed_at k r = record { target = r.target; origin = r.origin; ended_by = option_or r.ended_by (Some k) }
 
 -- the records after message m was taken out of flight, by its record
 abbrev pub removed_by_record : ℕ → List Message → ℕ → Option Message → List Message
@@ -63,14 +67,14 @@ abbrev pub removed_of : ℕ → List Message → Option ℕ → List Message
 removed_of k ms None = ms
 removed_of k ms (Some m) = removed_by_record k ms m (slice_get ms m)
 
--- the records after a step that may be a Send
-abbrev pub with_sent : Step → List Message → List Message
-with_sent (Send t u v) ms = ms ++ sent_to u ∷ []
-with_sent s ms = ms
+-- the records after a step at place k that may make a message
+abbrev pub with_sent : ℕ → Step → List Message → List Message
+with_sent k (Send t u v) ms = ms ++ sent_to (Some u) (Some k) ∷ []
+with_sent k s ms = ms
 
 -- the records of messages after a step at place k
 abbrev pub messages_after : Step → ℕ → List Message → List Message
-messages_after s k ms = with_sent s (removed_of k ms (removed_by s))
+messages_after s k ms = with_sent k s (removed_of k ms (removed_by s))
 
 -- the number that the step at place k made
 abbrev pub IsMadeAt : Run → ℕ → ℕ → Type 0
@@ -78,7 +82,8 @@ IsMadeAt T k made = (s : Step) → step_at T k ≡ Some s → made ≡ number_ma
 
 -- the record says what the steps below place k say of message m
 pub record TracksMessage (T : Run) (k m : ℕ) (r : Message) : Type 0 where
-  pub receiver : Receives T m r.target
+  pub receiver : IsReceiver T m r.target
+  pub origin : IsPlaceOf T m r.origin
   pub ended_by : IsFirst (Removes T m) k r.ended_by
 
 -- a record for each message

@@ -1,5 +1,6 @@
 //! Laws of runs, each the contract of a function that does nothing.
 ghost use Rattle.tau_trace.specs.Laws.{HistoriesAreCounted, LocalByAgreement, HistoriesLieOnAChain, PointsGrow, PointsDoNotReturn, FatesAreLocal, StableAtAPoint, VolatileFallsWereNeverStable, StepFormsTellRuns, NoStepFormIsAMark, EachNumberIsMadeOnce};
+ghost use Rattle.tau_trace.specs.MessageLaws.{EachMessageHasOneOrigin};
 
 /// Histories are what counting steps gives (docs/rules.md, "Histories", "Steps").
 pub fn histories_are_counted()
@@ -54,4 +55,9 @@ pub fn no_step_form_is_a_mark()
 /// Each transactor has one node, and each message one receiver (docs/rules.md, "Numbers").
 pub fn each_number_is_made_once()
     ensures { EachNumberIsMadeOnce }
+{}
+
+/// A message has one origin (docs/rules.md, "Numbers").
+pub fn each_message_has_one_origin()
+    ensures { EachMessageHasOneOrigin }
 {}

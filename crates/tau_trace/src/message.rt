@@ -2,20 +2,22 @@
 ghost use Rattle.std.specs.Prelude.{◌≡◌, slice_get};
 ghost use Rattle.tau_trace.specs.Stored.{sent_to, removed_at};
 
-/// Its receiver, and the place of the step that took it out of flight.
+/// Its receiver, the place of its origin, and that of the step that took it out of flight.
 #[derive(Clone, Copy)]
 pub(crate) struct Message {
-    pub(crate) target: u32,
+    pub(crate) target: Option<u32>,
+    pub(crate) origin: Option<u32>,
     pub(crate) ended_by: Option<u32>,
 }
 
 impl Message {
     /// A message in flight.
-    pub(crate) fn new(target: u32) -> Message
-        ensures { result ≡ sent_to target }
+    pub(crate) fn new(target: Option<u32>, origin: Option<u32>) -> Message
+        ensures { result ≡ sent_to target origin }
     {
         Message {
             target,
+            origin,
             ended_by: None,
         }
     }

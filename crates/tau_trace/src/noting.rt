@@ -49,13 +49,13 @@ pub(crate) fn note_removed(messages: &mut Vec<Message>, step: &Step, place: u32)
     }
 }
 
-/// Adds the message that a Send makes, in the room that there is.
-pub(crate) fn add_sent(messages: &mut Vec<Message>, step: &Step)
+/// Adds the message that a Send at this place makes, in the room that there is.
+pub(crate) fn add_sent(messages: &mut Vec<Message>, step: &Step, place: u32)
     requires { IsTrue (has_room messages.old) }
-    ensures { messages.new.items ≡ with_sent step.now messages.old.items }
+    ensures { messages.new.items ≡ with_sent place step.now messages.old.items }
 {
     if let Step::Send { to, .. } = step {
-        messages.push_reserved(Message::new(*to));
+        messages.push_reserved(Message::new(Some(*to), Some(place)));
     }
 }
 

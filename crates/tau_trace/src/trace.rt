@@ -4,7 +4,7 @@ ghost use Rattle.tau_trace.specs.Run.{Run, len, step_at, appended};
 ghost use Rattle.tau_trace.specs.Known.{IsSound, MayFollow, WellFormed};
 ghost use Rattle.tau_trace.specs.Places.{IsFirst};
 ghost use Rattle.tau_trace.specs.Numbering as numbering;
-ghost use Rattle.tau_trace.specs.Numbering.{Removes, Receives, IsHome};
+ghost use Rattle.tau_trace.specs.Numbering.{Removes, IsPlaceOf, IsSender, IsReceiver, IsHome};
 ghost use Rattle.tau_trace.specs.Histories.{EndsAt};
 ghost use Rattle.tau_trace.specs.Turns.{IsOpenTurn};
 ghost use Rattle.tau_trace.specs.Nodes.{IsNextLiving};
@@ -116,7 +116,7 @@ impl Trace {
         note_actor(&mut self.transactors, &step, place);
         add_new(&mut self.transactors, &step);
         note_removed(&mut self.messages, &step, place);
-        add_sent(&mut self.messages, &step);
+        add_sent(&mut self.messages, &step, place);
         self.made.push_reserved(number);
         self.steps.push_reserved(step);
     }
@@ -203,10 +203,24 @@ impl Trace {
 
     /// The receiver of a message; `None` where it doesn't exist.
     pub fn target(&self, message: u32) -> Option<u32>
-        ensures exists { IsSome result ↔ (message < numbering.sent self.now.run (len self.now.run)) }
-        ensures target { IfSome result (Receives self.now.run message) }
+        ensures { IsReceiver self.now.run message result }
     {
-        Some(message_of(&self.messages, message)?.target)
+        message_of(&self.messages, message)?.target
+    }
+
+    /// The place of the Send that made a message; `None` for a post, and where the message doesn't exist.
+    pub fn origin(&self, message: u32) -> Option<u32>
+        ensures { IsPlaceOf self.now.run message result }
+    {
+        message_of(&self.messages, message)?.origin
+    }
+
+    /// The sender of a message; `None` for a post, and where the message doesn't exist.
+    pub fn sender(&self, message: u32) -> Option<u32>
+        ensures { IsSender self.now.run message result }
+    {
+        let place = self.origin(message)?;
+        self.step(place)?.actor()
     }
 
     /// The least transactor of a node that has not ended and has at least the number `from`; `None` where there is

@@ -37,6 +37,6 @@ invariant_of-self c =
     let transactors : c.add_new.new.transactors.transactors ≡ transactors_after s (len T) ts.transactors =
     c.add_new.ensures.transactors ∙ ap (with_new s) (c.note_actor.ensures.transactors ∙ ap (λ k. noted_of s k ts.transactors (actor s)) place) in
     let messages : c.add_sent.new.messages.items ≡ messages_after s (len T) ms =
-    c.add_sent.ensures ∙ ap (with_sent s) (c.note_removed.ensures.messages ∙ ap (λ k. removed_of k ms (removed_by s)) place) in
+    c.add_sent.ensures ∙ (λ i. with_sent (place i) s ((c.note_removed.ensures.messages ∙ ap (λ k. removed_of k ms (removed_by s)) place) i)) in
     rw (c.push_reserved-2.ensures.items, c.push_reserved.ensures.items, messages)
     (index_appended T s c.self.inside.made.items ts c.add_new.new.transactors ms c.number_made-number.result may number transactors (c.add_new.ensures.nodes ∙ c.note_actor.ensures.nodes) c.self.invariant)
