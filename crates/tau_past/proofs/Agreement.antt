@@ -15,7 +15,7 @@ use Rattle.tau_trace.specs.Histories.{history, Closes}
 use Rattle.tau_trace.specs.Points.{point_at, IsOpeningPoint}
 use Rattle.tau_trace.specs.Turns.{Turn}
 use Rattle.tau_trace.specs.Known.{WellFormed}
-use Rattle.tau_trace.proofs.Agreement.{agree_sym, agree_below, born-same, sent-same, history-same, move_at-same, is_new-same, is_origin-same, does-same, origin_before, new_before, same_at}
+use Rattle.tau_trace.proofs.Agreement.{agree_sym, agree_below, born-same, sent-same, history-same, move_at-same, is_new-same, origin-same, does-same, origin_before, new_before, same_at}
 use Rattle.tau_trace.proofs.PointLemmas.{points_grow}
 use Rattle.tau_past.specs.Carried.{Pending, touched, came, Carried, SentWith, TakesBy, by_set, by_new, is_set, touches}
 use Rattle.tau_past.specs.Heard.{heard_by, Needs, earlier, message, birth, Own, own_step, own_birth, OriginOf, Heard, HeardBy, HeardTogether}
@@ -56,8 +56,7 @@ module _ {T U : Run} where
   needs-same k x y w a lt (earlier {t = t} e f before) =
       earlier (acts-same T U t x (a.steps x lt) e) (acts-same T U t y (a.steps y (omega arith)) f) before
   needs-same k x y w a lt (message {m = m} {by = by} e o) =
-      let before = origin_before T y by m x o (hears_known T m x w e) in
-      message (ap (option_and_then heard_by) (sym (a.steps x lt)) ∙ e) (is_origin-same y by m (agree_below (suc y) (omega arith) a) o)
+      message (ap (option_and_then heard_by) (sym (a.steps x lt)) ∙ e) (origin-same x m y by (agree_below x (omega arith) a) (hears_known T m x w e) o)
   needs-same k x y w a lt (birth {u = u} {by = by} e n) =
       let before = new_before T y by u x n (acts_known T u x w e) in
       birth (acts-same T U u x (a.steps x lt) e) (is_new-same y by u (agree_below (suc y) (omega arith) a) n)
@@ -80,8 +79,7 @@ module _ {T U : Run} where
 
   origin_of-same : (m k j : ℕ) → Agree T U k → m < sent T k → OriginOf T m j → OriginOf U m j × (j < k)
   origin_of-same m k j a lt o =
-      let before = origin_before T j o.by m k o.origin lt in
-      (record { by = o.by; origin = is_origin-same j o.by m (agree_below (suc j) (omega arith) a) o.origin }, before)
+      (record { by = o.by; origin = origin-same k m j o.by a lt o.origin }, origin_before T j o.by m k o.origin lt)
 
   heard_by-same : (m k : ℕ) → WellFormed T → Agree T U k → m < sent T k → (j : ℕ) → HeardBy T m j → HeardBy U m j × (j < k)
   heard_by-same m k w a lt = reach-same k (OriginOf T m) (OriginOf U m) w a (λ j. origin_of-same m k j a lt)
@@ -96,7 +94,7 @@ module _ {T U : Run} where
   pending-same t k q w a (came {take = place} {m = m} {j = j} {by = by} u o p) =
       let before = origin_before T j by m place o (taken T t k place m w u) in
       let within = u.before in
-      came (turn-same t k place m a u) (is_origin-same j by m (agree_below (suc j) (omega arith) a) o) (pending-same by j q w (agree_below j (omega arith) a) p)
+      came (turn-same t k place m a u) (origin-same place m j by (agree_below place (omega (arith, within)) a) (taken T t k place m w u) o) (pending-same by j q w (agree_below j (omega arith) a) p)
 
   carried-same : (j k : ℕ) (q : Point) → WellFormed T → Agree T U k → j < k → Carried T j q → Carried U j q
   carried-same j k q w a lt c = record { by = c.by; acts = acts-same T U c.by j (a.steps j lt) c.acts; pending = pending-same c.by j q w (agree_below j (omega arith) a) c.pending }
@@ -104,7 +102,7 @@ module _ {T U : Run} where
   sent_with-same : (m k : ℕ) (q : Point) → WellFormed T → Agree T U k → m < sent T k → SentWith T m q → SentWith U m q
   sent_with-same m k q w a lt s =
       let before = origin_before T s.place s.by m k s.origin lt in
-      record { place = s.place; by = s.by; origin = is_origin-same s.place s.by m (agree_below (suc s.place) (omega arith) a) s.origin; carried = carried-same s.place k q w a before s.carried }
+      record { place = s.place; by = s.by; origin = origin-same k m s.place s.by a lt s.origin; carried = carried-same s.place k q w a before s.carried }
 
   takes-same : (j k : ℕ) (p q : Point) → WellFormed T → Agree T U k → j < k → TakesBy T j p q → TakesBy U j p q
   takes-same j k p q w a lt (by_set {t = t} d e c ne) =

@@ -7,11 +7,12 @@ use Rattle.tau_history.specs.Timeline.{keep, moved}
 use Rattle.tau_points.specs.Reach.{start}
 use Rattle.tau_trace.specs.declared.step.Step.{Step}
 use Rattle.tau_trace.specs.declared.step.Step.TheVariants.{Send, New}
-use Rattle.tau_trace.specs.Steps.{actor, is_new, is_send}
+use Rattle.tau_trace.specs.Steps.{actor, is_new, makes_message}
 use Rattle.tau_trace.specs.Run.{Run, step_at, ActsAt}
-use Rattle.tau_trace.specs.Numbering.{born, sent, IsNew, IsOrigin}
+use Rattle.tau_trace.specs.Numbering.{born, sent, IsNew, IsOrigin, direct}
 use Rattle.tau_trace.specs.Histories.{history, move_at}
 use Rattle.tau_trace.specs.Known.{WellFormed}
+use Rattle.tau_trace.proofs.Once.{origin_acts}
 use Rattle.tau_trace.proofs.Counted.{history-suc}
 use Rattle.tau_trace.proofs.Counts.{count-suc}
 use Rattle.tau_trace.proofs.Lists.{same_some}
@@ -21,7 +22,7 @@ use Rattle.tau_trace.proofs.Sequences.{cases_last}
 use Rattle.tau_past.specs.Heard.{heard_by, earlier, IsCausallyClosed, own_step, Heard, HeardBy, HeardTogether, HoldsStepsBefore, Bound}
 use Rattle.tau_past.specs.KnownLaws.{HearsOf, HearsOfNone, IsSame, Union, With, BoundsWithStep, HasBounds}
 use Rattle.tau_past.proofs.Known.{acts_known, hears_known, heard_before, heard_by_before}
-use Rattle.tau_past.proofs.HeardLemmas.{origin_acts, new_acts, heard_after_step, heard_with_sender}
+use Rattle.tau_past.proofs.HeardLemmas.{new_acts, heard_after_step, heard_with_sender}
 use Rattle.tau_value.proofs.NameLemmas.{last_or_below}
 
 equal_or_less : (i n : ℕ) → i ≤ n → (i ≡ n) ⊎ (i < n)
@@ -143,17 +144,17 @@ born_or_new T t k lt = by_step (step_at T k) refl where
 
 sent_or_origin : (T : Run) (m k : ℕ) → m < sent T (suc k) → (m < sent T k) ⊎ ((by : ℕ) × IsOrigin T k by m)
 sent_or_origin T m k lt = by_step (step_at T k) refl where
-  grown : sent T (suc k) ≡ sent T k + cond (option_map_or is_send (step_at T k) false) 1 0
-  grown = omega (arith, count-suc (λ j. option_map_or is_send (step_at T j) false) k)
+  grown : sent T (suc k) ≡ sent T k + cond (option_map_or makes_message (step_at T k) false) 1 0
+  grown = omega (arith, count-suc (λ j. option_map_or makes_message (step_at T j) false) k)
 
-  fits : (o : Option Step) → step_at T k ≡ o → m < sent T k + cond (option_map_or is_send o false) 1 0
-  fits o e = subst (λ s. m < sent T k + cond (option_map_or is_send s false) 1 0) e (subst (λ n. m < n) grown lt)
+  fits : (o : Option Step) → step_at T k ≡ o → m < sent T k + cond (option_map_or makes_message o false) 1 0
+  fits o e = subst (λ s. m < sent T k + cond (option_map_or makes_message s false) 1 0) e (subst (λ n. m < n) grown lt)
 
   by_step : (o : Option Step) → step_at T k ≡ o → (m < sent T k) ⊎ ((by : ℕ) × IsOrigin T k by m)
   by_step None e = inl (omega (arith, fits None e))
   by_step (Some (Send u w v)) e = ⊎_elim
       (λ l. inl l)
-      (λ same. inr (u, record { to = w; value = v; stands = e; made = same }))
+      (λ same. inr (u, direct (record { to = w; value = v; stands = e; made = same })))
       (last_or_below m (sent T k) (fits (Some (Send u w v)) e))
   by_step (Some s) e = inl (omega (arith, fits (Some s) e))
 

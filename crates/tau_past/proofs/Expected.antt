@@ -7,6 +7,7 @@ use Rattle.tau_trace.specs.Numbering.{born}
 use Rattle.tau_trace.specs.Histories.{Falls}
 use Rattle.tau_trace.specs.Points.{IsOpeningPoint}
 use Rattle.tau_trace.specs.Known.{WellFormed}
+use Rattle.tau_trace.proofs.Once.{posts_have_no_origin}
 use Rattle.tau_past.specs.Carried.{SentWith}
 use Rattle.tau_past.specs.Heard.{Heard}
 use Rattle.tau_past.specs.Pasts.{Past, Link, Is, Everywhere}
@@ -20,7 +21,7 @@ nothing_at_first T t j w lt h = absurd (omega (arith, heard_before T t 0 j w the
   there = search arith
 
 pub posts_carry_nothing : (T : Run) (m : ℕ) (q : Point) → m < length T.opening.targets → ¬ SentWith T m q
-posts_carry_nothing T m q lt c = omega (arith, lt, c.origin.made)
+posts_carry_nothing T m q lt c = posts_have_no_origin T c.place c.by m lt c.origin
 
 pub stands_alone : (T : Run) (p q : Point) → IsOpeningPoint T p → Past T p q → q ≡ p
 stands_alone T p q o = least (Link T Everywhere) (Is p) (Is p) (record { starts = λ x e. e; follows = λ x y e l. absurd (no_link T p y o (subst_link x y e l)) }) q where

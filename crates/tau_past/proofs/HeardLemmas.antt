@@ -4,14 +4,14 @@ use Rattle.std.specs.Prelude.{option_and_then}
 use Rattle.tau_points.specs.declared.point.Point.{Point}
 use Rattle.tau_points.specs.Reach.{start, next, IsWithin}
 use Rattle.tau_points.proofs.Reach.{least, monotone}
-use Rattle.tau_trace.specs.declared.step.Step.TheVariants.{Take, Send, New}
+use Rattle.tau_trace.specs.declared.step.Step.TheVariants.{Take, New}
 use Rattle.tau_trace.specs.Run.{Run, ActsAt}
-use Rattle.tau_trace.specs.Numbering.{IsNew, IsOrigin}
+use Rattle.tau_trace.specs.Numbering.{IsNew, IsOrigin, direct}
 use Rattle.tau_trace.specs.Points.{point_at}
 use Rattle.tau_trace.specs.Known.{WellFormed}
 use Rattle.tau_trace.proofs.Agreement.{born-grows}
 use Rattle.tau_trace.proofs.Lists.{same_some}
-use Rattle.tau_trace.proofs.Once.{new_once, origin_once}
+use Rattle.tau_trace.proofs.Once.{new_once, origin_once, origin_acts, posts_have_no_origin}
 use Rattle.tau_trace.proofs.Quiet.{acts}
 use Rattle.tau_trace.proofs.Sequences.{cases_last}
 use Rattle.tau_past.specs.Carried.{Pending, touched, came, Carried, SentWith}
@@ -21,9 +21,6 @@ use Rattle.tau_past.proofs.Known.{acts_known, needs_before, heard_before, heard_
 
 one_actor : (T : Run) (t u k : ℕ) → ActsAt T t k → ActsAt T u k → t ≡ u
 one_actor T t u k a b = same_some (sym a ∙ b)
-
-pub origin_acts : (T : Run) (k by m : ℕ) → IsOrigin T k by m → ActsAt T by k
-origin_acts T k by m o = acts T by k (Send by o.to o.value) o.stands refl
 
 pub new_acts : (T : Run) (k by u : ℕ) → IsNew T k by u → ActsAt T by k
 new_acts T k by u n = acts T by k (New by n.behaviour n.node n.state) n.stands refl
@@ -90,7 +87,7 @@ stands_before T w = record {
     own i p = omega (arith, origin_once T i k p.by by m p.origin o)
 
   none : (m : ℕ) → m < length T.opening.targets → (j : ℕ) → ¬ HeardBy T m j
-  none m lt = least (Needs T) (OriginOf T m) (λ i. ⊥) (record { starts = λ i o. omega (arith, lt, o.origin.made); follows = λ x y h n. h })
+  none m lt = least (Needs T) (OriginOf T m) (λ i. ⊥) (record { starts = λ i o. posts_have_no_origin T i o.by m lt o.origin; follows = λ x y h n. h })
 
 -- what was heard stays heard
 pub heard_grows : (T : Run) (t j k : ℕ) → j ≤ k → IsWithin (Heard T t j) (Heard T t k)
@@ -149,7 +146,7 @@ new_alone : (T : Run) (k by u : ℕ) → IsNew T k by u → HearsOfNone T k
 new_alone T k by u n = ap (option_and_then heard_by) n.stands
 
 origin_alone : (T : Run) (k by m : ℕ) → IsOrigin T k by m → HearsOfNone T k
-origin_alone T k by m o = ap (option_and_then heard_by) o.stands
+origin_alone T k by m (direct o) = ap (option_and_then heard_by) o.stands
 
 heard_created : (T : Run) (t k by : ℕ) → WellFormed T → IsNew T k by t → IsSame (Heard T t (suc k)) (With (Heard T by k) k)
 heard_created T t k by w n j = (

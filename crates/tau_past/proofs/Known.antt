@@ -3,36 +3,14 @@ use Rattle.std.proofs.Common.{◌≡◌, ℕ, ◌<◌, Option, Some, None, arith
 use Rattle.tau_points.specs.Reach.{next, IsClosedUnder}
 use Rattle.tau_points.proofs.Reach.{least}
 use Rattle.tau_trace.specs.declared.step.Step.{Step}
-use Rattle.tau_trace.specs.declared.step.Step.TheVariants.{Take, Drop, Fall, Void, Get, Set, Skip, Send, New, Stabilize, Ask, Checkpoint, Hold, Rollback, Stay, Done, Trap, Fail, Lose}
-use Rattle.tau_trace.specs.Steps.{actor}
+use Rattle.tau_trace.specs.declared.step.Step.TheVariants.{Take, Drop, Fall}
 use Rattle.tau_trace.specs.Run.{Run, step_at, ActsAt}
 use Rattle.tau_trace.specs.Numbering.{born, sent}
 use Rattle.tau_trace.specs.Known.{WellFormed, IsKnownAt}
 use Rattle.tau_trace.proofs.Agreement.{origin_before, new_before}
+use Rattle.tau_trace.proofs.Quiet.{acts_born}
 use Rattle.tau_past.specs.Heard.{heard_by, Needs, earlier, message, birth, Own, own_step, own_birth, OriginOf, Heard, HeardBy}
 use Rattle.tau_past.specs.Heard as heard
-
--- the actor of a step exists at its place
-known_actor : (T : Run) (k t : ℕ) (s : Step) → actor s ≡ Some t → IsKnownAt T k s → t < born T k
-known_actor T k t (Take u m) e h = let same : u ≡ t = cc in subst (λ n. n < born T k) same h.0
-known_actor T k t (Drop u m) e h = let same : u ≡ t = cc in subst (λ n. n < born T k) same h.0
-known_actor T k t (Fall u m) e h = let same : u ≡ t = cc in subst (λ n. n < born T k) same h.0
-known_actor T k t (Void u m) e h = let same : u ≡ t = cc in subst (λ n. n < born T k) same h.0
-known_actor T k t (Get u) e h = let same : u ≡ t = cc in subst (λ n. n < born T k) same h
-known_actor T k t (Set u v) e h = let same : u ≡ t = cc in subst (λ n. n < born T k) same h.0
-known_actor T k t (Skip u) e h = let same : u ≡ t = cc in subst (λ n. n < born T k) same h
-known_actor T k t (Send u w v) e h = let same : u ≡ t = cc in subst (λ n. n < born T k) same h.0
-known_actor T k t (New u b n v) e h = let same : u ≡ t = cc in subst (λ n. n < born T k) same h.0
-known_actor T k t (Stabilize u) e h = let same : u ≡ t = cc in subst (λ n. n < born T k) same h
-known_actor T k t (Ask u a) e h = let same : u ≡ t = cc in subst (λ n. n < born T k) same h
-known_actor T k t (Checkpoint u) e h = let same : u ≡ t = cc in subst (λ n. n < born T k) same h
-known_actor T k t (Hold u) e h = let same : u ≡ t = cc in subst (λ n. n < born T k) same h
-known_actor T k t (Rollback u) e h = let same : u ≡ t = cc in subst (λ n. n < born T k) same h
-known_actor T k t (Stay u) e h = let same : u ≡ t = cc in subst (λ n. n < born T k) same h
-known_actor T k t (Done u) e h = let same : u ≡ t = cc in subst (λ n. n < born T k) same h
-known_actor T k t (Trap u c) e h = let same : u ≡ t = cc in subst (λ n. n < born T k) same h.0
-known_actor T k t (Fail u) e h = let same : u ≡ t = cc in subst (λ n. n < born T k) same h
-known_actor T k t (Lose m) e h = absurd (cc)
 
 -- the message that a step hears of exists at its place
 known_message : (T : Run) (k m : ℕ) (s : Step) → heard_by s ≡ Some m → IsKnownAt T k s → m < sent T k
@@ -52,7 +30,7 @@ stands f (Some s) n e = record { step = s; is = refl; has = e }
 stands f None n e = absurd (cc)
 
 pub acts_known : (T : Run) (t k : ℕ) → WellFormed T → ActsAt T t k → t < born T k
-acts_known T t k w a = let s = stands actor (step_at T k) t a in known_actor T k t s.step s.has (w.known k s.step s.is)
+acts_known T t k w a = acts_born T t k (w.known k) a
 
 pub hears_known : (T : Run) (m k : ℕ) → WellFormed T → option_and_then heard_by (step_at T k) ≡ Some m → m < sent T k
 hears_known T m k w e = let s = stands heard_by (step_at T k) m e in known_message T k m s.step s.has (w.known k s.step s.is)

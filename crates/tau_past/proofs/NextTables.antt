@@ -1,25 +1,25 @@
 -- How the tables go on with one step.
-use Rattle.std.proofs.Common.{◌≡◌, ◌≢◌, ◌⊎◌, ◌↔◌, ⊎_elim, ℕ, zero, suc, ◌+◌, ◌-◌, ◌<◌, ◌≤◌, ◌^◌, Bool, true, false, cond, IsTrue, List, [], ◌∷◌, ◌++◌, Option, Some, None, length, get_or, set, refl, sym, ap, ◌∙◌, subst, arith, length-append, leb-true}
-use Rattle.std.specs.Prelude.{option_and_then, slice_get, nat_le}
+use Rattle.std.proofs.Common.{◌≡◌, ◌≢◌, ◌⊎◌, ◌↔◌, ⊎_elim, ℕ, zero, suc, ◌+◌, ◌-◌, ◌<◌, ◌≤◌, ◌^◌, Bool, true, false, cond, IsTrue, List, [], ◌∷◌, ◌++◌, Option, Some, None, length, get_or, set, refl, sym, ap, ◌∙◌, subst, arith, length-append}
+use Rattle.std.specs.Prelude.{option_and_then, slice_get}
 use Rattle.std.proofs.Math.ListN.{length-set}
 use Rattle.std.proofs.lemmas.Option.{slice_get_read}
-use Rattle.std.proofs.lemmas.Bool.{leb-false, cases_eq}
+use Rattle.std.proofs.lemmas.Bool.{cases_eq}
 use Rattle.std.specs.Option.{option_map_or}
 use Rattle.tau_history.specs.Stored.{Stored}
 use Rattle.tau_history.specs.Timeline.{Timeline, interval, Move, keep, stabilize, close, fall, moved, opening, newborn}
 use Rattle.tau_points.specs.declared.point.Point.{Point}
 use Rattle.tau_trace.specs.declared.step.Step.{Step}
-use Rattle.tau_trace.specs.declared.step.Step.TheVariants.{Take, Send}
-use Rattle.tau_trace.specs.Steps.{actor, is_send}
+use Rattle.tau_trace.specs.declared.step.Step.TheVariants.{Take}
+use Rattle.tau_trace.specs.Steps.{actor}
 use Rattle.tau_trace.specs.Run.{Run, len, step_at, starts, ActsAt}
-use Rattle.tau_trace.specs.Numbering.{born, sent, IsOrigin}
+use Rattle.tau_trace.specs.Numbering.{born, sent, IsPlaceOf}
 use Rattle.tau_trace.specs.Histories.{history, move_at, move_of, is_fall, Falls}
 use Rattle.tau_trace.specs.Points.{point_at}
 use Rattle.tau_trace.specs.Known.{WellFormed}
 use Rattle.tau_trace.proofs.Agreement.{born-grows}
 use Rattle.tau_trace.proofs.Counts.{count-suc, count-zero}
 use Rattle.tau_trace.proofs.Counted.{history-zero, history-suc, move_at-own}
-use Rattle.tau_trace.proofs.Indexing.{sent-next}
+use Rattle.tau_trace.proofs.Indexing.{born-next}
 use Rattle.tau_trace.proofs.Lists.{same_some, slice_get-set_same, slice_get-set_other, slice_get-push_cases}
 use Rattle.tau_trace.proofs.Moves.{move_by-other}
 use Rattle.tau_trace.proofs.Quiet.{acts}
@@ -34,8 +34,8 @@ use Rattle.tau_points.proofs.PointOrder.{point_eq-Decides}
 use Rattle.tau_past.specs.Carried.{is_set, first_point}
 use Rattle.tau_past.specs.TableSteps.{taker, latest_for, latest_after, opening_history}
 use Rattle.tau_past.specs.Tables.{TakesAt, by_set, by_new, IsLast, TellsEarlier, TellsLatest, same_point}
-use Rattle.tau_past.specs.Tables.{Lists, TellsTurn, TellsHistory, TellsOrigin, TellsCarried, TellsMade, ListsSends, all_born}
-use Rattle.tau_past.specs.TableSteps.{turn_after, carrying_of, carried_by, origin_of, origin_in, point_of}
+use Rattle.tau_past.specs.Tables.{Lists, TellsTurn, TellsHistory, TellsCarrier, TellsCarried, TellsMade, IsBirth, all_born}
+use Rattle.tau_past.specs.TableSteps.{turn_after, carrying_of, carried_by, point_of}
 use Rattle.tau_past.proofs.Known.{acts_known}
 use Rattle.tau_past.proofs.Turning.{tells_other, tells_own, tells_carried, tells_nobody}
 
@@ -131,26 +131,10 @@ missing T k lt e = let x = past_end T.steps k (sym e) in omega (arith, lt, x)
 
 -- turns
 
--- where each message below m's place was sent
-origin_told : (T : Run) (k m : ℕ) (sends : List ℕ) → m < sent T k → ListsSends T k sends → TellsOrigin T m (origin_of sends (length T.opening.targets) m)
-origin_told T k m sends lt l = by (nat_le (length T.opening.targets) m) refl where
-  posts : ℕ
-  posts = length T.opening.targets
-
-  at : (o : Option ℕ) → posts ≤ m → slice_get sends (m - posts) ≡ o → TellsOrigin T m o
-  at None le e = λ j by x. let none = past_end sends (m - posts) e in omega (arith, le, lt, l.count, none)
-  at (Some j) le e =
-      let same : m - posts + posts ≡ m = omega (arith, le) in
-      subst (λ n. TellsOrigin T n (Some j)) same (l.each (m - posts) j e)
-
-  by : (b : Bool) → nat_le posts m ≡ b → TellsOrigin T m (cond b (slice_get sends (m - posts)) None)
-  by true e = at (slice_get sends (m - posts)) (leb-true posts m e) refl
-  by false e = λ j who x. let below : m < posts = leb-false posts m e in omega (arith, below, x.made)
-
-pub turns_own : (T : Run) (k t : ℕ) (s : Step) (xs ys : List (Option Carrying)) (sends : List ℕ) (own : Point) (h : Timeline) (turn next : Option Carrying) (origin : Option ℕ) (posts : ℕ) → WellFormed T → k < len T → step_at T k ≡ Some s → actor s ≡ Some t → posts ≡ length T.opening.targets
-    → ListsSends T k sends → h ≡ history T t k → own ≡ point_of t h → origin ≡ origin_in sends posts s → next ≡ turn_after s k own origin turn → turn ≡ get_or xs t turn → ys ≡ set xs t next
+pub turns_own : (T : Run) (k t : ℕ) (s : Step) (xs ys : List (Option Carrying)) (own : Point) (h : Timeline) (turn next : Option Carrying) (origin : Option ℕ) → WellFormed T → k < len T → step_at T k ≡ Some s → actor s ≡ Some t
+    → h ≡ history T t k → own ≡ point_of t h → TellsCarrier T s origin → next ≡ turn_after s k own origin turn → turn ≡ get_or xs t turn → ys ≡ set xs t next
     → Lists (all_born T) (TellsTurn T k) xs → Lists (all_born T) (TellsTurn T (k + 1)) ys
-turns_own T k t s xs ys sends own h turn next origin posts w lt e by few l past is from made read is_set told =
+turns_own T k t s xs ys own h turn next origin w lt e by past is from made read is_set told =
     next_place (λ n. Lists (all_born T) (TellsTurn T n) ys) k
     (lists_set (all_born T) (TellsTurn T k) (TellsTurn T (suc k)) xs ys t next is_set exists
     (λ u o ne p. tells_other T k u o (not_other T t u k (acts T t k s e by) ne) p)
@@ -159,11 +143,10 @@ turns_own T k t s xs ys sends own h turn next origin posts w lt e by few l past 
       exists : t < all_born T
       exists = acts_told T t k s w lt e by
 
-      of_message : (m : ℕ) → s ≡ Take t m → (m < sent T k) × TellsOrigin T m origin
+      of_message : (m : ℕ) → s ≡ Take t m → (m < sent T k) × IsPlaceOf T m origin
       of_message m f =
           let known : (t < born T k) × (m < sent T k) = w.known k (Take t m) (e ∙ ap (λ (x : Step). Some x) f) in
-          let taken : origin ≡ origin_of sends (length T.opening.targets) m = from ∙ ap (origin_in sends posts) f ∙ ap (λ n. origin_of sends n m) few in
-          (known.1, subst (TellsOrigin T m) (sym taken) (origin_told T k m sends known.1 l))
+          (known.1, subst (λ r. TellsCarrier T r origin) f from)
 
 pub turns_other : (T : Run) (k : ℕ) (xs : List (Option Carrying)) → ((t : ℕ) → ¬ ActsAt T t k) → Lists (all_born T) (TellsTurn T k) xs → Lists (all_born T) (TellsTurn T (k + 1)) xs
 turns_other T k xs none l = next_place (λ n. Lists (all_born T) (TellsTurn T n) xs) k (lists_all (all_born T) (TellsTurn T k) (TellsTurn T (suc k)) xs (λ u o p. tells_other T k u o (none u) p) l)
@@ -195,27 +178,38 @@ made_told T k t s h p stable falls e by at is mode f =
     let here = falls_iff (move_at T t k) falls (f ∙ ap is_fall (sym move)) in
     (subst (λ u. ActsAt T u k) who (acts T t k s e by), is ∙ ap (point_of t) at ∙ ap (λ u. point_at T u k) who, subst (λ u. IsTrue falls ↔ Falls T u k) who here)
 
--- Sends
+-- where transactors were made
 
-pub sends_next : (T : Run) (k : ℕ) (xs ys : List ℕ) → k < len T → option_map_or is_send (step_at T k) false ≡ true → ys ≡ xs ++ k ∷ [] → ListsSends T k xs → ListsSends T (k + 1) ys
-sends_next T k xs ys lt e is l = by (step_at T k) refl where
-  by_step : (s : Step) → step_at T k ≡ Some s → is_send s ≡ true → ListsSends T (k + 1) ys
-  by_step (Send t u v) f g = next_place (λ n. ListsSends T n ys) k (subst (ListsSends T (suc k)) (sym is) (record { count = count; each = each })) where
-    count : length (xs ++ k ∷ []) + length T.opening.targets ≡ sent T (suc k)
-    count = omega (arith, sent-next T k (Send t u v) f, length-append xs (k ∷ []), l.count)
+pub born_zero : (T : Run) (n : ℕ) → n ≡ starts T → n ≡ born T 0
+born_zero T n e = omega (arith, e, count-zero (λ j. option_map_or is_new (step_at T j) false))
 
-    each : (i j : ℕ) → slice_get (xs ++ k ∷ []) i ≡ Some j → TellsOrigin T (i + length T.opening.targets) (Some j)
-    each i j h = ⊎_elim (λ old. l.each i j old) (λ new. (t, subst (λ n. IsOrigin T n t (i + length T.opening.targets)) new.1 (record { to = u; value = v; stands = f; made = omega (arith, new.0, l.count) }))) (slice_get-push_cases xs k j i h)
+new_starts_later : (T : Run) (j by u : ℕ) → IsNew T j by u → starts T ≤ u
+new_starts_later T j by u n = omega (arith, n.made)
+
+pub births_first : (T : Run) (n : ℕ) (xs : List (Option ℕ)) → n ≡ starts T → Lists n (IsBirth T) xs → Lists (born T 0) (IsBirth T) xs
+births_first T n xs e l = subst (λ k. Lists k (IsBirth T) xs) (born_zero T n e) l
+
+pub births_start : (T : Run) (n k : ℕ) (xs ys : List (Option ℕ)) → n ≡ starts T → k < n → ys ≡ xs ++ None ∷ [] → Lists k (IsBirth T) xs → Lists (k + 1) (IsBirth T) ys
+births_start T n k xs ys few lt e l = lists_push k (IsBirth T) xs ys None e (λ j by x. omega (arith, few, lt, new_starts_later T j by k x)) l
+
+pub births_next : (T : Run) (k : ℕ) (xs ys : List (Option ℕ)) → option_map_or is_new (step_at T k) false ≡ true → ys ≡ xs ++ Some k ∷ [] → Lists (born T k) (IsBirth T) xs → Lists (born T (k + 1)) (IsBirth T) ys
+births_next T k xs ys e is l = by (step_at T k) refl where
+  by_step : (s : Step) → step_at T k ≡ Some s → is_new s ≡ true → Lists (born T (k + 1)) (IsBirth T) ys
+  by_step (New u b n v) f g =
+      let count : born T k + 1 ≡ born T (k + 1) = omega (arith, born-next T k (New u b n v) f, next_place (λ i. born T (suc k) ≡ born T i) k refl) in
+      subst (λ i. Lists i (IsBirth T) ys) count (lists_push (born T k) (IsBirth T) xs ys (Some k) is (u, record { behaviour = b; node = n; state = v; stands = f; made = refl }) l)
   by_step s f g = absurd (cc)
 
-  by : (o : Option Step) → step_at T k ≡ o → ListsSends T (k + 1) ys
-  by None f = absurd (let x = sym (ap (λ o. option_map_or is_send o false) f) ∙ e in cc)
-  by (Some s) f = by_step s f (sym (ap (λ o. option_map_or is_send o false) f) ∙ e)
+  by : (o : Option Step) → step_at T k ≡ o → Lists (born T (k + 1)) (IsBirth T) ys
+  by None f = absurd (let x = sym (ap (λ o. option_map_or is_new o false) f) ∙ e in cc)
+  by (Some s) f = by_step s f (sym (ap (λ o. option_map_or is_new o false) f) ∙ e)
 
-pub sends_same : (T : Run) (k : ℕ) (xs : List ℕ) → option_map_or is_send (step_at T k) false ≡ false → ListsSends T k xs → ListsSends T (k + 1) xs
-sends_same T k xs e l = next_place (λ n. ListsSends T n xs) k (record { count = l.count ∙ sym (count-same k e); each = l.each }) where
-  count-same : (k : ℕ) → option_map_or is_send (step_at T k) false ≡ false → sent T (suc k) ≡ sent T k
-  count-same k f = let x = count-suc (λ j. option_map_or is_send (step_at T j) false) k in let y = ap {B = ℕ} (λ b. cond b 1 0) f in omega (arith, x, y)
+pub births_same : (T : Run) (k : ℕ) (xs : List (Option ℕ)) → option_map_or is_new (step_at T k) false ≡ false → Lists (born T k) (IsBirth T) xs → Lists (born T (k + 1)) (IsBirth T) xs
+births_same T k xs e l =
+    let x = count-suc (λ j. option_map_or is_new (step_at T j) false) k in
+    let y = ap {B = ℕ} (λ b. cond b 1 0) e in
+    let count : born T k ≡ born T (suc k) = omega (arith, x, y) in
+    next_place (λ i. Lists (born T i) (IsBirth T) xs) k (subst (λ i. Lists i (IsBirth T) xs) count l)
 
 -- points that take
 
@@ -309,15 +303,6 @@ history_told T t n h few e = e ∙ ap (λ m. opening_history m t) few ∙ sym (h
 
 pub idle_told : (T : Run) (t : ℕ) → TellsTurn T 0 t None
 idle_told T t = λ place m u. omega (arith, u.before)
-
-pub born_zero : (T : Run) (n : ℕ) → n ≡ starts T → n ≡ born T 0
-born_zero T n e = omega (arith, e, count-zero (λ j. option_map_or is_new (step_at T j) false))
-
-pub sends_zero : (T : Run) (xs : List ℕ) → xs ≡ [] → ListsSends T 0 xs
-sends_zero T xs e = subst (ListsSends T 0) (sym e) (record {
-  count = omega (arith, count-zero (λ j. option_map_or is_send (step_at T j) false));
-  each = λ i j f. absurd (cc);
-})
 
 pub latest_zero : (T : Run) (latest : Point → Option ℕ) → ((p : Point) → latest p ≡ None) → TellsLatest T 0 latest
 latest_zero T latest none p = subst (IsLast (TakesAt T p) 0) (sym (none p)) (λ j l. absurd (omega (arith, l)))

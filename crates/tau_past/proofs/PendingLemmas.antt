@@ -3,13 +3,14 @@ use Rattle.std.proofs.Common.{◌≡◌, ◌⊎◌, ◌↔◌, inl, inr, ⊎_eli
 use Rattle.std.specs.Prelude.{◌||◌}
 use Rattle.tau_points.specs.declared.point.Point.{Point}
 use Rattle.tau_trace.specs.declared.step.Step.{Step}
-use Rattle.tau_trace.specs.declared.step.Step.TheVariants.{Take, Drop, Void, Get, Set, Skip, Send, New, Stabilize, Ask}
+use Rattle.tau_trace.specs.declared.step.Step.TheVariants.{Take, Drop, Void, Get, Set, Skip, Send, New, Stabilize, Ask, Lose}
 use Rattle.tau_trace.specs.Steps.{ends_turn, is_take}
 use Rattle.tau_trace.specs.Run.{Run, step_at, ActsAt, Does}
 use Rattle.tau_trace.specs.Numbering.{IsOrigin}
 use Rattle.tau_trace.specs.Points.{point_at}
 use Rattle.tau_trace.specs.Turns.{Turn, HasOpenTurn}
 use Rattle.tau_trace.proofs.Lists.{same_some}
+use Rattle.tau_trace.proofs.Once.{origin_acts}
 use Rattle.tau_trace.proofs.Quiet.{acts}
 use Rattle.tau_trace.proofs.Sequences.{cases_last}
 use Rattle.tau_trace.proofs.TrackingLemmas.{bounds, turn-on}
@@ -29,6 +30,7 @@ keeping_bounds_none (Send t u v) h = refl
 keeping_bounds_none (New t b n v) h = refl
 keeping_bounds_none (Drop t m) h = refl
 keeping_bounds_none (Void t m) h = refl
+keeping_bounds_none (Lose m) h = refl
 keeping_bounds_none s h = absurd (cc)
 
 keeping_touches_none : (s : Step) → IsTrue (keeps_pending s) → IsFalse (touches s)
@@ -36,6 +38,7 @@ keeping_touches_none (Send t u v) h = refl
 keeping_touches_none (New t b n v) h = refl
 keeping_touches_none (Drop t m) h = refl
 keeping_touches_none (Void t m) h = refl
+keeping_touches_none (Lose m) h = refl
 keeping_touches_none s h = absurd (cc)
 
 does_not : (T : Run) (t k : ℕ) (test other : Step → Bool) → ((s : Step) → IsTrue (test s) → IsFalse (other s)) → Does test T t k → ¬ Does other T t k
@@ -115,17 +118,14 @@ pending_touching T t k q none d = (
 
 pub pending_taken : (T : Run) (t k m : ℕ) (q : Point) → step_at T k ≡ Some (Take t m) → Pending T t (suc k) q ↔ SentWith T m q
 pending_taken T t k m q e = (forth, back) where
-  sender_acts : (j by n : ℕ) → IsOrigin T j by n → ActsAt T by j
-  sender_acts j by n o = acts T by j (Send by o.to o.value) o.stands refl
-
   forth : Pending T t (suc k) q → SentWith T m q
   forth (touched {take = b} {m = n} {j = j} u l h d f) = absurd (omega (arith, (only_turn T t k m b n e u).0, l, h))
   forth (came {take = b} {m = n} {j = j} {by = by} u o p) =
-      record { place = j; by = by; origin = subst (IsOrigin T j by) (only_turn T t k m b n e u).1 o; carried = record { by = by; acts = sender_acts j by n o; pending = p } }
+      record { place = j; by = by; origin = subst (IsOrigin T j by) (only_turn T t k m b n e u).1 o; carried = record { by = by; acts = origin_acts T j by n o; pending = p } }
 
   back : SentWith T m q → Pending T t (suc k) q
   back s =
-      let same : s.carried.by ≡ s.by = same_some (sym s.carried.acts ∙ sender_acts s.place s.by m s.origin) in
+      let same : s.carried.by ≡ s.by = same_some (sym s.carried.acts ∙ origin_acts T s.place s.by m s.origin) in
       came (begun T t k m e) s.origin (subst (λ u. Pending T u s.place q) same s.carried.pending)
 
 pub pending_after_step : (T : Run) (t k : ℕ) → PendingAfterStep T t k

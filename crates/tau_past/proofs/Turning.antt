@@ -6,7 +6,7 @@ use Rattle.tau_trace.specs.declared.step.Step.{Step}
 use Rattle.tau_trace.specs.declared.step.Step.TheVariants.{Take}
 use Rattle.tau_trace.specs.Steps.{actor, ends_turn, is_take}
 use Rattle.tau_trace.specs.Run.{Run, step_at, ActsAt, Does}
-use Rattle.tau_trace.specs.Numbering.{sent}
+use Rattle.tau_trace.specs.Numbering.{sent, IsPlaceOf}
 use Rattle.tau_trace.specs.Points.{point_at}
 use Rattle.tau_trace.specs.Turns.{IsOpenTurn, HasOpenTurn}
 use Rattle.tau_trace.proofs.Agreement.{origin_before}
@@ -17,7 +17,7 @@ use Rattle.tau_trace.proofs.Sequences.{cases_last}
 use Rattle.tau_trace.proofs.TrackingLemmas.{turn_same, turn_begins, turn_ends, bounds, turn-on}
 use Rattle.tau_past.specs.declared.carrying.Carrying.{Carrying}
 use Rattle.tau_past.specs.Carried.{touches, Pending, touched, came, Carried, SentWith}
-use Rattle.tau_past.specs.Tables.{CarriedFrom, TellsPoints, nothing, TellsTurn, TellsOrigin}
+use Rattle.tau_past.specs.Tables.{CarriedFrom, TellsPoints, nothing, TellsTurn}
 use Rattle.tau_past.specs.TableSteps.{turn_after, carrying_of}
 use Rattle.tau_past.proofs.PendingLemmas.{turn_back, pending_on, pending_taken}
 
@@ -108,9 +108,9 @@ tells-own T k t s own o e by plain at h true c ends touch = turn_ends T t k s e 
 tells-own T k t s own o e by plain at h false true ends touch = tells-touched T k t own o (does_not bounds T t k s e (ap (λ b. b || is_take s) ends ∙ plain)) (does touches T t k s e by touch) at h
 tells-own T k t s own o e by plain at h false false ends touch = tells-plain T k t o (does_not bounds T t k s e (ap (λ b. b || is_take s) ends ∙ plain)) (does_not touches T t k s e touch) h
 
-tells-taken : (T : Run) (k t m : ℕ) (origin : Option ℕ) → step_at T k ≡ Some (Take t m) → m < sent T k → TellsOrigin T m origin → TellsTurn T (suc k) t (Some (record { touched = None; rest = origin }))
+tells-taken : (T : Run) (k t m : ℕ) (origin : Option ℕ) → step_at T k ≡ Some (Take t m) → m < sent T k → IsPlaceOf T m origin → TellsTurn T (suc k) t (Some (record { touched = None; rest = origin }))
 tells-taken T k t m origin e lt told = ((k, turn_begins T t k m e), record { points = points; earlier = earlier origin told }) where
-  sent_with : (q : Point) (o : Option ℕ) → TellsOrigin T m o → SentWith T m q ↔ CarriedFrom T o q
+  sent_with : (q : Point) (o : Option ℕ) → IsPlaceOf T m o → SentWith T m q ↔ CarriedFrom T o q
   sent_with q None f = (λ s. f s.place s.by s.origin, λ n. absurd n)
   sent_with q (Some j) f = (
     λ s. subst (λ i. Carried T i q) (origin_once T s.place j s.by f.0 m s.origin f.1) s.carried,
@@ -125,12 +125,12 @@ tells-taken T k t m origin e lt told = ((k, turn_begins T t k m e), record { poi
         λ s. taken.1 (⊎_elim (λ (f : None ≡ Some q). absurd (cc)) (λ c. same.1 c) s),
       )
 
-  earlier : (o : Option ℕ) → TellsOrigin T m o → (j : ℕ) → o ≡ Some j → j < suc k
+  earlier : (o : Option ℕ) → IsPlaceOf T m o → (j : ℕ) → o ≡ Some j → j < suc k
   earlier None f j g = absurd (cc)
   earlier (Some i) f j g = omega (arith, origin_before T i f.0 m k f.1 lt, same_some g)
 
 -- after a step of its own
-pub tells_own : (T : Run) (k t : ℕ) (s : Step) (own : Point) (origin : Option ℕ) (o : Option Carrying) → step_at T k ≡ Some s → actor s ≡ Some t → own ≡ point_at T t k → ((m : ℕ) → s ≡ Take t m → (m < sent T k) × TellsOrigin T m origin) → TellsTurn T k t o → TellsTurn T (suc k) t (turn_after s k own origin o)
+pub tells_own : (T : Run) (k t : ℕ) (s : Step) (own : Point) (origin : Option ℕ) (o : Option Carrying) → step_at T k ≡ Some s → actor s ≡ Some t → own ≡ point_at T t k → ((m : ℕ) → s ≡ Take t m → (m < sent T k) × IsPlaceOf T m origin) → TellsTurn T k t o → TellsTurn T (suc k) t (turn_after s k own origin o)
 tells_own T k t (Take u m) own origin o e by at told h =
     let same : u ≡ t = same_some by in
     let is : step_at T k ≡ Some (Take t m) = subst (λ w. step_at T k ≡ Some (Take w m)) same e in

@@ -1,10 +1,10 @@
 -- Laws of what is pending, of what is heard and of what a Checkpoint fixes, each the contract of a function of the crate.
-use Rattle.std.specs.Prelude.{◌≡◌, ◌≢◌, ◌⊎◌, ◌↔◌, ℕ, suc, ◌<◌, ◌≤◌, max, Bool, true, false, Some, None, option_and_then, length}
+use Rattle.std.specs.Prelude.{◌≡◌, ◌≢◌, ◌⊎◌, ◌↔◌, ℕ, suc, ◌<◌, ◌≤◌, max, Bool, ◌||◌, Some, None, option_and_then, length}
 use Rattle.tau_points.specs.declared.point.Point.{Point}
 use Rattle.tau_points.specs.Reach.{IsWithin}
 use Rattle.tau_trace.specs.declared.step.Step.{Step}
-use Rattle.tau_trace.specs.declared.step.Step.TheVariants.{Take, Drop, Void, Send, New}
-use Rattle.tau_trace.specs.Steps.{ends_turn}
+use Rattle.tau_trace.specs.declared.step.Step.TheVariants.{Take}
+use Rattle.tau_trace.specs.Steps.{ends_turn, leaves_turns, is_send, is_new}
 use Rattle.tau_trace.specs.Run.{Run, step_at, ActsAt, Does}
 use Rattle.tau_trace.specs.Numbering.{born, sent, IsNew, IsOrigin}
 use Rattle.tau_trace.specs.Histories.{history, Closes}
@@ -28,11 +28,7 @@ KeepsPending T t k = (q : Point) → Pending T t (suc k) q ↔ Pending T t k q
 
 -- the kinds that neither begin nor end a turn nor touch
 abbrev pub keeps_pending : Step → Bool
-keeps_pending (Send t u v) = true
-keeps_pending (New t b n v) = true
-keeps_pending (Drop t m) = true
-keeps_pending (Void t m) = true
-keeps_pending s = false
+keeps_pending s = leaves_turns s || (is_send s || is_new s)
 
 -- the turns that are open for t after the step at place k: that of a Take alone, none after a step of an ending kind, and
 -- otherwise those that were open before it

@@ -1,5 +1,5 @@
 -- How a step goes on with the tables, by its kind.
-use Rattle.std.specs.Prelude.{ℕ, ◌-◌, Bool, true, false, Option, None, Some, List, slice_get, nat_le, nat_lt, option_map, if◌then◌else◌, ◌||◌, ◌==◌}
+use Rattle.std.specs.Prelude.{ℕ, ◌-◌, Bool, true, false, Option, None, Some, List, slice_get, nat_lt, option_map, if◌then◌else◌, ◌||◌, ◌==◌}
 use Rattle.tau_history.specs.Timeline.{Timeline, interval, numbers, opening, newborn}
 use Rattle.tau_points.specs.declared.point.Point.{Point}
 use Rattle.tau_trace.specs.declared.step.Step.{Step}
@@ -25,14 +25,6 @@ abbrev pub turn_after : Step → ℕ → Point → Option ℕ → Option Carryin
 turn_after (Take t m) k own origin turn = Some (record { touched = None; rest = origin })
 turn_after s k own origin turn =
     if ends_turn s then None else (if touches s then option_map (λ c. record { touched = Some own; rest = Some k }) turn else turn)
-
--- the place of the Send of message m, where the first so many messages are posts
-abbrev pub origin_of : List ℕ → ℕ → ℕ → Option ℕ
-origin_of sends posts m = if nat_le posts m then slice_get sends (m - posts) else None
-
-abbrev pub origin_in : List ℕ → ℕ → Step → Option ℕ
-origin_in sends posts (Take t m) = origin_of sends posts m
-origin_in sends posts s = None
 
 abbrev pub point_of : ℕ → Timeline → Point
 point_of t h = record { who = t; interval = interval h; incarnation = h.last }

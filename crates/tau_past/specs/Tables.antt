@@ -2,8 +2,10 @@
 use Rattle.std.specs.Prelude.{◌≡◌, ◌⊎◌, ◌↔◌, ℕ, suc, ◌+◌, ◌<◌, Bool, ◌&&◌, List, Option, None, Some, IsTrue, length, slice_get, nat_eq}
 use Rattle.tau_history.specs.Stored.{Stored}
 use Rattle.tau_points.specs.declared.point.Point.{Point}
+use Rattle.tau_trace.specs.declared.step.Step.{Step}
+use Rattle.tau_trace.specs.declared.step.Step.TheVariants.{Take}
 use Rattle.tau_trace.specs.Run.{Run, len, ActsAt, Does}
-use Rattle.tau_trace.specs.Numbering.{born, sent, IsNew, IsOrigin}
+use Rattle.tau_trace.specs.Numbering.{born, IsNew, IsPlaceOf}
 use Rattle.tau_trace.specs.Histories.{history, Falls}
 use Rattle.tau_trace.specs.Points.{point_at}
 use Rattle.tau_trace.specs.Turns.{IsOpenTurn, HasOpenTurn}
@@ -41,10 +43,10 @@ TellsTurn T k t (Some c) = HasOpenTurn T t k × TellsPoints T k (Pending T t k) 
 abbrev pub TellsHistory : Run → ℕ → ℕ → Stored → Type 0
 TellsHistory T k t h = h.history ≡ history T t k
 
--- the place of the Send that made the message
-abbrev pub TellsOrigin : Run → ℕ → Option ℕ → Type 0
-TellsOrigin T m None = (j by : ℕ) → ¬ IsOrigin T j by m
-TellsOrigin T m (Some j) = (by : ℕ) × IsOrigin T j by m
+-- what the turn that the step begins goes on from: where it is a Take, the place of the Send of its message; None for a post
+abbrev pub TellsCarrier : Run → Step → Option ℕ → Type 0
+TellsCarrier T (Take t m) o = IsPlaceOf T m o
+TellsCarrier T s o = o ≡ None
 
 -- what the step at place k carries
 abbrev pub TellsCarried : Run → ℕ → Carrying → Type 0
@@ -60,6 +62,15 @@ TellsMade T k (Some m) = ActsAt T m.point.who k × (m.point ≡ point_at T m.poi
 pub data TakesAt (T : Run) (p : Point) (j : ℕ) : Type 0 where
   by_set : {t : ℕ} → Does is_set T t j → p ≡ point_at T t j → TakesAt T p j
   by_new : {by u : ℕ} → IsNew T j by u → p ≡ first_point u → TakesAt T p j
+
+-- the point that takes by the step at place k; None where none does
+abbrev pub TellsTaker : Run → ℕ → Option Point → Type 0
+TellsTaker T k o = (p : Point) → TakesAt T p k ↔ (o ≡ Some p)
+
+-- the place of the New of transactor u; None where no New makes it, as for a start
+abbrev pub IsBirth : Run → ℕ → Option ℕ → Type 0
+IsBirth T u None = (j by : ℕ) → ¬ IsNew T j by u
+IsBirth T u (Some j) = (by : ℕ) × IsNew T j by u
 
 -- the last place below n at which P holds; None where there is none
 abbrev pub IsLast : (ℕ → Type 0) → ℕ → Option ℕ → Type 0
@@ -77,11 +88,6 @@ same_point p q = nat_eq p.who q.who && (nat_eq p.interval q.interval && nat_eq p
 abbrev pub ClosesBefore : Run → Point → Point → Type 0
 ClosesBefore T p q = (i : ℕ) × (p.interval ≡ suc i) × ClosesAt T Everywhere p.who i q
 
--- the places of the Sends before place k, in order: of the messages after the posts
-pub record ListsSends (T : Run) (k : ℕ) (places : List ℕ) : Type 0 where
-  pub count : length places + length T.opening.targets ≡ sent T k
-  pub each : (i j : ℕ) → slice_get places i ≡ Some j → TellsOrigin T (i + length T.opening.targets) (Some j)
-
 -- for each point the last place before k at which it takes
 abbrev pub TellsLatest : Run → ℕ → (Point → Option ℕ) → Type 0
 TellsLatest T k latest = (p : Point) → IsLast (TakesAt T p) k (latest p)
@@ -91,10 +97,12 @@ abbrev pub all_born : Run → ℕ
 all_born T = born T (len T)
 
 -- the tables tell of the whole trace
-pub record IsIndex (T : Run) (hs : List Stored) (cs : List Carrying) (ms : List (Option Made)) (last : Point → Option ℕ) (es : List (Option ℕ)) : Type 0 where
+pub record IsIndex (T : Run) (hs : List Stored) (cs : List Carrying) (ms : List (Option Made)) (last : Point → Option ℕ) (es : List (Option ℕ)) (ts : List (Option Point)) (bs : List (Option ℕ)) : Type 0 where
   pub well_formed : WellFormed T
   pub histories : Lists (all_born T) (TellsHistory T (len T)) hs
   pub carried : Lists (len T) (TellsCarried T) cs
   pub made : Lists (len T) (TellsMade T) ms
   pub latest : TellsLatest T (len T) last
   pub earlier : Lists (len T) (TellsEarlier T) es
+  pub takers : Lists (len T) (TellsTaker T) ts
+  pub births : Lists (all_born T) (IsBirth T) bs

@@ -1,16 +1,17 @@
 //! What steps carry, each step by an earlier one.
 ghost use Rattle.std.specs.Prelude.{◌≡◌, Option, slice_get, option_map};
-ghost use Rattle.tau_past.specs.TableSteps.{carried_by, turn_after, origin_in};
+ghost use Rattle.tau_past.specs.TableSteps.{carried_by, turn_after};
+ghost use Rattle.tau_past.specs.Tables.{TellsCarrier};
 
 use tau_points::Point;
-use tau_trace::Step;
+use tau_trace::{Step, Trace};
 
 /// What a step carries: the point that was touched last, if one was, and all that the step at an earlier place carries,
 /// if one is named (docs/definitions.md, "Carried").
 #[derive(Clone, Copy)]
-pub(crate) struct Carrying {
-    pub(crate) touched: Option<Point>,
-    pub(crate) rest: Option<u32>,
+pub struct Carrying {
+    pub touched: Option<Point>,
+    pub rest: Option<u32>,
 }
 
 /// What a step of a transactor, or of nobody, carries, by what each transactor's turn does.
@@ -68,13 +69,11 @@ pub(crate) fn turn_after(
 }
 
 /// The place of the Send of the message that the step takes; `None` for a post, and for other steps.
-pub(crate) fn origin_in(sends: &[u32], posts: u32, step: &Step) -> Option<u32>
-    ensures { result ≡ origin_in sends.now posts step.now }
+pub(crate) fn carrier_of(trace: &Trace, step: &Step) -> Option<u32>
+    ensures { TellsCarrier trace.now.run step.now result }
 {
     match step {
-        Step::Take { message, .. } if *message >= posts => {
-            sends.get((*message - posts) as usize).copied()
-        }
+        Step::Take { message, .. } => trace.origin(*message),
         _ => None,
     }
 }

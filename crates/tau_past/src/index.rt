@@ -9,12 +9,16 @@ ghost use Rattle.tau_trace.specs.Known.{WellFormed};
 ghost use Rattle.tau_past.specs.Safety.{RolledBack};
 ghost use Rattle.tau_past.specs.Audits.{ChecksAt};
 ghost use Rattle.tau_past.specs.TableSteps.{closing_in, opening_history, checked_point};
-ghost use Rattle.tau_past.specs.Tables.{Lists, TellsHistory, TellsTurn, TellsCarried, TellsMade, TellsEarlier, TakesAt, IsLast, ClosesBefore, all_born, same_point};
+ghost use Rattle.tau_past.specs.Tables.{Lists, TellsHistory, TellsTurn, TellsCarried, TellsMade, TellsEarlier, TellsTaker, IsBirth, TakesAt, IsLast, ClosesBefore, all_born, same_point};
+ghost use Rattle.tau_history.specs.Timeline.{numbers};
+ghost use Rattle.tau_trace.specs.Numbering.{born};
+ghost use Rattle.tau_trace.specs.Histories.{history};
 
 use crate::carrying::Carrying;
 use crate::made::Made;
 use crate::noting::{
-    born_after, note_carried, note_history, note_made, note_send, note_takes, note_turn, taker_at,
+    born_after, note_birth, note_carried, note_history, note_made, note_taker, note_takes,
+    note_turn, taker_at,
 };
 use std::alloc::{AllocError, Global};
 use std::collections::HashMap;
@@ -26,13 +30,15 @@ use tau_trace::{Step, Trace};
 /// What the steps of a trace carry and which points take it, each step by an earlier one, so that the index is linear
 /// in the trace; and the histories of all transactors after the trace. Contracts see the run.
 #[derive(Drop)]
-pub(crate) struct Index<'a> {
+pub struct Index<'a> {
     trace: &'a Trace,
     histories: Vec<History>,
     carried: Vec<Carrying>,
     made: Vec<Option<Made>>,
     latest: HashMap<Point, u32>,
     earlier: Vec<Option<u32>>,
+    takers: Vec<Option<Point>>,
+    births: Vec<Option<u32>>,
 }
 
 impl<'a> Model for Index<'a> {
@@ -50,29 +56,31 @@ impl<'a> Model for Index<'a> {
 
     ghost view = { λ x. x.trace.now.run };
 
-    ghost invariant = { λ x. IsIndex x.trace.now.run x.histories.items x.carried.items x.made.items (get same_point x.latest) x.earlier.items };
+    ghost invariant = { λ x. IsIndex x.trace.now.run x.histories.items x.carried.items x.made.items (get same_point x.latest) x.earlier.items x.takers.items x.births.items };
 }
 
 impl<'a> Index<'a> {
     /// The index of a trace, in one pass over it.
-    pub(crate) fn of(alloc: Global, trace: &'a Trace) -> Result<Index<'a>, AllocError>
+    pub fn of(alloc: Global, trace: &'a Trace) -> Result<Index<'a>, AllocError>
         ensures { IfOk result (λ x. x ≡ trace.now.run) }
     {
         let mut histories = opening_histories(alloc, trace)?;
         let mut turns = idle_turns(alloc, trace)?;
         let mut born = trace.opening().names.len() as u32;
-        let mut sends = Vec::new(alloc);
         let mut carried = Vec::new(alloc);
         let mut made = Vec::new(alloc);
         let mut latest = HashMap::new(alloc);
         let mut earlier = Vec::new(alloc);
+        let mut takers = Vec::new(alloc);
+        let mut births = starts_births(alloc, trace)?;
         for place in 0..trace.len() {
             note_carried(&mut carried, &turns, trace, place)?;
             note_made(&mut made, &histories, trace, place)?;
             let taker = taker_at(&histories, born, trace, place);
             note_takes(&mut latest, &mut earlier, taker, trace, place)?;
-            note_turn(&mut turns, &histories, &sends, trace, place);
-            note_send(&mut sends, trace, place)?;
+            note_taker(&mut takers, taker, trace, place)?;
+            note_turn(&mut turns, &histories, trace, place);
+            note_birth(&mut births, trace, place)?;
             born = born_after(born, trace, place);
             note_history(&mut histories, trace, place)?;
         }
@@ -83,18 +91,20 @@ impl<'a> Index<'a> {
             made,
             latest,
             earlier,
+            takers,
+            births,
         })
     }
 
     /// How many steps the trace has.
-    pub(crate) fn len(&self) -> u32
+    pub fn len(&self) -> u32
         ensures { result ≡ len self.now }
     {
         self.trace.len()
     }
 
     /// What the step at a place carries.
-    pub(crate) fn carried_at(&self, place: u32) -> Carrying
+    pub fn carried_at(&self, place: u32) -> Carrying
         requires { place < len self.now }
         ensures { TellsCarried self.now place result }
     {
@@ -102,7 +112,7 @@ impl<'a> Index<'a> {
     }
 
     /// The point at which the step at a place was made; `None` where nobody made it.
-    pub(crate) fn made_at(&self, place: u32) -> Option<Made>
+    pub fn made_at(&self, place: u32) -> Option<Made>
         requires { place < len self.now }
         ensures { TellsMade self.now place result }
     {
@@ -110,7 +120,7 @@ impl<'a> Index<'a> {
     }
 
     /// The point at which a Checkpoint was made at a place; `None` where no Checkpoint stands there.
-    pub(crate) fn checkpoint_at(&self, place: u32) -> Option<Point>
+    pub fn checkpoint_at(&self, place: u32) -> Option<Point>
         requires { place < len self.now }
         ensures { (p : Point) → ChecksAt self.now place p ↔ (result ≡ Some p) }
     {
@@ -128,22 +138,47 @@ impl<'a> Index<'a> {
     }
 
     /// The last place at which a point takes.
-    pub(crate) fn latest_of(&self, point: &Point) -> Option<u32>
+    pub fn latest_of(&self, point: &Point) -> Option<u32>
         ensures { IsLast (TakesAt self.now point.now) (len self.now) result }
     {
         self.latest.get(point).copied()
     }
 
     /// The last place before this one at which the point that takes here takes.
-    pub(crate) fn earlier_at(&self, place: u32) -> Option<u32>
+    pub fn earlier_at(&self, place: u32) -> Option<u32>
         requires { place < len self.now }
         ensures { TellsEarlier self.now place result }
     {
         self.earlier[place as usize]
     }
 
+    /// The point that takes by the step at a place; `None` where none does (docs/definitions.md, "Takes").
+    pub fn taker_at(&self, place: u32) -> Option<Point>
+        requires { place < len self.now }
+        ensures { (p : Point) → TakesAt self.now p place ↔ (result ≡ Some p) }
+    {
+        self.takers[place as usize]
+    }
+
+    /// The place of the New of a transactor; `None` for a start.
+    pub fn birth_of(&self, who: u32) -> Option<u32>
+        requires { who < born self.now (len self.now) }
+        ensures { IsBirth self.now who result }
+    {
+        self.births[who as usize]
+    }
+
+    /// The incarnation number that a transactor has, after the whole trace, at an interval; `None` for an interval that
+    /// it hasn't reached.
+    pub fn number_of(&self, who: u32, interval: u32) -> Option<u32>
+        requires { who < born self.now (len self.now) }
+        ensures { result ≡ slice_get (numbers (history self.now who (len self.now))) interval }
+    {
+        self.histories[who as usize].number_at(interval)
+    }
+
     /// The closing point of the interval before the point's.
-    pub(crate) fn closing_before(&self, point: &Point) -> Option<Point>
+    pub fn closing_before(&self, point: &Point) -> Option<Point>
         ensures { (q : Point) → ClosesBefore self.now point.now q ↔ (result ≡ Some q) }
     {
         match history_of(&self.histories, point.who) {
@@ -226,6 +261,18 @@ fn opening_histories(alloc: Global, trace: &Trace) -> Result<Vec<History>, Alloc
         histories.push(opening_history(alloc, who, starts)?)?;
     }
     Ok(histories)
+}
+
+/// No New of any start.
+fn starts_births(alloc: Global, trace: &Trace) -> Result<Vec<Option<u32>>, AllocError>
+    ensures { IfOk result (λ v. Lists (born trace.now.run 0) (IsBirth trace.now.run) v.items) }
+{
+    let starts = trace.opening().names.len() as u32;
+    let mut births = Vec::new(alloc);
+    for _who in 0..starts {
+        births.push(None)?;
+    }
+    Ok(births)
 }
 
 /// No turn of any transactor that ever exists.

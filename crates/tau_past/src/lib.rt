@@ -17,7 +17,9 @@ mod search;
 
 pub use auditing::audit;
 pub use calls::{carried, past};
+pub use carrying::Carrying;
 pub use findings::Audit;
+pub use index::Index;
 pub use known_laws::{
     AnyPlaces, bounds_are_unique, bounds_tell_histories, carried_points_were_touched,
     checkpoints_fix_their_past, checkpoints_were_stabilized, closed_sets_hold_earlier_steps,
@@ -32,3 +34,4 @@ pub use laws::{
     without_falls_all_is_taken,
 };
 pub use local_laws::decisions_are_local;
+pub use made::Made;

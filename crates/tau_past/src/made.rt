@@ -10,9 +10,9 @@ use tau_trace::Step;
 
 /// The point at which a step was made, and whether it is a falling step (docs/rules.md, "Steps").
 #[derive(Clone, Copy)]
-pub(crate) struct Made {
-    pub(crate) point: Point,
-    pub(crate) falls: bool,
+pub struct Made {
+    pub point: Point,
+    pub falls: bool,
 }
 
 /// The point of a transactor by its history.

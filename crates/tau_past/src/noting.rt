@@ -3,17 +3,17 @@ ghost use Rattle.std.specs.Prelude.{◌≡◌, ◌<◌, ◌+◌, ◌^◌, ◌-�
 ghost use Rattle.std.specs.HashMap.{get};
 ghost use Rattle.tau_history.specs.Timeline.{moved};
 ghost use Rattle.tau_history.specs.Timeline as timeline;
-ghost use Rattle.tau_trace.specs.Steps.{actor, is_send, is_new};
+ghost use Rattle.tau_trace.specs.Steps.{actor, is_new};
 ghost use Rattle.std.specs.Option.{option_map_or};
 ghost use Rattle.tau_trace.specs.Run.{len, step_at};
 ghost use Rattle.tau_trace.specs.Numbering as numbering;
 ghost use Rattle.tau_trace.specs.Histories.{move_of};
 ghost use Rattle.tau_trace.specs.Known.{WellFormed};
-ghost use Rattle.tau_past.specs.Tables.{Lists, TellsTurn, TellsHistory, TellsCarried, TellsMade, TellsEarlier, TellsLatest, TakesAt, ListsSends, same_point, all_born};
+ghost use Rattle.tau_past.specs.Tables.{Lists, TellsTurn, TellsHistory, TellsCarried, TellsMade, TellsEarlier, TellsLatest, TellsTaker, IsBirth, same_point, all_born};
 ghost use Rattle.tau_past.specs.TableSteps.{latest_for, latest_after};
 ghost use Rattle.tau_points.specs.declared.point.Point.{Point};
 
-use crate::carrying::{Carrying, carried_by, origin_in, turn_after};
+use crate::carrying::{Carrying, carried_by, carrier_of, turn_after};
 use crate::made::{Made, falls, point_of, taker};
 use std::alloc::AllocError;
 use std::collections::HashMap;
@@ -26,16 +26,6 @@ fn actor_at(trace: &Trace, place: u32) -> Option<u32>
     ensures { result ≡ option_and_then actor (step_at trace.now.run place) }
 {
     trace.step(place)?.actor()
-}
-
-/// Whether the step at a place is a Send.
-fn is_send_at(trace: &Trace, place: u32) -> bool
-    ensures { result ≡ option_map_or is_send (step_at trace.now.run place) false }
-{
-    match trace.step(place) {
-        Some(Step::Send { .. }) => true,
-        _ => false,
-    }
 }
 
 /// Makes the move that a step makes its own transactor's history make.
@@ -85,7 +75,6 @@ pub(crate) fn note_history(
 pub(crate) fn note_turn(
     turns: &mut Vec<Option<Carrying>>,
     histories: &[History],
-    sends: &[u32],
     trace: &Trace,
     place: u32,
 )
@@ -93,7 +82,6 @@ pub(crate) fn note_turn(
     requires place { place < len trace.now.run }
     requires turns { Lists (all_born trace.now.run) (TellsTurn trace.now.run place) turns.old.items }
     requires histories { Lists (all_born trace.now.run) (TellsHistory trace.now.run place) histories.now }
-    requires sends { ListsSends trace.now.run place sends.now }
     ensures { Lists (all_born trace.now.run) (TellsTurn trace.now.run (place + 1)) turns.new.items }
 {
     let Some(step) = trace.step(place) else {
@@ -102,23 +90,10 @@ pub(crate) fn note_turn(
     let Some(who) = step.actor() else {
         return;
     };
-    let origin = origin_in(sends, trace.opening().targets.len() as u32, step);
+    let origin = carrier_of(trace, step);
     let own = point_of(who, &histories[who as usize]);
     let turn = turns[who as usize];
     turns[who as usize] = turn_after(step, place, own, origin, turn);
-}
-
-/// Notes a Send.
-pub(crate) fn note_send(sends: &mut Vec<u32>, trace: &Trace, place: u32) -> Result<(), AllocError>
-    requires well_formed { WellFormed trace.now.run }
-    requires place { place < len trace.now.run }
-    requires told { ListsSends trace.now.run place sends.old.items }
-    ensures { OnOk result (ListsSends trace.now.run (place + 1) sends.new.items) }
-{
-    if is_send_at(trace, place) {
-        sends.push(place)?;
-    }
-    Ok(())
 }
 
 /// Notes what the step carries.
@@ -177,7 +152,7 @@ pub(crate) fn taker_at(histories: &[History], born: u32, trace: &Trace, place: u
     requires place { place < len trace.now.run }
     requires histories { Lists (all_born trace.now.run) (TellsHistory trace.now.run place) histories.now }
     requires born { born ≡ numbering.born trace.now.run place }
-    ensures { (p : Point) → TakesAt trace.now.run p place ↔ (result ≡ Some p) }
+    ensures { TellsTaker trace.now.run place result }
 {
     let Some(step) = trace.step(place) else {
         return None;
@@ -212,7 +187,7 @@ pub(crate) fn note_takes(
     trace: &Trace,
     place: u32,
 ) -> Result<(), AllocError>
-    requires taker { (p : Point) → TakesAt trace.now.run p place ↔ (taker ≡ Some p) }
+    requires taker { TellsTaker trace.now.run place taker }
     requires latest { TellsLatest trace.now.run place (get same_point latest.old) }
     requires earlier { Lists place (TellsEarlier trace.now.run) earlier.old.items }
     ensures latest { OnOk result (TellsLatest trace.now.run (place + 1) (get same_point latest.new)) }
@@ -220,6 +195,36 @@ pub(crate) fn note_takes(
 {
     let before = put_latest(latest, taker, place)?;
     earlier.push(before)?;
+    Ok(())
+}
+
+/// Notes the point, if there is one, that takes by the step.
+pub(crate) fn note_taker(
+    takers: &mut Vec<Option<Point>>,
+    taker: Option<Point>,
+    trace: &Trace,
+    place: u32,
+) -> Result<(), AllocError>
+    requires taker { TellsTaker trace.now.run place taker }
+    requires told { Lists place (TellsTaker trace.now.run) takers.old.items }
+    ensures { OnOk result (Lists (place + 1) (TellsTaker trace.now.run) takers.new.items) }
+{
+    takers.push(taker)?;
+    Ok(())
+}
+
+/// Notes where the transactor that the step makes, if it makes one, was made.
+pub(crate) fn note_birth(
+    births: &mut Vec<Option<u32>>,
+    trace: &Trace,
+    place: u32,
+) -> Result<(), AllocError>
+    requires { Lists (numbering.born trace.now.run place) (IsBirth trace.now.run) births.old.items }
+    ensures { OnOk result (Lists (numbering.born trace.now.run (place + 1)) (IsBirth trace.now.run) births.new.items) }
+{
+    if is_new_at(trace, place) {
+        births.push(Some(place))?;
+    }
     Ok(())
 }
 

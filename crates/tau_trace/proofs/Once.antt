@@ -1,10 +1,12 @@
 -- Each number is made once: a transactor has one node, a message one origin and one receiver.
-use Rattle.std.proofs.Common.{◌≡◌, ◌⊎◌, ⊎_elim, ℕ, suc, ◌+◌, ◌<◌, sym, ap, ◌∙◌, arith}
+use Rattle.std.proofs.Common.{◌≡◌, ◌⊎◌, ⊎_elim, ℕ, suc, ◌+◌, ◌<◌, length, sym, ap, ◌∙◌, arith}
+use Rattle.std.specs.Prelude.{option_and_then}
 use Rattle.std.proofs.lemmas.Option.{slice_get_within}
 use Rattle.std.proofs.lemmas.Bool.{cases_order}
 use Rattle.tau_value.specs.declared.shared.Value.{Value}
 use Rattle.tau_trace.specs.declared.step.Step.TheVariants.{Send, New}
-use Rattle.tau_trace.specs.Run.{Run, step_at, len}
+use Rattle.tau_trace.specs.Steps.{actor}
+use Rattle.tau_trace.specs.Run.{Run, step_at, len, ActsAt}
 use Rattle.tau_trace.specs.Numbering.{born, sent, IsNew, IsSent, IsOrigin, direct, Receives, post, message, IsHome, start, created}
 use Rattle.tau_trace.specs.Known.{IsSound}
 use Rattle.tau_trace.proofs.Lists.{same_some}
@@ -48,6 +50,14 @@ origin_is_one T i j by other m (direct a) (direct b) =
 
 pub origin_once : (T : Run) (i j by other m : ℕ) → IsOrigin T i by m → IsOrigin T j other m → i ≡ j
 origin_once T i j by other m a b = (origin_is_one T i j by other m a b).0
+
+-- a post has no origin
+pub posts_have_no_origin : (T : Run) (j by m : ℕ) → m < length T.opening.targets → ¬ IsOrigin T j by m
+posts_have_no_origin T j by m lt (direct o) = omega (arith, lt, o.made)
+
+-- the step at the origin of a message is one of its sender
+pub origin_acts : (T : Run) (j by m : ℕ) → IsOrigin T j by m → ActsAt T by j
+origin_acts T j by m (direct o) = ap (option_and_then actor) o.stands
 
 -- a message that has an origin or a receiver exists
 sent_exists : (T : Run) (j by m : ℕ) → IsSent T j by m → m < sent T (len T)

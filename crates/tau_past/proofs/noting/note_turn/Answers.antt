@@ -29,5 +29,5 @@ returns c =
     let t = c.in-Some-actor.who in
     let lt = acts_told T t k c.in-Some.step.now c.requires.well_formed c.requires.place (sym c.in-Some.ensures) (sym c.in-Some-actor.ensures) in
     let at = lists_read (all_born T) (TellsHistory T k) _ t _ lt c.index-histories-who.is c.requires.histories in
-    turns_own T k t c.in-Some.step.now c.args.turns.now.items _ c.args.sends.now c.point_of-own.result c.index-histories-who.result.history c.index-turn.result.now c.turn_after.result c.origin_in-origin.result c.len.result c.requires.well_formed c.requires.place (sym c.in-Some.ensures) (sym c.in-Some-actor.ensures)
-    (c.len.ensures ∙ ap (λ o. length o.targets) c.opening.ensures.value) c.requires.sends at c.point_of-own.ensures c.origin_in-origin.ensures c.turn_after.ensures c.index-turn.ensures refl c.requires.turns
+    turns_own T k t c.in-Some.step.now c.args.turns.now.items _ c.point_of-own.result c.index-histories-who.result.history c.index-turn.result.now c.turn_after.result c.carrier_of-origin.result c.requires.well_formed c.requires.place (sym c.in-Some.ensures) (sym c.in-Some-actor.ensures)
+    at c.point_of-own.ensures c.carrier_of-origin.ensures c.turn_after.ensures c.index-turn.ensures refl c.requires.turns
