@@ -1,6 +1,5 @@
 //! The program and the trace that the forms of an input mean.
-ghost use Rattle.std.specs.Prelude.{◌≡◌, ◌+◌, ◌<◌, ◌≤◌, IfOk, IfErr, OnOk, [], ◌∷◌, ◌++◌, length, map, take};
-ghost use Rattle.tau_sexpr.specs.Form.{tree_of};
+ghost use Rattle.std.specs.Prelude.{◌≡◌, ◌+◌, ◌<◌, ◌≤◌, IfOk, IfErr, length, take};
 ghost use Rattle.tau_sexpr.specs.Tree.{depths};
 ghost use Rattle.tau_tree.specs.Sound.{Sound};
 ghost use Rattle.tau_forms.specs.Meaning.{Means};
@@ -17,7 +16,7 @@ use crate::marks::place_of_mark;
 use std::alloc::{AllocError, Global};
 use tau_forms::program_of;
 use tau_script::opening_of;
-use tau_sexpr::{Form, Forms};
+use tau_sexpr::Forms;
 use tau_steps::steps_of;
 use tau_trace::Trace;
 use tau_tree::Program;
@@ -124,17 +123,7 @@ fn copies_before(alloc: Global, forms: &Forms, end: usize) -> Result<Forms, Allo
 {
     let mut front = Forms::new(alloc);
     for form in &forms.items()[..end] {
-        add(&mut front, form.copy()?)?;
+        front.add(form.copy()?)?;
     }
     Ok(front)
-}
-
-/// Adds a form at the end.
-fn add(forms: &mut Forms, form: Form) -> Result<(), AllocError>
-    ensures { OnOk result (forms.new ≡ forms.old ++ tree_of form ∷ []) }
-{
-    match forms.push(form) {
-        Ok(()) => Ok(()),
-        Err((_form, failed)) => Err(failed),
-    }
 }
