@@ -1,0 +1,9 @@
+//! Numbers of transactors, each of which only grows, in a list that is its owner's alone or shared with others.
+#![tactic(auto)]
+
+pub use numbers::Numbers;
+
+mod numbers;
+mod raising;
+#[cfg(test)]
+mod tests;
