@@ -23,7 +23,8 @@ use Rattle.tau_legal.proofs.LocalLemmas.{fits_same}
 use Rattle.tau_legal.proofs.TraceLemmas.{legal_grows}
 use Rattle.tau_eval.specs.Turn as jobs
 use Rattle.tau_rules.specs.System.{Core, with_step}
-use Rattle.tau_check.specs.Families.{received_by, turn_of}
+use Rattle.tau_trace.specs.Steps.{received_by}
+use Rattle.tau_check.specs.Families.{turn_of}
 use Rattle.tau_check.specs.Inner.Jobs.{HasJobs}
 use Rattle.tau_check.specs.Inner.Checkers.{IsChecker, HasAsked, GoesOn, NothingLeft}
 use Rattle.tau_check.proofs.Kept.{jobs_after_due}

@@ -20,7 +20,8 @@ use Rattle.tau_eval.specs.Meaning.{next}
 use Rattle.tau_legal.specs.Turns.{HasValue, RepliesOf, TurnHas}
 use Rattle.tau_legal.specs.Fits.{Fits, IsStable, IsVolatile, most_transactors}
 use Rattle.tau_rules.proofs.ActLemmas.{one_open_turn}
-use Rattle.tau_check.specs.Families.{received_by, turn_of, receipts, turn_steps, OneStepOfAFamilyFits}
+use Rattle.tau_trace.specs.Steps.{received_by}
+use Rattle.tau_check.specs.Families.{turn_of, receipts, turn_steps, OneStepOfAFamilyFits}
 use Rattle.tau_check.proofs.Once.{body_once, value_once, replies_once, same_taken}
 
 -- the verdict of a message is one

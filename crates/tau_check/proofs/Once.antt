@@ -14,7 +14,7 @@ use Rattle.tau_trace.specs.declared.step.Step.TheVariants.{Take, Drop, Fall, Voi
 use Rattle.tau_trace.specs.Run.{Run, step_at}
 use Rattle.tau_trace.specs.Points.{point_at}
 use Rattle.tau_trace.proofs.Lists.{same_some}
-use Rattle.tau_trace.proofs.Once.{new_once, origin_once}
+use Rattle.tau_trace.proofs.Once.{new_once, sent_once}
 use Rattle.tau_script.specs.Openings.{program_opening}
 use Rattle.tau_states.proofs.Uniqueness.{state_once}
 use Rattle.tau_legal.specs.Turns.{HasBehaviour, start, created, HasBody, HasValue, post, message, Replies, RepliesOf, before, another, reply}
@@ -58,7 +58,7 @@ module _ (P : Program) (T : Run) (opens : T.opening ≡ program_opening P) where
   value_once m v w (post {q = q} e f) (message o h) = absurd (omega (arith, slice_get_within P.posts m q e, few_posts, o.made))
   value_once m v w (message o f) (post {q = q} e h) = absurd (omega (arith, slice_get_within P.posts m q e, few_posts, o.made))
   value_once m v w (message {j = i} {by = x} o f) (message {j = j} {by = y} p h) =
-      let same = origin_once T i j x y m o p in
+      let same = sent_once T i j x y m o p in
       sym f ∙ ap val_of (same_sent o.to p.to x y o.value p.value (same_some (sym o.stands ∙ ap (step_at T) same ∙ p.stands))) ∙ h
 
 -- a step has one reply

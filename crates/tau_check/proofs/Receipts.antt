@@ -3,7 +3,7 @@ use Rattle.std.proofs.Common.{◌≡◌, ℕ, Option, Some, None, List, refl, sy
 use Rattle.tau_tree.specs.declared.programs.Program.{Program}
 use Rattle.tau_trace.specs.declared.step.Step.{Step}
 use Rattle.tau_trace.specs.declared.step.Step.TheVariants.{Take, Drop, Fall, Void}
-use Rattle.tau_trace.specs.Steps.{actor}
+use Rattle.tau_trace.specs.Steps.{actor, received_by}
 use Rattle.tau_trace.specs.Run.{Run, len, appended, step_at}
 use Rattle.tau_trace.specs.Known.{WellFormed, MayFollow}
 use Rattle.tau_trace.specs.Numbering.{Receives, Removes, InFlight}
@@ -21,7 +21,6 @@ use Rattle.tau_rules.specs.declared.answers.Delivered.{Delivered}
 use Rattle.tau_rules.specs.declared.answers.Delivered.TheVariants.{Began, Dropped, Fell, Voided}
 use Rattle.tau_rules.specs.Answers.{IsOpenJob, IsDelivered}
 use Rattle.tau_rules.proofs.IdleLemmas.{ended_idle}
-use Rattle.tau_check.specs.Families.{received_by}
 use Rattle.tau_check.specs.Inner.Jobs.{HasJobs, IsKeptBegun}
 use Rattle.tau_check.specs.Inner.Checkers.{HasAsked, GoesOn}
 use Rattle.tau_check.proofs.Turns.{BeginsNone}

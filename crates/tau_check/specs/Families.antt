@@ -2,18 +2,11 @@
 use Rattle.std.specs.Prelude.{◌≡◌, ℕ, Option, Some, None}
 use Rattle.tau_tree.specs.declared.programs.Program.{Program}
 use Rattle.tau_trace.specs.declared.step.Step.{Step}
-use Rattle.tau_trace.specs.declared.step.Step.TheVariants.{Take, Drop, Fall, Void, Get, Set, Skip, Send, New, Stabilize, Ask, Checkpoint, Hold, Rollback, Stay, Done, Trap}
+use Rattle.tau_trace.specs.declared.step.Step.TheVariants.{Get, Set, Skip, Send, New, Stabilize, Ask, Checkpoint, Hold, Rollback, Stay, Done, Trap}
+use Rattle.tau_trace.specs.Steps.{received_by}
 use Rattle.tau_trace.specs.Run.{Run}
 use Rattle.tau_script.specs.Openings.{program_opening}
 use Rattle.tau_legal.specs.Fits.{Fits}
-
--- the message that a Take, Drop, Fall or Void receives
-abbrev pub received_by : Step → Option ℕ
-received_by (Take t m) = Some m
-received_by (Drop t m) = Some m
-received_by (Fall t m) = Some m
-received_by (Void t m) = Some m
-received_by s = None
 
 -- the transactor whose open turn makes the step
 abbrev pub turn_of : Step → Option ℕ

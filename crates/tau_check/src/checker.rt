@@ -9,7 +9,8 @@ ghost use Rattle.tau_script.specs.Cursors.{first_cursor};
 ghost use Rattle.tau_script.specs.Openings.{program_opening};
 ghost use Rattle.tau_legal.specs.Traces.{Complete};
 ghost use Rattle.tau_rules.specs.Answers.{IsOpenJob};
-ghost use Rattle.tau_check.specs.Families.{received_by as received_message, turn_of as acting};
+ghost use Rattle.tau_trace.specs.Steps.{received_by as received_message};
+ghost use Rattle.tau_check.specs.Families.{turn_of as acting};
 ghost use Rattle.tau_check.specs.Inner.Jobs.{HasJobs, HasOtherJobs};
 ghost use Rattle.tau_check.specs.Inner.Checkers.{IsChecker, HasAsked, IsChecked};
 

@@ -1,6 +1,7 @@
 //! The family of a step.
 ghost use Rattle.std.specs.Prelude.{◌≡◌};
-ghost use Rattle.tau_check.specs.Families.{received_by as received_message, turn_of as acting};
+ghost use Rattle.tau_trace.specs.Steps.{received_by as received_message};
+ghost use Rattle.tau_check.specs.Families.{turn_of as acting};
 
 use tau_trace::Step;
 

@@ -11,6 +11,7 @@ use Rattle.tau_trace.specs.Histories.{history}
 use Rattle.tau_trace.proofs.Counted.{history-zero}
 use Rattle.tau_trace.proofs.Lists.{same_some}
 use Rattle.tau_trace.specs.Turns.{HasOpenTurn}
+use Rattle.tau_trace.proofs.Once.{posts_have_no_origin}
 use Rattle.tau_past.specs.Carried.{Pending, SentWith}
 use Rattle.tau_past.specs.Heard.{Needs, OriginOf, Heard, HeardBy}
 use Rattle.tau_past.proofs.Expected.{nothing_at_first, posts_carry_nothing}
@@ -59,7 +60,7 @@ starts_open_alone T t w lt =
 
 -- a post has heard nothing
 post_heard_nothing : (T : Run) (m : ℕ) → m < length T.opening.targets → (j : ℕ) → ¬ HeardBy T m j
-post_heard_nothing T m lt = least (Needs T) (OriginOf T m) (λ i. ⊥) (record { starts = λ i o. omega (arith, lt, o.origin.made); follows = λ x y h n. h })
+post_heard_nothing T m lt = least (Needs T) (OriginOf T m) (λ i. ⊥) (record { starts = λ i o. posts_have_no_origin T i o.by m lt o.origin; follows = λ x y h n. h })
 
 -- the view of a post is empty
 pub posts_have_heard_nothing : PostsHaveHeardNothing

@@ -11,21 +11,21 @@ use Rattle.tau_view.proofs.Sets.{or_cases, or_left, or_right, is_same, same_of}
 use Rattle.tau_trace.specs.declared.step.Step.TheVariants.{Take, Drop, Fall, Void, Send, New, Stabilize, Checkpoint}
 use Rattle.tau_trace.specs.Steps.{ends_turn}
 use Rattle.tau_trace.specs.Run.{Run, step_at, ActsAt, Does}
-use Rattle.tau_trace.specs.Numbering.{born, sent, IsNew, IsOrigin}
+use Rattle.tau_trace.specs.Numbering.{born, sent, IsNew, IsSent, direct}
 use Rattle.tau_trace.specs.Histories.{history, move_at, Closes, Falls}
 use Rattle.tau_trace.specs.Points.{point_at, Stabilizes}
 use Rattle.tau_trace.specs.Known.{WellFormed}
 use Rattle.tau_trace.proofs.Agreement.{born-grows}
 use Rattle.tau_trace.proofs.Counted.{move_at-own, closes_move, stabilizes_move}
 use Rattle.tau_trace.proofs.Lists.{same_some}
-use Rattle.tau_trace.proofs.Once.{origin_once}
+use Rattle.tau_trace.proofs.Once.{origin_once, origin_acts}
 use Rattle.tau_trace.proofs.Quiet.{acts}
 use Rattle.tau_trace.specs.Turns.{HasOpenTurn}
 use Rattle.tau_past.specs.Carried.{touches, is_set, Pending, Carried, SentWith, first_point}
 use Rattle.tau_past.specs.Heard.{heard_by, Heard, HeardBy, HeardTogether, HoldsStepsBefore}
 use Rattle.tau_past.specs.KnownLaws.{keeps_pending, HearsOf, HearsOfNone, With, HasBounds}
 use Rattle.tau_past.proofs.BoundLemmas.{has_bounds}
-use Rattle.tau_past.proofs.HeardLemmas.{origin_acts, new_acts, heard_after_step, heard_with_sender}
+use Rattle.tau_past.proofs.HeardLemmas.{new_acts, heard_after_step, heard_with_sender}
 use Rattle.tau_past.proofs.Known.{acts_known, hears_known, heard_before}
 use Rattle.tau_past.proofs.PendingLemmas.{pending_turn, pending_after_step}
 use Rattle.tau_heard.specs.Views.{IsPresent, is_owner, by_step, by_birth, IsViewOf, IsMessageView}
@@ -128,7 +128,7 @@ module _ (T : Run) (t k : ℕ) (x : Held) (w : WellFormed T) (there : t < born T
   after_void : (m : ℕ) → step_at T k ≡ Some (Void t m) → IsViewOf T t (suc k) x
   after_void m e = after_nothing (does_of T t k is_plain (Void t m) e refl refl) (does_of T t k keeps_pending (Void t m) e refl refl) (ap (option_and_then heard_by) e) (move_at-own T t k (Void t m) e refl)
 
-  module _ (m : ℕ) (o : IsOrigin T k t m) where
+  module _ (m : ℕ) (o : IsSent T k t m) where
     sends_plain : Does is_plain T t k
     sends_plain = does_of T t k is_plain (Send t o.to o.value) o.stands refl refl
 
@@ -141,18 +141,18 @@ module _ (T : Run) (t k : ℕ) (x : Held) (w : WellFormed T) (there : t < born T
     -- the message carries what was pending for its sender
     sent_pending : (q : Point) → SentWith T m q ↔ Pending T t k q
     sent_pending q = (
-      λ s. (carried_pending T t k q at).0 (subst (λ j. Carried T j q) (origin_once T s.place k s.by t m s.origin o) s.carried),
-      λ p. record { place = k; by = t; origin = o; carried = (carried_pending T t k q at).1 p },
+      λ s. (carried_pending T t k q at).0 (subst (λ j. Carried T j q) (origin_once T s.place k s.by t m s.origin (direct o)) s.carried),
+      λ p. record { place = k; by = t; origin = direct o; carried = (carried_pending T t k q at).1 p },
     ) where
       at : ActsAt T t k
-      at = origin_acts T k t m o
+      at = origin_acts T k t m (direct o)
 
     after_message : IsMessageView T m x
     after_message =
-        view_same T (With (Heard T t k) k) (HeardBy T m) None (Pending T t k) (SentWith T m) x (heard_with_sender T m k t o) sent_pending
+        view_same T (With (Heard T t k) k) (HeardBy T m) None (Pending T t k) (SentWith T m) x (heard_with_sender T m k t (direct o)) sent_pending
         (view_of T (With (Heard T t k) k) None (Pending T t k) x facts v.root) where
           present_here : (owner : Option ℕ) → IsPresent T (With (Heard T t k) k) owner t
-          present_here owner = by_step (inr refl) (origin_acts T k t m o)
+          present_here owner = by_step (inr refl) (origin_acts T k t m (direct o))
 
           facts : Knows T (With (Heard T t k) k) None x.history x.edge
           facts =

@@ -8,7 +8,7 @@ use Rattle.tau_trace.specs.declared.step.Step.{Step}
 use Rattle.tau_trace.specs.declared.step.Step.TheVariants.{Take, Drop, Fall, Void, Get, Skip, Ask}
 use Rattle.tau_trace.specs.Steps.{ends_turn, is_send}
 use Rattle.tau_trace.specs.Run.{Run, Agree, starts, step_at, ActsAt, Does}
-use Rattle.tau_trace.specs.Numbering.{born, sent, IsNew, IsOrigin}
+use Rattle.tau_trace.specs.Numbering.{born, sent, IsNew, IsSent}
 use Rattle.tau_trace.specs.Histories.{history, move_at, Closes, Falls}
 use Rattle.tau_trace.specs.Points.{point_at, Stabilizes}
 use Rattle.tau_trace.specs.Known.{WellFormed}
@@ -36,8 +36,8 @@ pub record ViewAfterStep (T : Run) (t k : ℕ) (x : Held) : Type 0 where
   pub touching : Does only_touches T t k → HasOpenTurn T t k → IsViewOf T t (suc k) (touched (point_at T t k) x)
   pub set : Does is_set T t k → HasOpenTurn T t k → IsViewOf T t (suc k) (touched (point_at T t k) (depended (point_at T t k) x))
   pub stabilize : Stabilizes T t k → HasOpenTurn T t k → IsViewOf T t (suc k) (touched (point_at T t k) (noted t (moved stabilize (history T t k)) x))
-  pub send : (m : ℕ) → IsOrigin T k t m → IsViewOf T t (suc k) x
-  pub message : (m : ℕ) → IsOrigin T k t m → IsMessageView T m x
+  pub send : (m : ℕ) → IsSent T k t m → IsViewOf T t (suc k) x
+  pub message : (m : ℕ) → IsSent T k t m → IsMessageView T m x
   pub new : (u : ℕ) → IsNew T k t u → IsViewOf T t (suc k) (with_newborn u x)
   pub newborn : (u : ℕ) → IsNew T k t u → IsViewOf T u (suc k) (with_no_roots (with_newborn u x))
   pub take : (m : ℕ) (y : Held) → step_at T k ≡ Some (Take t m) → IsMessageView T m y → IsViewOf T t (suc k) (with_roots y.root (merged x y))

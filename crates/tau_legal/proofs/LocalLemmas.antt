@@ -15,7 +15,7 @@ use Rattle.tau_trace.specs.Histories.{history, IsLiving}
 use Rattle.tau_trace.specs.Points.{point_at}
 use Rattle.tau_trace.specs.Turns.{IsOpenTurn}
 use Rattle.tau_trace.specs.Known.{WellFormed, IsKnownAt}
-use Rattle.tau_trace.proofs.Agreement.{agree_below, born-same, sent-same, history-same, origin_before, new_before, same_at}
+use Rattle.tau_trace.proofs.Agreement.{agree_below, born-same, sent-same, history-same, sent_before, new_before, same_at}
 use Rattle.tau_past.specs.Decisions.{Free}
 use Rattle.tau_past.specs.States.{StateAt}
 use Rattle.tau_past.specs.LocalLaws.{SameDecisionsAt}
@@ -38,7 +38,7 @@ module _ {T U : Run} where
   pub value-same : (P : Program) (m k : ℕ) (v : Val) → Agree T U k → m < sent T k → HasValue P T m v → HasValue P U m v
   value-same P m k v a lt (post {q = q} e f) = post e f
   value-same P m k v a lt (message {j = j} {by = by} o e) =
-      let earlier = origin_before T j by m k o lt in
+      let earlier = sent_before T j by m k o lt in
       message (record { to = o.to; value = o.value; stands = sym (a.steps j earlier) ∙ o.stands; made = o.made ∙ sent-same j (agree_below j (omega arith) a) }) e
 
   pub replies-same : (opening : List Value) (j : ℕ) (s : Step) (r : Val) → WellFormed T → WellFormed U → Agree T U j → IsKnownAt T j s → Replies T opening j s r → Replies U opening j s r

@@ -12,9 +12,9 @@ use Rattle.tau_tree.specs.Code.{Code}
 use Rattle.tau_tree.specs.Sound.{Sound}
 use Rattle.tau_trace.specs.declared.step.Step.{Step}
 use Rattle.tau_trace.specs.declared.step.Step.TheVariants.{Take, Drop, Fall, Void, Get, Set, Skip, Send, New, Stabilize, Ask, Rollback, Trap, Fail}
-use Rattle.tau_trace.specs.Steps.{actor, ends_turn, is_take, is_new, is_send}
+use Rattle.tau_trace.specs.Steps.{actor, ends_turn, is_take, is_new, makes_message}
 use Rattle.tau_trace.specs.Run.{Run, step_at, len, starts, ActsAt, Does}
-use Rattle.tau_trace.specs.Numbering.{born, sent, IsNew, IsOrigin, Receives, post, message}
+use Rattle.tau_trace.specs.Numbering.{born, sent, IsNew, IsSent, Receives, post, message}
 use Rattle.tau_trace.specs.Histories.{Ended, IsFallingStep, by_fall, by_rollback, by_trap, by_fail}
 use Rattle.tau_trace.specs.Turns.{Turn, IsOpenTurn}
 use Rattle.tau_trace.specs.Known.{WellFormed}
@@ -22,7 +22,7 @@ use Rattle.tau_trace.proofs.Lists.{same_some}
 use Rattle.tau_trace.proofs.Counts.{count-zero}
 use Rattle.tau_trace.proofs.Counted.{falls_falling}
 use Rattle.tau_trace.proofs.Indexing.{born-next, sent-next}
-use Rattle.tau_trace.proofs.Agreement.{born-grows, origin_before}
+use Rattle.tau_trace.proofs.Agreement.{born-grows, sent_before}
 use Rattle.tau_trace.proofs.Sequences.{cases_last}
 use Rattle.tau_states.specs.Opening.{opening_states}
 use Rattle.tau_eval.specs.Eff.{Eff}
@@ -43,7 +43,7 @@ record IsMaker (T : Run) (t : ℕ) : Type 0 where
 record IsSender (T : Run) (m : ℕ) : Type 0 where
   pub place : ℕ
   pub by : ℕ
-  pub origin : IsOrigin T place by m
+  pub origin : IsSent T place by m
 
 made_here : (T : Run) (t k : ℕ) (s : Step) → step_at T k ≡ Some s → born T k ≤ t → t < born T (suc k) → IsMaker T t
 made_here T t k (New by b n v) e ge lt =
@@ -66,7 +66,7 @@ sent_here T m k s e ge lt = absurd (omega (arith, sent-next T k s e))
 
 -- a message that is no post was made by a Send
 sender_exists : (T : Run) (m k : ℕ) → k ≤ len T → length T.opening.targets ≤ m → m < sent T k → IsSender T m
-sender_exists T m zero l ge lt = absurd (omega (arith, count-zero (λ j. option_map_or is_send (step_at T j) false)))
+sender_exists T m zero l ge lt = absurd (omega (arith, count-zero (λ j. option_map_or makes_message (step_at T j) false)))
 sender_exists T m (suc k) l ge lt =
     let here = element T.steps k (omega arith) in
     ⊎_elim (λ b. sender_exists T m k (omega arith) ge b) (λ le. sent_here T m k here.0 here.1 le lt) (cases_lt m (sent T k))
@@ -86,7 +86,7 @@ receiver_known T w m t k lt (post e) =
     let within = at_all (λ u. u < length T.opening.names) T.opening.targets m t w.opening.targets e in
     omega (arith, within)
 receiver_known T w m t k lt (message {j = j} {by = by} o e) =
-    let earlier = origin_before T j by m k o lt in
+    let earlier = sent_before T j by m k o lt in
     let known = (w.known j (Send by o.to o.value) o.stands).1 in
     omega (arith, known, e, born-grows T j k (omega arith))
 

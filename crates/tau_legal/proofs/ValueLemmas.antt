@@ -18,7 +18,7 @@ use Rattle.tau_trace.specs.Run.{Run, step_at, len}
 use Rattle.tau_trace.specs.Numbering.{born, sent}
 use Rattle.tau_trace.specs.Points.{point_at}
 use Rattle.tau_trace.specs.Known.{WellFormed, IsKnownValue}
-use Rattle.tau_trace.proofs.Agreement.{born-grows, origin_before}
+use Rattle.tau_trace.proofs.Agreement.{born-grows, sent_before}
 use Rattle.tau_points.specs.declared.point.Point.{Point}
 use Rattle.tau_past.specs.States as states
 use Rattle.tau_past.specs.States.{StateAt, SavedWith}
@@ -88,7 +88,7 @@ module _ (P : Program) (T : Run) (sound : Sound P) (well : WellFormed T) (opens 
       let names = at_all (λ q. NamesBelow (length P.starts) (val_of q.value)) P.posts m q sound.post_names e in
       known_more (length P.starts) (born T k) v (few_starts k) (subst (IsKnown (length P.starts)) is (bounded, names))
   message_known m k v lt (message {j = j} {by = by} o is) =
-      let earlier = origin_before T j by m k o lt in
+      let earlier = sent_before T j by m k o lt in
       let known = (well.known j (Send by o.to o.value) o.stands).2 in
       known_more (born T j) (born T k) v (born-grows T j k (omega arith)) (subst (IsKnown (born T j)) is (known_of (born T j) o.value known))
 

@@ -12,7 +12,7 @@ use Rattle.tau_tree.specs.Code.{Code}
 use Rattle.tau_trace.specs.declared.step.Step.{Step}
 use Rattle.tau_trace.specs.declared.step.Step.TheVariants.{Get, Set, Skip, Send, New, Stabilize, Ask}
 use Rattle.tau_trace.specs.Run.{Run, step_at, ActsAt}
-use Rattle.tau_trace.specs.Numbering.{born, IsNew, IsOrigin}
+use Rattle.tau_trace.specs.Numbering.{born, IsNew, IsSent}
 use Rattle.tau_trace.specs.Points.{point_at}
 use Rattle.tau_trace.specs.Turns.{Turn}
 use Rattle.tau_past.specs.States.{StateAt}
@@ -36,7 +36,7 @@ pub record HasBody (P : Program) (T : Run) (t : ℕ) (body : Code) : Type 0 wher
 -- the value of message m: a post's by the program, another one's by its Send
 pub data HasValue (P : Program) (T : Run) (m : ℕ) (v : Val) : Type 0 where
   post : {q : Post} → slice_get P.posts m ≡ Some q → val_of q.value ≡ v → HasValue P T m v
-  message : {j by : ℕ} → (origin : IsOrigin T j by m) → val_of origin.value ≡ v → HasValue P T m v
+  message : {j by : ℕ} → (origin : IsSent T j by m) → val_of origin.value ≡ v → HasValue P T m v
 
 -- the reply that the step at place j gives its turn: the state for a Get, the truth for an Ask, the new name for a New, and
 -- unit for a Set, Skip, Send or Stabilize

@@ -12,7 +12,7 @@ use Rattle.tau_trace.specs.Numbering.{born, sent, Receives, post, message, Remov
 use Rattle.tau_trace.specs.Histories.{EndsAt}
 use Rattle.tau_trace.specs.Turns.{Turn, IsOpenTurn}
 use Rattle.tau_trace.specs.Known.{WellFormed}
-use Rattle.tau_trace.proofs.Agreement.{agree_appended, step_at-appended, born-grows, origin_before}
+use Rattle.tau_trace.proofs.Agreement.{agree_appended, step_at-appended, born-grows, sent_before}
 use Rattle.tau_trace.proofs.Indexing.{len-appended}
 use Rattle.tau_past.proofs.PendingLemmas.{turns_after_step}
 use Rattle.tau_script.specs.Openings.{program_opening}
@@ -43,7 +43,7 @@ receiver_exists T w m t lt (post e) =
     let within = at_all (λ u. u < length T.opening.names) T.opening.targets m t w.opening.targets e in
     omega (arith, within)
 receiver_exists T w m t lt (message {j = j} {by = by} o e) =
-    let before = origin_before T j by m (len T) o lt in
+    let before = sent_before T j by m (len T) o lt in
     let known = (w.known j (Send by o.to o.value) o.stands).1 in
     omega (arith, known, e, born-grows T j (len T) (omega arith))
 

@@ -7,7 +7,7 @@ use Rattle.tau_value.specs.Value.{val_of}
 use Rattle.tau_tree.specs.declared.programs.Program.{Program}
 use Rattle.tau_trace.specs.declared.step.Step.{Step}
 use Rattle.tau_trace.specs.declared.step.Step.TheVariants.{Send}
-use Rattle.tau_trace.specs.Steps.{is_send}
+use Rattle.tau_trace.specs.Steps.{is_send, makes_message}
 use Rattle.tau_trace.specs.Run.{Run, len, appended}
 use Rattle.tau_trace.specs.Numbering.{sent}
 use Rattle.tau_trace.specs.Known.{WellFormed}
@@ -20,7 +20,7 @@ use Rattle.tau_rules.specs.Records.{AreValues, sent_value, with_sent}
 use Rattle.tau_rules.proofs.TurnLemmas.{value_kept}
 
 -- how many messages there are after a step
-sent_appended : (T : Run) (s : Step) → sent (appended T s) (len (appended T s)) ≡ sent T (len T) + cond (is_send s) 1 0
+sent_appended : (T : Run) (s : Step) → sent (appended T s) (len (appended T s)) ≡ sent T (len T) + cond (makes_message s) 1 0
 sent_appended T s = ap (sent (appended T s)) (len-appended T s) ∙ omega (arith, sent-next (appended T s) (len T) s (step_at-appended T s), sent-same (len T) (agree_appended T s))
 
 -- a step makes no message, or is a Send
@@ -48,7 +48,7 @@ values_change P T s v w vs h = ⊎_elim none sends (sending_or_none s) where
 
   sends : IsSending s → AreValues P (appended T s) (with_sent vs (sent_value s))
   sends i = subst (λ o. AreValues P (appended T s) (with_sent vs o)) (sym (ap sent_value i.is)) (record {
-    count = omega (arith, length-append vs (i.value ∷ []), h.count, sent_appended T s, ap {B = ℕ} (λ r. cond (is_send r) 1 0) i.is);
+    count = omega (arith, length-append vs (i.value ∷ []), h.count, sent_appended T s, ap {B = ℕ} (λ r. cond (makes_message r) 1 0) i.is);
     each = λ m x e. ⊎_elim (kept m x) (last m x) (slice_get-push_cases vs i.value x m e);
   }) where
     last : (m : ℕ) (x : Value) → (m ≡ length vs) × (i.value ≡ x) → HasValue P (appended T s) m (val_of x)

@@ -8,7 +8,7 @@ use Rattle.tau_tree.specs.declared.starts.Start.{Start}
 use Rattle.tau_tree.specs.declared.posts.Post.{Post}
 use Rattle.tau_tree.specs.declared.programs.Program.{Program}
 use Rattle.tau_tree.specs.Sound.{Sound}
-use Rattle.tau_trace.specs.Steps.{is_new, is_send}
+use Rattle.tau_trace.specs.Steps.{is_new, makes_message}
 use Rattle.tau_trace.specs.Run.{Run, step_at}
 use Rattle.tau_trace.specs.Numbering.{born, sent}
 use Rattle.tau_trace.specs.Known.{IsSound}
@@ -67,7 +67,7 @@ opens P states records values sound opening holds starts posts = record {
   born_first P = omega (arith, count-zero (λ j. option_map_or is_new (step_at (opened P) j) false), length-map (λ s. s.name) P.starts)
 
   sent_first : (P : Program) → sent (opened P) 0 ≡ length P.posts
-  sent_first P = omega (arith, count-zero (λ j. option_map_or is_send (step_at (opened P) j) false), length-map (λ q. q.to) P.posts)
+  sent_first P = omega (arith, count-zero (λ j. option_map_or makes_message (step_at (opened P) j) false), length-map (λ q. q.to) P.posts)
 
   is_record : (t : ℕ) (r : Record) → (s : Start) × (slice_get P.starts t ≡ Some s) × (s.behaviour ≡ r.behaviour) → IsRecord P (opened P) t r
   is_record t r c = record { behaviour = start c.1 c.2; turn = λ place m u. absurd (omega (arith, u.before)) }

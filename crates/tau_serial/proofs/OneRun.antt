@@ -14,7 +14,8 @@ use Rattle.tau_script.specs.Openings.{program_opening}
 use Rattle.tau_script.specs.Scripts.{DueStep, NoneDue}
 use Rattle.tau_script.proofs.Determined.{one_step}
 use Rattle.tau_legal.specs.Traces.{Complete}
-use Rattle.tau_check.specs.Families.{received_by, turn_of}
+use Rattle.tau_trace.specs.Steps.{received_by}
+use Rattle.tau_check.specs.Families.{turn_of}
 use Rattle.tau_check.proofs.FamilyLemmas.{one_receipt, one_turn_step}
 use Rattle.tau_check.proofs.Once.{same_taker}
 use Rattle.tau_check.proofs.TurnSteps.{acts_in_turn}

@@ -9,7 +9,7 @@ use Rattle.tau_tree.specs.declared.programs.Program.{Program}
 use Rattle.tau_value.specs.Value.{val_of}
 use Rattle.tau_trace.specs.declared.step.Step.{Step}
 use Rattle.tau_trace.specs.declared.step.Step.TheVariants as steps
-use Rattle.tau_trace.specs.Steps.{actor}
+use Rattle.tau_trace.specs.Steps.{actor, received_by}
 use Rattle.tau_trace.specs.Run.{Run, len, appended}
 use Rattle.tau_trace.specs.Known.{WellFormed}
 use Rattle.tau_trace.specs.Turns.{Turn, IsOpenTurn}
@@ -26,7 +26,6 @@ use Rattle.tau_rules.specs.System.{Core, with_step}
 use Rattle.tau_rules.specs.Answers.{IsOpenJob, IsStepped, IsDelivered}
 use Rattle.tau_rules.specs.declared.answers.Delivered.{Delivered}
 use Rattle.tau_rules.specs.declared.answers.Delivered.TheVariants.{Began, Dropped, Fell, Voided}
-use Rattle.tau_check.specs.Families.{received_by}
 use Rattle.tau_check.proofs.Turns.{BeginsNone, of_turn_begins_none, earlier, ended}
 use Rattle.tau_check.proofs.Endings.{legal_fits, last_fits}
 use Rattle.tau_check.proofs.Receipts.{IsByIdle, by_idle}

@@ -12,7 +12,7 @@ use Rattle.tau_value.specs.Meaning.{Fault, shape, unknown}
 use Rattle.tau_trace.specs.declared.opening.Opening.{Opening}
 use Rattle.tau_trace.specs.declared.step.Step.{Step}
 use Rattle.tau_trace.specs.declared.step.Step.TheVariants.{Take}
-use Rattle.tau_trace.specs.Steps.{is_new, is_send}
+use Rattle.tau_trace.specs.Steps.{is_new, is_send, makes_message}
 use Rattle.tau_trace.specs.Run.{Run, len, step_at, appended}
 use Rattle.tau_trace.specs.Numbering.{born, sent}
 use Rattle.tau_trace.specs.StepForms.{kind_word}
@@ -78,12 +78,12 @@ module _ (o : Opening) (fs : List Tree) (n : ℕ) (T : Run) (within : n ≤ leng
       ap (λ x. option_map_or is_new x false) s.1 ∙ sym (begins o (born T j) (sent T j) (codes "new") f.0 s.0 means ∙ new_word s.0) ∙ sym (ap (λ x. option_map_or (begins_with (codes "new")) x false) f.1)
 
   -- each form makes a message where its step does
-  send_at : (j : ℕ) → j < n → option_map_or is_send (step_at T j) false ≡ option_map_or (begins_with (codes "send")) (slice_get fs j) false
+  send_at : (j : ℕ) → j < n → option_map_or makes_message (step_at T j) false ≡ option_map_or (begins_with (codes "send")) (slice_get fs j) false
   send_at j l =
       let f = element fs j (omega arith) in
       let s = element T.steps j (omega (arith, r.count)) in
       let means = r.each j f.0 s.0 f.1 s.1 in
-      ap (λ x. option_map_or is_send x false) s.1 ∙ sym (begins o (born T j) (sent T j) (codes "send") f.0 s.0 means ∙ send_word s.0) ∙ sym (ap (λ x. option_map_or (begins_with (codes "send")) x false) f.1)
+      ap (λ x. option_map_or makes_message x false) s.1 ∙ sym (begins o (born T j) (sent T j) (codes "send") f.0 s.0 means ∙ send_word s.0) ∙ sym (ap (λ x. option_map_or (begins_with (codes "send")) x false) f.1)
 
   -- so many transactors exist before a form
   pub born_told : (k : ℕ) → k ≤ n → born T k ≡ transactors_before o fs k
@@ -91,7 +91,7 @@ module _ (o : Opening) (fs : List Tree) (n : ℕ) (T : Run) (within : n ≤ leng
 
   -- so many messages exist before a form
   pub sent_told : (k : ℕ) → k ≤ n → sent T k ≡ messages_before o fs k
-  sent_told k l = omega (arith, ap (λ p. length p.targets) r.opening, count-same (λ j. option_map_or is_send (step_at T j) false) (λ j. option_map_or (begins_with (codes "send")) (slice_get fs j) false) k (λ j h. send_at j (omega arith)))
+  sent_told k l = omega (arith, ap (λ p. length p.targets) r.opening, count-same (λ j. option_map_or makes_message (step_at T j) false) (λ j. option_map_or (begins_with (codes "send")) (slice_get fs j) false) k (λ j h. send_at j (omega arith)))
 
   -- no step so far is faulty
   pub clean_below : (k : ℕ) (e : Fault) → StepFault o fs k e → n ≤ k

@@ -3,7 +3,7 @@ use Rattle.std.proofs.Common.{◌≡◌, ◌⊎◌, inl, inr, ⊎_elim, ℕ, suc
 use Rattle.std.specs.Prelude.{slice_get, option_and_then}
 use Rattle.tau_view.specs.Held.{Held}
 use Rattle.tau_trace.specs.declared.step.Step.{Step}
-use Rattle.tau_trace.specs.Steps.{actor, removed_by, is_new, is_send}
+use Rattle.tau_trace.specs.Steps.{actor, removed_by, is_new, makes_message}
 use Rattle.tau_trace.specs.Run.{Run, len, step_at, appended, ActsAt, Does}
 use Rattle.tau_trace.specs.Numbering.{born, sent, InFlight, Removes}
 use Rattle.tau_trace.specs.Known.{MayFollow, WellFormed}
@@ -32,7 +32,7 @@ module _ (T : Run) (s : Step) where
   pub born_then : born (appended T s) (suc (len T)) ≡ born T (len T) + one_if (is_new s)
   born_then = omega (arith, born-next (appended T s) (len T) s (step_at-appended T s), born_here)
 
-  pub sent_then : sent (appended T s) (suc (len T)) ≡ sent T (len T) + one_if (is_send s)
+  pub sent_then : sent (appended T s) (suc (len T)) ≡ sent T (len T) + one_if (makes_message s)
   sent_then = omega (arith, sent-next (appended T s) (len T) s (step_at-appended T s), sent_here)
 
   pub acts_here : (t : ℕ) → ActsAt (appended T s) t (len T) → actor s ≡ Some t

@@ -10,7 +10,7 @@ use Rattle.tau_trace.specs.declared.step.Step.{Step}
 use Rattle.tau_trace.specs.declared.step.Step.TheVariants.{Void, Send, New, Lose}
 use Rattle.tau_trace.specs.Steps.{actor, removed_by, is_new, is_send}
 use Rattle.tau_trace.specs.Run.{Run, len, step_at, appended}
-use Rattle.tau_trace.specs.Numbering.{born, sent, IsNew, IsOrigin}
+use Rattle.tau_trace.specs.Numbering.{born, sent, IsNew, IsSent}
 use Rattle.tau_trace.proofs.Lists.{same_some}
 use Rattle.tau_heard.specs.Views.{IsViewOf, IsMessageView}
 use Rattle.tau_heard.specs.Laws.{ViewAfterStep, with_newborn}
@@ -39,9 +39,9 @@ new_keeps (New t b n x) k = refl
 new_keeps s k = absurd (cc)
 
 -- what the step makes
-makes_message : (U : Run) (k t m : ℕ) (s : Step) → step_at U k ≡ Some s → IsTrue (is_send s) → actor s ≡ Some t → m ≡ sent U k → IsOrigin U k t m
-makes_message U k t m (Send u w x) e kind by is = record { to = w; value = x; stands = e ∙ ap (λ i. Some (Send i w x)) (same_some by); made = is }
-makes_message U k t m s e kind by is = absurd (cc)
+sends_there : (U : Run) (k t m : ℕ) (s : Step) → step_at U k ≡ Some s → IsTrue (is_send s) → actor s ≡ Some t → m ≡ sent U k → IsSent U k t m
+sends_there U k t m (Send u w x) e kind by is = record { to = w; value = x; stands = e ∙ ap (λ i. Some (Send i w x)) (same_some by); made = is }
+sends_there U k t m s e kind by is = absurd (cc)
 
 makes_transactor : (U : Run) (k t u : ℕ) (s : Step) → step_at U k ≡ Some s → IsTrue (is_new s) → actor s ≡ Some t → u ≡ born U k → IsNew U k t u
 makes_transactor U k t u (New w b n x) e kind by is = record { behaviour = b; node = n; state = x; stands = e ∙ ap (λ i. Some (New i b n x)) (same_some by); made = is }
@@ -83,9 +83,9 @@ module _ (de : EdgeTest) (dr : RootTest) {V : Type 0} (held : V → Held) (v : V
         let x = next.views.each t h e in
         let step = after_step T s next.well_formed next.follows t x.whole (actor_exists de dr held v T s next t by) x.is_whole in
         subst P (sym is) (next_by de dr held v T s next (record { own = None; newborn = None; letter = Some a; gone = None }) (record {
-          own = λ u y acts exists own. (after_step T s next.well_formed next.follows u y exists own).send (sent T (len T)) (makes_message (appended T s) (len T) u (sent T (len T)) s (here T s) kind acts (sym (sent_here T s)));
+          own = λ u y acts exists own. (after_step T s next.well_formed next.follows u y exists own).send (sent T (len T)) (sends_there (appended T s) (len T) u (sent T (len T)) s (here T s) kind acts (sym (sent_here T s)));
           newborn = not_new s kind;
-          letter = (kind, record { whole = x.whole; is_whole = step.message (sent T (len T)) (makes_message (appended T s) (len T) t (sent T (len T)) s (here T s) kind by (sym (sent_here T s))); is = same ∙ x.is });
+          letter = (kind, record { whole = x.whole; is_whole = step.message (sent T (len T)) (sends_there (appended T s) (len T) t (sent T (len T)) s (here T s) kind by (sym (sent_here T s))); is = same ∙ x.is });
           gone = sym (send_keeps s kind);
         }))
 

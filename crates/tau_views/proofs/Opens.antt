@@ -7,7 +7,7 @@ use Rattle.tau_view.specs.Held.{Held}
 use Rattle.tau_view.specs.Rules.{nothing, noted}
 use Rattle.tau_view.specs.Trim.{EdgeTest, RootTest, trim}
 use Rattle.tau_trace.specs.declared.opening.Opening.{Opening}
-use Rattle.tau_trace.specs.Steps.{is_new, is_send}
+use Rattle.tau_trace.specs.Steps.{is_new, makes_message}
 use Rattle.tau_trace.specs.Run.{Run, step_at, starts}
 use Rattle.tau_trace.specs.Numbering.{sent}
 use Rattle.tau_trace.specs.Known.{IsSound, WellFormed}
@@ -64,4 +64,4 @@ module _ (de : EdgeTest) (dr : RootTest) where
     gone = λ m l not. absurd (not (record { exists = l; not_removed = λ j b. absurd (omega arith) }));
   } where
     sent_first : length letters ≡ sent (opened o) 0
-    sent_first = omega (arith, posting.posts, count-zero (λ j. option_map_or is_send (step_at (opened o) j) false))
+    sent_first = omega (arith, posting.posts, count-zero (λ j. option_map_or makes_message (step_at (opened o) j) false))

@@ -13,7 +13,7 @@ use Rattle.tau_trace.specs.declared.step.Step.TheVariants.{Take, Get, Set, Send,
 use Rattle.tau_trace.specs.Steps.{actor, ends_turn, is_take, is_new, is_send, is_checkpoint}
 use Rattle.tau_trace.specs.Run.{Run, step_at, Does}
 use Rattle.tau_trace.specs.Places.{count_below}
-use Rattle.tau_trace.specs.Numbering.{InFlight, post}
+use Rattle.tau_trace.specs.Numbering.{direct, InFlight, post}
 use Rattle.tau_trace.specs.Histories.{history, Closes}
 use Rattle.tau_trace.specs.Points.{point_at}
 use Rattle.tau_trace.specs.Turns.{Turn}
@@ -123,7 +123,7 @@ at_own_point (suc (suc (suc j))) le = absurd (omega arith)
 set_carries : (t : ℕ) (q : Point) → t ≡ 0 → Pending cell_run t 2 q → q ≡ own_point
 unfolding count_below
 set_carries t q e (touched {j = j} u a b d at) = at ∙ ap (λ x. point_at cell_run x j) e ∙ at_own_point j (omega arith)
-set_carries t q e (came {j = j} {by = by} u o p) =
+set_carries t q e (came {j = j} {by = by} u (direct o) p) =
     absurd (clash true refl (no_step is_send cell_run 5 refl j (Send by o.to o.value) (slice_get_within cell_run.steps j (Send by o.to o.value) o.stands) o.stands))
 
 -- the one Checkpoint is at place 4

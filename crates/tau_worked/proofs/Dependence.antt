@@ -6,7 +6,7 @@ use Rattle.tau_trace.specs.declared.step.Step.{Step}
 use Rattle.tau_trace.specs.declared.step.Step.TheVariants.{Take, Get, Set, Send, Stabilize, Done}
 use Rattle.tau_trace.specs.Steps.{ends_turn, is_take}
 use Rattle.tau_trace.specs.Run.{Run, Does}
-use Rattle.tau_trace.specs.Numbering.{sent, IsOrigin}
+use Rattle.tau_trace.specs.Numbering.{sent, IsOrigin, direct}
 use Rattle.tau_trace.specs.Points.{point_at}
 use Rattle.tau_trace.specs.Turns.{Turn}
 use Rattle.tau_past.specs.Carried.{touches, is_set, touched, came, Carried, by_set}
@@ -57,7 +57,7 @@ carries o m rest made at_source = record { by = 1; acts = refl; pending = came s
   short = record { before = omega arith; takes = refl; goes_on = λ j a b d. absurd (omega arith) }
 
   sends : IsOrigin T 3 0 m
-  sends = record { to = 1; value = seven; stands = refl; made = made }
+  sends = direct (record { to = 1; value = seven; stands = refl; made = made })
 
   sets : Does touches T 0 1
   sets = record { step = Set 0 seven; stands = refl; by = refl; passes = refl }

@@ -11,7 +11,7 @@ use Rattle.tau_trace.specs.declared.step.Step.TheVariants.{Take, Drop, Fall, Set
 use Rattle.tau_trace.specs.Steps.{actor, removed_by, ends_turn, is_take, is_new, is_checkpoint}
 use Rattle.tau_trace.specs.Run.{step_at, Does}
 use Rattle.tau_trace.specs.Places.{count_below}
-use Rattle.tau_trace.specs.Numbering.{IsOrigin, InFlight, message, Removes}
+use Rattle.tau_trace.specs.Numbering.{IsSent, direct, InFlight, message, Removes}
 use Rattle.tau_trace.specs.Histories.{history, is_by, Falls}
 use Rattle.tau_trace.specs.Points.{point_at}
 use Rattle.tau_trace.specs.Turns.{Turn, IsOpenTurn}
@@ -42,15 +42,15 @@ source_turn k lt le = record { before = lt; takes = refl; goes_on = goes } where
   goes j a b d = clash (changes_turn d.step) d.passes (no_step_from changes_turn dropping_run 1 3 refl j d.step (omega arith) (omega arith) d.stands)
 
 -- messages 2, 3 and 4
-first_sent : IsOrigin dropping_run 2 0 2
+first_sent : IsSent dropping_run 2 0 2
 unfolding count_below
 first_sent = record { to = 1; value = one; stands = refl; made = refl }
 
-second_sent : IsOrigin dropping_run 3 0 3
+second_sent : IsSent dropping_run 3 0 3
 unfolding count_below
 second_sent = record { to = 1; value = one; stands = refl; made = refl }
 
-third_sent : IsOrigin dropping_run 9 0 4
+third_sent : IsSent dropping_run 9 0 4
 unfolding count_below
 third_sent = record { to = 1; value = two; stands = refl; made = refl }
 
@@ -63,14 +63,14 @@ unfolding history
 source_pending k lt le = touched {j = 1} (source_turn k (omega arith) le) (omega arith) lt (record { step = Set 0 one; stands = refl; by = refl; passes = refl }) refl
 
 second_carries : SentWith dropping_run 3 source_point
-second_carries = record { place = 3; by = 0; origin = second_sent; carried = record { by = 0; acts = refl; pending = source_pending 3 (omega arith) (omega arith) } }
+second_carries = record { place = 3; by = 0; origin = direct second_sent; carried = record { by = 0; acts = refl; pending = source_pending 3 (omega arith) (omega arith) } }
 
 -- by its Set at place 6 the sink's point takes the source's
 sink_takes : (H : ℕ → Type 0) → H 6 → PastIn dropping_run H (Is (point_at dropping_run 1 11)) source_point
 unfolding history
 sink_takes H held =
     reach.next (reach.start refl) (takes {j = 6} held (by_set {t = 1} (record { step = Set 1 one; stands = refl; by = refl; passes = refl }) refl
-    (record { by = 1; acts = refl; pending = came sink_turn first_sent (source_pending 2 (omega arith) (omega arith)) }) (λ e. omega (arith, ap (λ p. p.who) e))))
+    (record { by = 1; acts = refl; pending = came sink_turn (direct first_sent) (source_pending 2 (omega arith) (omega arith)) }) (λ e. omega (arith, ap (λ p. p.who) e))))
 
 -- who has heard of the third message's Send has heard of the rollback
 rollback_falls : Falls dropping_run 0 4
@@ -91,7 +91,7 @@ falls_by : FallsBy dropping_run 1 11 4
 falls_by = record {
   cause = source_point;
   in_past = sink_takes (HeardTogether dropping_run 1 11 4) (inl (reach.start (own_step refl (omega arith))));
-  fallen = fallen (HeardTogether dropping_run 1 11 4) (inr (reach.next (reach.start (record { by = 0; origin = third_sent })) sent_after));
+  fallen = fallen (HeardTogether dropping_run 1 11 4) (inr (reach.next (reach.start (record { by = 0; origin = direct third_sent })) sent_after));
 }
 
 sink_falls : Own dropping_run 1 12 11
@@ -101,7 +101,7 @@ drops_by : DropsBy dropping_run 1 12 3
 drops_by = record {
   cause = source_point;
   in_past = reach.start second_carries;
-  fallen = fallen (HeardTogether dropping_run 1 12 3) (inl (reach.next (reach.next (reach.start sink_falls) (told refl third_sent)) sent_after));
+  fallen = fallen (HeardTogether dropping_run 1 12 3) (inl (reach.next (reach.next (reach.start sink_falls) (told refl (direct third_sent))) sent_after));
 }
 
 -- a message that no step took

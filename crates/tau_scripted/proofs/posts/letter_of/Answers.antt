@@ -3,13 +3,19 @@ use Rattle.std.specs.Option.{IsSome}
 use Rattle.tau_trace.specs.Run.{Run, len}
 use Rattle.tau_trace.specs.Numbering.{born}
 use Rattle.tau_rules.proofs.DeliverLemmas.{receiver_exists}
-use Rattle.tau_scripted.proofs.Receivers.{home_below}
+use Rattle.tau_scripted.proofs.Receivers.{each_received, home_below}
 use Rattle.tau_scripted.proofs.posts.letter_of.Goals as goal
+
+pub unreachable-requires : goal.unreachable-requires
+unreachable-requires c =
+    let T : Run = c.args.trace.now.run in
+    let received = each_received T (len T) c.args.message c.requires in
+    absurd (c.in_default.ensures received.0 received.1)
 
 pub unreachable-requires-in_default-home : goal.unreachable-requires-in_default-home
 unreachable-requires-in_default-home c =
     let T : Run = c.args.trace.now.run in
-    let exists : c.in-Some.who < born T (len T) = receiver_exists T c.len-len.ensures.well_formed c.args.message c.in-Some.who c.requires c.in-Some.ensures.target in
+    let exists : c.in-Some.who < born T (len T) = receiver_exists T c.len-len.ensures.well_formed c.args.message c.in-Some.who c.requires c.in-Some.ensures in
     let some : false ≡ true = subst IsSome c.in_default-home.is (c.home.ensures.exists.1 exists) in
     cc
 

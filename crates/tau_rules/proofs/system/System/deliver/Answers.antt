@@ -19,7 +19,7 @@ returns-in-Some-open_turn-clause-err g c =
     let there : c.args.message < sent T (len T) = subst (λ (k : Core). c.args.message < sent k.run (len k.run)) (sym c.self.view_is) c.requires.exists in
     let in_flight : InFlight T c.args.message (len T) = record { exists = there; not_removed = c.in_default.ensures } in
     subst (λ (k : Core). (x : ℕ) × Receives k.run c.args.message x × IsOpenTurn k.run x (len k.run) (Some c.in-Some-open_turn.turn) × InFlight k.run c.args.message (len k.run)) c.self.view_is
-    (c.in-Some-target.who, c.in-Some-target.ensures.target, c.in-Some-open_turn.ensures, in_flight)
+    (c.in-Some-target.who, c.in-Some-target.ensures, c.in-Some-open_turn.ensures, in_flight)
 
 pub append-requires-clause-known : goal.append-requires-clause-known
 append-requires-clause-known g c =
@@ -27,14 +27,14 @@ append-requires-clause-known g c =
     let there : c.args.message < sent T (len T) = subst (λ (k : Core). c.args.message < sent k.run (len k.run)) (sym c.self.view_is) c.requires.exists in
     let few : len T < 1000000 = subst (λ (k : Core). len k.run < 1000000) (sym c.self.view_is) c.requires.few in
     subst (λ (k : Core). MayFollow k.run (Void c.in-Some-target.who c.args.message)) c.self.view_is
-    (record { known = known_pair T c.self.invariant.0.well_formed c.args.message c.in-Some-target.who there c.in-Some-target.ensures.target; few_steps = few })
+    (record { known = known_pair T c.self.invariant.0.well_formed c.args.message c.in-Some-target.who there c.in-Some-target.ensures; few_steps = few })
 
 pub append-requires-clause-fits : goal.append-requires-clause-fits
 append-requires-clause-fits g c =
     let T : Run = c.self.inside.trace.run in
     let there : c.args.message < sent T (len T) = subst (λ (k : Core). c.args.message < sent k.run (len k.run)) (sym c.self.view_is) c.requires.exists in
     subst (λ (k : Core). ArrivesLate k.run c.in-Some-target.who c.args.message (len k.run)) c.self.view_is
-    (arrives_late T c.in-Some-target.who c.args.message c.end_of.result there c.in_default.ensures c.in-Some-target.ensures.target c.if-is_some.ensures c.end_of.ensures)
+    (arrives_late T c.in-Some-target.who c.args.message c.end_of.result there c.in_default.ensures c.in-Some-target.ensures c.if-is_some.ensures c.end_of.ensures)
 
 pub verdict-requires-clause-rules : goal.verdict-requires-clause-rules
 verdict-requires-clause-rules g c = keeps_rules c.self.inside.program.now c.self.inside.trace.run c.self.invariant.0.fitting
@@ -43,14 +43,14 @@ pub verdict-requires-clause-exists : goal.verdict-requires-clause-exists
 verdict-requires-clause-exists g c =
     let T : Run = c.self.inside.trace.run in
     let there : c.args.message < sent T (len T) = subst (λ (k : Core). c.args.message < sent k.run (len k.run)) (sym c.self.view_is) c.requires.exists in
-    receiver_exists T c.self.invariant.0.well_formed c.args.message c.in-Some-target.who there c.in-Some-target.ensures.target
+    receiver_exists T c.self.invariant.0.well_formed c.args.message c.in-Some-target.who there c.in-Some-target.ensures
 
 pub begin_turn-requires-clause-arrives : goal.begin_turn-requires-clause-arrives
 begin_turn-requires-clause-arrives g c =
     let T : Run = c.self.inside.trace.run in
     let there : c.args.message < sent T (len T) = subst (λ (k : Core). c.args.message < sent k.run (len k.run)) (sym c.self.view_is) c.requires.exists in
     subst (λ (k : Core). Arrives k.run c.in-Some-target.who c.args.message (len k.run)) c.self.view_is
-    (arrives T c.in-Some-target.who c.args.message c.end_of.result there c.in_default.ensures c.in-Some-target.ensures.target c.if-is_some.ensures c.end_of.ensures c.in_default-open_turn.ensures)
+    (arrives T c.in-Some-target.who c.args.message c.end_of.result there c.in_default.ensures c.in-Some-target.ensures c.if-is_some.ensures c.end_of.ensures c.in_default-open_turn.ensures)
 
 pub append-requires-in-Drop-clause-known : goal.append-requires-in-Drop-clause-known
 append-requires-in-Drop-clause-known g c =
@@ -58,7 +58,7 @@ append-requires-in-Drop-clause-known g c =
     let there : c.args.message < sent T (len T) = subst (λ (k : Core). c.args.message < sent k.run (len k.run)) (sym c.self.view_is) c.requires.exists in
     let few : len T < 1000000 = subst (λ (k : Core). len k.run < 1000000) (sym c.self.view_is) c.requires.few in
     subst (λ (k : Core). MayFollow k.run (Drop c.in-Some-target.who c.args.message)) c.self.view_is
-    (record { known = known_pair T c.self.invariant.0.well_formed c.args.message c.in-Some-target.who there c.in-Some-target.ensures.target; few_steps = few })
+    (record { known = known_pair T c.self.invariant.0.well_formed c.args.message c.in-Some-target.who there c.in-Some-target.ensures; few_steps = few })
 
 pub append-requires-in-Drop-clause-fits : goal.append-requires-in-Drop-clause-fits
 append-requires-in-Drop-clause-fits g c =
@@ -68,7 +68,7 @@ append-requires-in-Drop-clause-fits g c =
     let there : m < sent T (len T) = subst (λ (k : Core). m < sent k.run (len k.run)) (sym c.self.view_is) c.requires.exists in
     let verdict : Verdict T who (len T) m drops = subst (λ (v : fates.Verdict). Verdict T who (len T) m (judged v)) c.in-Drop.is c.in_ok-verdict.ensures.verdict in
     subst (λ (k : Core). Arrives k.run who m (len k.run) × Verdict k.run who (len k.run) m drops) c.self.view_is
-    (arrives T who m c.end_of.result there c.in_default.ensures c.in-Some-target.ensures.target c.if-is_some.ensures c.end_of.ensures c.in_default-open_turn.ensures, verdict)
+    (arrives T who m c.end_of.result there c.in_default.ensures c.in-Some-target.ensures c.if-is_some.ensures c.end_of.ensures c.in_default-open_turn.ensures, verdict)
 
 pub append-requires-in-Fall-clause-known : goal.append-requires-in-Fall-clause-known
 append-requires-in-Fall-clause-known g c =
@@ -76,7 +76,7 @@ append-requires-in-Fall-clause-known g c =
     let there : c.args.message < sent T (len T) = subst (λ (k : Core). c.args.message < sent k.run (len k.run)) (sym c.self.view_is) c.requires.exists in
     let few : len T < 1000000 = subst (λ (k : Core). len k.run < 1000000) (sym c.self.view_is) c.requires.few in
     subst (λ (k : Core). MayFollow k.run (Fall c.in-Some-target.who c.args.message)) c.self.view_is
-    (record { known = known_pair T c.self.invariant.0.well_formed c.args.message c.in-Some-target.who there c.in-Some-target.ensures.target; few_steps = few })
+    (record { known = known_pair T c.self.invariant.0.well_formed c.args.message c.in-Some-target.who there c.in-Some-target.ensures; few_steps = few })
 
 pub append-requires-in-Fall-clause-fits : goal.append-requires-in-Fall-clause-fits
 append-requires-in-Fall-clause-fits g c =
@@ -86,4 +86,4 @@ append-requires-in-Fall-clause-fits g c =
     let there : m < sent T (len T) = subst (λ (k : Core). m < sent k.run (len k.run)) (sym c.self.view_is) c.requires.exists in
     let verdict : Verdict T who (len T) m falls = subst (λ (v : fates.Verdict). Verdict T who (len T) m (judged v)) c.in-Fall.is c.in_ok-verdict.ensures.verdict in
     subst (λ (k : Core). Arrives k.run who m (len k.run) × Verdict k.run who (len k.run) m falls) c.self.view_is
-    (arrives T who m c.end_of.result there c.in_default.ensures c.in-Some-target.ensures.target c.if-is_some.ensures c.end_of.ensures c.in_default-open_turn.ensures, verdict)
+    (arrives T who m c.end_of.result there c.in_default.ensures c.in-Some-target.ensures c.if-is_some.ensures c.end_of.ensures c.in_default-open_turn.ensures, verdict)
