@@ -5,3 +5,4 @@ pub mod ValueLemmas
 pub mod StateLemmas
 pub mod TurnLemmas
 pub mod EndLemmas
+pub mod ReceiverLemmas

@@ -3,3 +3,4 @@ pub mod Fits
 pub mod Traces
 pub mod Laws
 pub mod RuleLaws
+pub mod Receivers

@@ -10,4 +10,4 @@ pub use laws::{
     fitting_traces_are_safe, fitting_traces_grow, legal_traces_are_safe, legal_traces_grow,
     legality_is_local,
 };
-pub use rules::fitting_traces_keep_the_rules;
+pub use rules::{fitting_traces_keep_the_rules, messages_have_receivers};

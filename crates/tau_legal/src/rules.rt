@@ -1,5 +1,6 @@
 //! What every fitting trace keeps.
 ghost use Rattle.tau_legal.specs.RuleLaws.{FittingTracesKeepTheRules};
+ghost use Rattle.tau_legal.specs.Receivers.{MessagesHaveReceivers};
 
 /// Whatever the program, a trace in which every step fits keeps the facts from which it is safe, and from which the views of
 /// what was heard are settled: a Rollback and a Set are made by a volatile transactor alone, a Fall has a cause that was heard
@@ -7,4 +8,10 @@ ghost use Rattle.tau_legal.specs.RuleLaws.{FittingTracesKeepTheRules};
 #[tactic(auto, using(crate::proofs::SafetyLemmas::keeps_rules))]
 pub fn fitting_traces_keep_the_rules()
     ensures { FittingTracesKeepTheRules }
+{}
+
+/// Whatever the program, each message of a trace in which every step fits has a receiver (docs/definitions.md, "Receiver").
+#[tactic(auto, using(crate::proofs::ReceiverLemmas::receivers_of_fitting))]
+pub fn messages_have_receivers()
+    ensures { MessagesHaveReceivers }
 {}

@@ -30,7 +30,7 @@ impl<'p, V: View + Drop> System<'p, V> {
             return Err(DeliverError::NotInFlight { ended_by });
         }
         let Some(who) = self.trace.target(message) else {
-            return Err(DeliverError::NoMemory);
+            unreachable!()
         };
         if let Some(turn) = self.trace.open_turn(who) {
             return Err(DeliverError::Busy { turn });

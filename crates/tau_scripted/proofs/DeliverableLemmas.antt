@@ -17,7 +17,7 @@ use Rattle.tau_rules.proofs.DeliverLemmas.{receiver_exists}
 use Rattle.tau_scripted.specs.Flight.{IsWaiting, AreInFlight, IsDeliverable, AreDeliverable}
 use Rattle.tau_scripted.specs.ScriptedRun.{messages_of}
 use Rattle.tau_scripted.proofs.Members.{contains_here, contains_there, contains_filter, filter_contains, contains_map, map_contains}
-use Rattle.tau_scripted.proofs.Receivers.{each_homed}
+use Rattle.tau_scripted.proofs.Homes.{each_homed}
 use Rattle.tau_scripted.proofs.OpenLemmas.{AreBusy}
 
 -- being in a list, as a test

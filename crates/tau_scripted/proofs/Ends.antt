@@ -24,7 +24,8 @@ use Rattle.tau_scripted.specs.Flight.{AreInFlight}
 use Rattle.tau_scripted.specs.ScriptedRun.{IsScripted}
 use Rattle.tau_scripted.proofs.Members.{contains_nothing, contains_here}
 use Rattle.tau_scripted.proofs.OpenLemmas.{AreBusy}
-use Rattle.tau_scripted.proofs.Receivers.{each_received, each_homed}
+use Rattle.tau_legal.proofs.ReceiverLemmas.{each_received}
+use Rattle.tau_scripted.proofs.Homes.{each_homed}
 
 -- without open turns and letters nothing is left
 pub nothing_left : (T : Run) (ls : List Letter) (turns : List ℕ) → WellFormed T → AreInFlight T ls → AreOpenTurns T turns → turns ≡ [] → ls ≡ [] → NothingLeft T

@@ -1,7 +1,7 @@
 pub mod Members
 pub mod FlightLemmas
 pub mod OpenLemmas
-pub mod Receivers
+pub mod Homes
 pub mod DeliverableLemmas
 pub mod Ends
 pub mod Steps

@@ -3,7 +3,8 @@ use Rattle.std.specs.Option.{IsSome}
 use Rattle.tau_trace.specs.Run.{Run, len}
 use Rattle.tau_trace.specs.Numbering.{born}
 use Rattle.tau_rules.proofs.DeliverLemmas.{receiver_exists}
-use Rattle.tau_scripted.proofs.Receivers.{each_received, home_below}
+use Rattle.tau_legal.proofs.ReceiverLemmas.{each_received}
+use Rattle.tau_scripted.proofs.Homes.{home_below}
 use Rattle.tau_scripted.proofs.posts.letter_of.Goals as goal
 
 pub unreachable-requires : goal.unreachable-requires

@@ -7,7 +7,7 @@ use Rattle.tau_trace.specs.Known.{WellFormed}
 use Rattle.tau_trace.specs.Numbering.{born, IsHome}
 use Rattle.tau_trace.proofs.Lists.{same_some}
 use Rattle.tau_scripted.specs.Inner.Index.{receiver_of, IsNodeOf}
-use Rattle.tau_scripted.proofs.Receivers.{home_below}
+use Rattle.tau_scripted.proofs.Homes.{home_below}
 use Rattle.tau_scripted.proofs.turns.node_of.Goals as goal
 
 -- the node of the receiver, where there is such a transactor

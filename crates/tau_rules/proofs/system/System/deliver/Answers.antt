@@ -9,9 +9,17 @@ use Rattle.tau_past.specs.Decisions.{drops, falls, Verdict}
 use Rattle.tau_judgement.specs.Laws.{judged}
 use Rattle.tau_legal.specs.Fits.{Arrives, ArrivesLate}
 use Rattle.tau_legal.proofs.SafetyLemmas.{keeps_rules}
+use Rattle.tau_legal.proofs.ReceiverLemmas.{receivers_of_fitting}
 use Rattle.tau_rules.specs.System.{Core}
 use Rattle.tau_rules.proofs.DeliverLemmas.{arrives, arrives_late, receiver_exists, known_pair}
 use Rattle.tau_rules.proofs.system.System.deliver.Goals as goal
+
+pub unreachable-requires : goal.unreachable-requires
+unreachable-requires g c =
+    let T : Run = c.self.inside.trace.run in
+    let there : c.args.message < sent T (len T) = subst (λ (k : Core). c.args.message < sent k.run (len k.run)) (sym c.self.view_is) c.requires.exists in
+    let received = receivers_of_fitting c.self.inside.program.now T c.args.message c.self.invariant.0.fitting there in
+    absurd (c.in_default-target.ensures received.0 received.1)
 
 pub returns-in-Some-open_turn-clause-err : goal.returns-in-Some-open_turn-clause-err
 returns-in-Some-open_turn-clause-err g c =
