@@ -18,7 +18,7 @@ use Rattle.tau_scripted.specs.OpenTurns.{AreOpenTurns}
 use Rattle.tau_scripted.specs.Flight.{AreDeliverable}
 use Rattle.tau_scripted.specs.ScriptedRun.{ScriptedRun}
 use Rattle.tau_scripted.proofs.Members.{contains_nothing}
-use Rattle.tau_scripted.proofs.Receivers.{each_received, at_place}
+use Rattle.tau_legal.proofs.ReceiverLemmas.{each_received, at_place}
 use Rattle.tau_book.specs.Hands.{Held, IsNumbered}
 use Rattle.tau_book.specs.Books.{booked, GoesOn}
 use Rattle.tau_book.specs.Offers.{Offer, jobs_with, store_without, options, number_drawn, generator_after}

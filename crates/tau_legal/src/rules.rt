@@ -10,7 +10,7 @@ pub fn fitting_traces_keep_the_rules()
     ensures { FittingTracesKeepTheRules }
 {}
 
-/// Whatever the program, each message of a trace in which every step fits has a receiver (docs/definitions.md, "Receiver").
+/// Whatever the program, each message of a trace in which every step fits has a receiver (docs/rules.md, "Numbers").
 #[tactic(auto, using(crate::proofs::ReceiverLemmas::receivers_of_fitting))]
 pub fn messages_have_receivers()
     ensures { MessagesHaveReceivers }
