@@ -1,0 +1,4 @@
+pub mod Laws
+pub mod Takes
+pub mod Told
+pub mod Versions
