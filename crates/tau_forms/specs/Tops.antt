@@ -3,6 +3,7 @@ use Rattle.std.specs.Prelude.{ℕ, ◌+◌, ◌&&◌, Bool, true, false, nat_le,
 use Rattle.std.specs.Option.{option_or, option_map_or}
 use Rattle.std.specs.List.{list_any}
 use Rattle.std.specs.Str.{bytes_eq}
+use Rattle.tau_value.specs.declared.limits.TheConstants.{NODE_LIMIT, BEHAVIOUR_LIMIT, START_LIMIT, POST_LIMIT, ENTRY_LIMIT}
 use Rattle.tau_sexpr.specs.Tree.{Tree, word, text, list, none, more}
 use Rattle.tau_value.specs.Names.{is_name}
 use Rattle.tau_value.specs.Numbers.{count_in}
@@ -81,7 +82,7 @@ nodes_of (t ∷ ts) = option_or (nodes_in t) (nodes_of ts)
 
 -- what a program's forms define; 64 nodes where no number of nodes stands there
 abbrev pub tables_of : List Tree → Tables
-tables_of ts = record { behaviours = behaviours_of ts; starts = starts_of ts; nodes = unwrap_or (nodes_of ts) 64 }
+tables_of ts = record { behaviours = behaviours_of ts; starts = starts_of ts; nodes = unwrap_or (nodes_of ts) NODE_LIMIT }
 
 -- how many lists of one sort there are
 abbrev pub count_of : (Sort → Bool) → List Tree → ℕ
@@ -90,8 +91,8 @@ count_of is ts = length (filter (λ t. is (sort_of t)) ts)
 -- the least number of a sort of which there are too many: 1 of behaviours, 2 of starts, 3 of posts, 4 of script entries
 abbrev pub limit_of : List Tree → Option ℕ
 limit_of ts =
-    if nat_lt 256 (count_of is_behaviour ts) then Some 1
-    else (if nat_lt 1024 (count_of is_start ts) then Some 2
-    else (if nat_lt 4096 (count_of is_post ts) then Some 3
-    else (if nat_lt 4096 (count_of is_entry ts) then Some 4
+    if nat_lt BEHAVIOUR_LIMIT (count_of is_behaviour ts) then Some 1
+    else (if nat_lt START_LIMIT (count_of is_start ts) then Some 2
+    else (if nat_lt POST_LIMIT (count_of is_post ts) then Some 3
+    else (if nat_lt ENTRY_LIMIT (count_of is_entry ts) then Some 4
     else None)))

@@ -19,7 +19,7 @@ use crate::tables::Tables;
 use crate::wanted::{FaultKind, Wanted, fault_of_text, fault_of_word};
 use std::alloc::Global;
 use tau_sexpr::{Form, Forms};
-use tau_value::{Names, ValueError, value_of};
+use tau_value::{Names, START_LIMIT, ValueError, value_of};
 
 // Passes a single node, unless it has a fault; after it `node` is the next.
 fn pass(fault: Option<FaultKind>, node: &mut u64) -> Result<(), ProgramError>
@@ -40,7 +40,7 @@ fn check_value(
     starts: &Names,
     node: &mut u64,
 ) -> Result<(), ProgramError>
-    requires few { length starts.now ≤ 1024 }
+    requires few { length starts.now ≤ START_LIMIT }
     requires range { node.old + size_of (tree_of form.now) < 2 ^ 64 }
     ensures { (tb : Tables) → tb.starts ≡ starts.now
         → Passes (FaultAt tb value (tree_of form.now)) (size_of (tree_of form.now)) node.old node.new result }
@@ -130,7 +130,7 @@ pub(crate) fn check(
     tables: &Tables,
     node: &mut u64,
 ) -> Result<(), ProgramError>
-    requires few { length tables.now.starts ≤ 1024 }
+    requires few { length tables.now.starts ≤ START_LIMIT }
     requires range { node.old + size_of (tree_of form.now) < 2 ^ 64 }
     ensures { Passes (FaultAt tables.now (role_of wanted.entry) (tree_of form.now)) (size_of (tree_of form.now)) node.old node.new result }
 {
@@ -153,7 +153,7 @@ fn check_list(
     tables: &Tables,
     node: &mut u64,
 ) -> Result<(), ProgramError>
-    requires few { length tables.now.starts ≤ 1024 }
+    requires few { length tables.now.starts ≤ START_LIMIT }
     requires other { role_of wanted ≢ value }
     requires range { node.old + 1 + size_of_all (inside list.now) < 2 ^ 64 }
     ensures { Passes (FaultAt tables.now (role_of wanted.entry) (list_tree (inside list.now))) (1 + size_of_all (inside list.now)) node.old node.new result }
@@ -179,7 +179,7 @@ fn check_expression(
     tables: &Tables,
     node: &mut u64,
 ) -> Result<(), ProgramError>
-    requires few { length tables.now.starts ≤ 1024 }
+    requires few { length tables.now.starts ≤ START_LIMIT }
     requires range { node.old + 1 + size_of_all (inside (map tree_of items.now)) < 2 ^ 64 }
     ensures { Passes (FaultAt tables.now (expression (names_of scope.now)) (list_tree (inside (map tree_of items.now)))) (1 + size_of_all (inside (map tree_of items.now))) node.old node.new result }
 {
@@ -203,7 +203,7 @@ pub(crate) fn check_items(
     tables: &Tables,
     node: &mut u64,
 ) -> Result<(), ProgramError>
-    requires few { length tables.now.starts ≤ 1024 }
+    requires few { length tables.now.starts ≤ START_LIMIT }
     requires range { node.old + 1 + size_of_all (inside (map tree_of items.now)) < 2 ^ 64 }
     ensures { (r : Role) → r ≢ value → IsRow tables.now r (inside (map tree_of items.now)) found.entry
         → Passes (FaultAt tables.now r (list_tree (inside (map tree_of items.now)))) (1 + size_of_all (inside (map tree_of items.now))) node.old node.new result }

@@ -6,6 +6,7 @@ ghost use Rattle.tau_forms.specs.Tops.{is_behaviour, is_start, is_post, is_entry
 use crate::keywords::Sort;
 use crate::tables::sort_of_form;
 use tau_sexpr::Form;
+use tau_value::{BEHAVIOUR_LIMIT, ENTRY_LIMIT, POST_LIMIT, START_LIMIT};
 
 /// The least number of a kind of which there are too many lists: 1 of behaviours, 2 of starts, 3 of posts, 4 of script
 /// entries (docs/limits.md).
@@ -13,16 +14,16 @@ pub(crate) fn limit_of(forms: &[Form]) -> Option<u8>
     ensures { result ≡ limit_in (map tree_of forms.now) }
 {
     let counts = counts_of(forms);
-    if counts.behaviours > 256 {
+    if counts.behaviours > BEHAVIOUR_LIMIT {
         return Some(1);
     }
-    if counts.starts > 1024 {
+    if counts.starts > START_LIMIT {
         return Some(2);
     }
-    if counts.posts > 4096 {
+    if counts.posts > POST_LIMIT {
         return Some(3);
     }
-    if counts.entries > 4096 {
+    if counts.entries > ENTRY_LIMIT {
         return Some(4);
     }
     None

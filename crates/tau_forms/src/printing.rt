@@ -12,7 +12,7 @@ ghost use Rattle.tau_forms.specs.Meaning.{Means};
 ghost use Rattle.tau_forms.specs.Printed.{printed, behaviour_form, start_form, post_form, failure_form, entry_form};
 
 use crate::tables::Tables;
-use crate::writing::{add, add_count, add_name, begin, write_expression};
+use crate::writing::{add_count, add_name, begin, write_expression};
 use std::alloc::{AllocError, Global};
 use tau_sexpr::{Form, Forms};
 use tau_tree::{Behaviour, Entry, Failure, Post, Program, Start};
@@ -51,7 +51,7 @@ fn forms_with(alloc: Global, program: &Program, tables: &Tables) -> Result<Forms
     ensures fitting { OnOk result (IsFitting program.now) }
 {
     let mut forms = Forms::new(alloc);
-    add(&mut forms, form_of_nodes(alloc, program.nodes)?)?;
+    forms.add(form_of_nodes(alloc, program.nodes)?)?;
     add_behaviours(alloc, &mut forms, program.behaviours.items(), tables)?;
     add_starts(alloc, &mut forms, program.starts.items(), tables)?;
     add_posts(alloc, &mut forms, program.posts.items(), &tables.starts)?;
@@ -102,7 +102,7 @@ fn add_behaviours(
     ensures integers { OnOk result (All (λ b. Throughout HasFittingInteger b.body) behaviours.now) }
 {
     for behaviour in behaviours {
-        add(forms, form_of_behaviour(alloc, behaviour, tables)?)?;
+        forms.add(form_of_behaviour(alloc, behaviour, tables)?)?;
     }
     Ok(())
 }
@@ -117,11 +117,8 @@ fn form_of_behaviour(
     ensures integers { OnOk result (Throughout HasFittingInteger behaviour.now.body) }
 {
     let mut forms = begin(alloc, b"behaviour")?;
-    add(&mut forms, Form::Word(behaviour.name.copy()?))?;
-    add(
-        &mut forms,
-        write_expression(alloc, &behaviour.body, tables)?,
-    )?;
+    forms.add(Form::Word(behaviour.name.copy()?))?;
+    forms.add(write_expression(alloc, &behaviour.body, tables)?)?;
     Ok(Form::List(forms))
 }
 
@@ -136,7 +133,7 @@ fn add_starts(
     ensures states { OnOk result (All (λ s. IsWritten tables.now.starts (val_of s.state)) starts.now) }
 {
     for start in starts {
-        add(forms, form_of_start(alloc, start, tables)?)?;
+        forms.add(form_of_start(alloc, start, tables)?)?;
     }
     Ok(())
 }
@@ -148,7 +145,7 @@ fn form_of_start(alloc: Global, start: &Start, tables: &Tables) -> Result<Form, 
     ensures state { OnOk result (IsWritten tables.now.starts (val_of start.now.state)) }
 {
     let mut forms = begin(alloc, b"start")?;
-    add(&mut forms, Form::Word(start.name.copy()?))?;
+    forms.add(Form::Word(start.name.copy()?))?;
     add_name(alloc, &mut forms, &tables.behaviours, start.behaviour)?;
     add_count(alloc, &mut forms, start.node)?;
     add_value(alloc, &mut forms, &start.state, &tables.starts)?;
@@ -166,7 +163,7 @@ fn add_posts(
     ensures values { OnOk result (All (λ q. IsWritten starts.now (val_of q.value)) posts.now) }
 {
     for post in posts {
-        add(forms, form_of_post(alloc, post, starts)?)?;
+        forms.add(form_of_post(alloc, post, starts)?)?;
     }
     Ok(())
 }
@@ -193,7 +190,7 @@ fn add_value(
     ensures forms { OnOk result (forms.new ≡ forms.old ++ written starts.now (val_of value.now) ∷ []) }
     ensures value { OnOk result (IsWritten starts.now (val_of value.now)) }
 {
-    add(forms, form_of(alloc, value, starts)?)
+    forms.add(form_of(alloc, value, starts)?)
 }
 
 fn add_entries(alloc: Global, forms: &mut Forms, entries: &[Entry]) -> Result<(), AllocError>
@@ -201,7 +198,7 @@ fn add_entries(alloc: Global, forms: &mut Forms, entries: &[Entry]) -> Result<()
     ensures numbers { OnOk result (All HasFittingNumbers entries.now) }
 {
     for entry in entries {
-        add(forms, form_of_entry(alloc, *entry)?)?;
+        forms.add(form_of_entry(alloc, *entry)?)?;
     }
     Ok(())
 }
@@ -213,7 +210,7 @@ fn form_of_entry(alloc: Global, entry: Entry) -> Result<Form, AllocError>
 {
     let mut forms = begin(alloc, b"at")?;
     add_count(alloc, &mut forms, entry.at)?;
-    add(&mut forms, form_of_failure(alloc, entry.failure)?)?;
+    forms.add(form_of_failure(alloc, entry.failure)?)?;
     Ok(Form::List(forms))
 }
 

@@ -19,7 +19,7 @@ use tau_sexpr::{Form, Word};
 use tau_tree::{
     Behaviour, Behaviours, Entry, Failure, Post, Posts, Program, Script, Start, Starts,
 };
-use tau_value::{Names, Value, count_of, value_of};
+use tau_value::{NODE_LIMIT, Names, START_LIMIT, Value, count_of, value_of};
 
 /// The program that forms at the top mean, which have no fault. The error is want of memory.
 pub(crate) fn build_program(
@@ -28,8 +28,8 @@ pub(crate) fn build_program(
     tables: &Tables,
 ) -> Result<Program, AllocError>
     requires tables { tables.now ≡ tables_of (map tree_of forms.now) }
-    requires nodes { tables.now.nodes ≤ 64 }
-    requires few { length tables.now.starts ≤ 1024 }
+    requires nodes { tables.now.nodes ≤ NODE_LIMIT }
+    requires few { length tables.now.starts ≤ START_LIMIT }
     ensures { IfOk result (λ p. plain_of p ≡ program_in (map tree_of forms.now)) }
 {
     let mut draft = Draft::new(alloc);
@@ -66,7 +66,7 @@ impl Draft {
 
     // Adds what forms define. The error is want of memory.
     fn add_all(&mut self, alloc: Global, forms: &[Form], tables: &Tables) -> Result<(), AllocError>
-        requires few { length tables.now.starts ≤ 1024 }
+        requires few { length tables.now.starts ≤ START_LIMIT }
         requires empty { HasBuilt tables.now [] self.old }
         ensures { OnOk result (HasBuilt tables.now (map tree_of forms.now) self.new) }
     {
@@ -78,7 +78,7 @@ impl Draft {
 
     // Adds what a form defines. The error is want of memory.
     fn add(&mut self, alloc: Global, form: &Form, tables: &Tables) -> Result<(), AllocError>
-        requires few { length tables.now.starts ≤ 1024 }
+        requires few { length tables.now.starts ≤ START_LIMIT }
         ensures { OnOk result ((before : List Tree) → HasBuilt tables.now before self.old
             → HasBuilt tables.now (before ++ tree_of form.now ∷ []) self.new) }
     {
@@ -120,7 +120,7 @@ fn add_start(
     parts: StartParts<'_>,
     tables: &Tables,
 ) -> Result<(), AllocError>
-    requires { length tables.now.starts ≤ 1024 }
+    requires { length tables.now.starts ≤ START_LIMIT }
     ensures { OnOk result (map plain_start starts.new ≡ map plain_start starts.old ++ start_part tables.now parts.entry ∷ []) }
 {
     let start = Start {
@@ -141,7 +141,7 @@ fn add_post(
     parts: PostParts<'_>,
     tables: &Tables,
 ) -> Result<(), AllocError>
-    requires { length tables.now.starts ≤ 1024 }
+    requires { length tables.now.starts ≤ START_LIMIT }
     ensures { OnOk result (map plain_post posts.new ≡ map plain_post posts.old ++ post_part tables.now parts.entry ∷ []) }
 {
     let post = Post {
@@ -313,7 +313,7 @@ fn number_meant(word: &Word) -> Result<u32, AllocError>
 
 // The value that a form means. Forms without faults mean one, so the error is want of memory.
 fn value_meant(alloc: Global, form: &Form, starts: &Names) -> Result<Value, AllocError>
-    requires { length starts.now ≤ 1024 }
+    requires { length starts.now ≤ START_LIMIT }
     ensures { IfOk result (λ v. val_of v ≡ counted starts.now (length starts.now) (tree_of form.now)) }
 {
     match value_of(alloc, form, starts, starts.len() as u32) {

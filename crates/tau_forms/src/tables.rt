@@ -9,7 +9,7 @@ use crate::keywords::{Sort, sort_of};
 use crate::rows::split_head;
 use std::alloc::{AllocError, Global};
 use tau_sexpr::{Form, Word};
-use tau_value::{Names, count_of, is_name};
+use tau_value::{NODE_LIMIT, Names, count_of, is_name};
 
 /// The names that the lists at the top define, each once, and how many nodes there are.
 #[derive(Drop)]
@@ -70,7 +70,7 @@ pub(crate) fn collect(alloc: Global, forms: &[Form]) -> Result<Tables, AllocErro
     Ok(Tables {
         behaviours: defined.behaviours,
         starts: defined.starts,
-        nodes: defined.nodes.unwrap_or(64),
+        nodes: defined.nodes.unwrap_or(NODE_LIMIT as u64),
     })
 }
 

@@ -19,6 +19,7 @@ use crate::tables::{Defined, Tables, nodes_told};
 use crate::wanted::Wanted;
 use std::alloc::Global;
 use tau_sexpr::Form;
+use tau_value::START_LIMIT;
 
 /// Checks all forms at the top: the error is the first fault (docs/formats.md, "Programs"), or want of memory.
 pub(crate) fn check_forms(
@@ -27,7 +28,7 @@ pub(crate) fn check_forms(
     tables: &Tables,
 ) -> Result<(), ProgramError>
     requires tables { tables.now ≡ tables_of (map tree_of forms.now) }
-    requires few { length tables.now.starts ≤ 1024 }
+    requires few { length tables.now.starts ≤ START_LIMIT }
     requires range { size_of_all (inside (map tree_of forms.now)) + 1 < 2 ^ 64 }
     ensures { PassesForms (map tree_of forms.now) result }
 {
@@ -44,7 +45,7 @@ fn check_each(
 ) -> Result<(), ProgramError>
     requires first { IsDefined [] earlier.old }
     requires tables { tables.now ≡ tables_of (map tree_of forms.now) }
-    requires few { length tables.now.starts ≤ 1024 }
+    requires few { length tables.now.starts ≤ START_LIMIT }
     requires range { size_of_all (inside (map tree_of forms.now)) + 1 < 2 ^ 64 }
     ensures { PassesForms (map tree_of forms.now) result }
 {
@@ -67,7 +68,7 @@ fn check_top(
     earlier: &Defined,
     node: &mut u64,
 ) -> Result<(), ProgramError>
-    requires few { length tables.now.starts ≤ 1024 }
+    requires few { length tables.now.starts ≤ START_LIMIT }
     requires range { node.old + size_of (tree_of form.now) < 2 ^ 64 }
     ensures { (before : List Tree) → IsDefined before earlier.now
         → Passes (FaultAt tables.now (top before) (tree_of form.now)) (size_of (tree_of form.now)) node.old node.new result }

@@ -92,7 +92,7 @@ fn write_let(
     ensures integers { OnOk result (Throughout HasFittingInteger (let_in name.now (code_of value.now) (code_of body.now))) }
 {
     let mut forms = begin(alloc, b"let")?;
-    add(&mut forms, Form::Word(name.copy()?))?;
+    forms.add(Form::Word(name.copy()?))?;
     add_expression(alloc, &mut forms, value, tables)?;
     add_expression(alloc, &mut forms, body, tables)?;
     Ok(Form::List(forms))
@@ -136,7 +136,7 @@ fn write_fold(
     let mut forms = begin(alloc, b"fold")?;
     add_expression(alloc, &mut forms, list, tables)?;
     add_expression(alloc, &mut forms, first, tables)?;
-    add(&mut forms, form_of_words(alloc, sum, item)?)?;
+    forms.add(form_of_words(alloc, sum, item)?)?;
     add_expression(alloc, &mut forms, body, tables)?;
     Ok(Form::List(forms))
 }
@@ -196,7 +196,7 @@ fn add_expression(
     ensures forms { OnOk result (forms.new ≡ forms.old ++ code_form tables.now.behaviours tables.now.starts (code_of expr.now) ∷ []) }
     ensures integers { OnOk result (Throughout HasFittingInteger (code_of expr.now)) }
 {
-    add(forms, write_expression(alloc, expr, tables)?)
+    forms.add(write_expression(alloc, expr, tables)?)
 }
 
 /// `(name START)`.
@@ -222,8 +222,8 @@ fn form_of_words(alloc: Global, first: &Word, second: &Word) -> Result<Form, All
     ensures { IfOk result (λ f. tree_of f ≡ list (more (word first.now) (more (word second.now) none))) }
 {
     let mut forms = Forms::new(alloc);
-    add(&mut forms, Form::Word(first.copy()?))?;
-    add(&mut forms, Form::Word(second.copy()?))?;
+    forms.add(Form::Word(first.copy()?))?;
+    forms.add(Form::Word(second.copy()?))?;
     Ok(Form::List(forms))
 }
 
@@ -255,7 +255,7 @@ pub(crate) fn begin(alloc: Global, head: &[u8]) -> Result<Forms, AllocError>
     ensures { IfOk result (λ f. f ≡ word head.now ∷ []) }
 {
     let mut forms = Forms::new(alloc);
-    add(&mut forms, form_of_word(alloc, head)?)?;
+    forms.add(form_of_word(alloc, head)?)?;
     Ok(forms)
 }
 
@@ -279,20 +279,11 @@ pub(crate) fn add_name(
         Some(name) => name.copy()?,
         None => Word::new(alloc),
     };
-    add(forms, Form::Word(name))
+    forms.add(Form::Word(name))
 }
 
 pub(crate) fn add_count(alloc: Global, forms: &mut Forms, count: u32) -> Result<(), AllocError>
     ensures { OnOk result (forms.new ≡ forms.old ++ count_form count ∷ []) }
 {
-    add(forms, Form::Word(word_of_count(alloc, u64::from(count))?))
-}
-
-pub(crate) fn add(forms: &mut Forms, form: Form) -> Result<(), AllocError>
-    ensures { OnOk result (forms.new ≡ forms.old ++ tree_of form ∷ []) }
-{
-    match forms.push(form) {
-        Ok(()) => Ok(()),
-        Err((_form, failed)) => Err(failed),
-    }
+    forms.add(Form::Word(word_of_count(alloc, u64::from(count))?))
 }

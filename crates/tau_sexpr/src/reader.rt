@@ -58,10 +58,7 @@ impl OpenLists {
     fn add(&mut self, form: Form) -> Result<(), AllocError>
         ensures { OnOk result (stack_of self.new ≡ with_form (stack_of self.old) (tree_of form)) }
     {
-        match self.forms.push(form) {
-            Ok(()) => Ok(()),
-            Err((_form, failed)) => Err(failed),
-        }
+        self.forms.add(form)
     }
 
     // A `(` at this place.

@@ -1,5 +1,5 @@
 //! Forms and lists of forms.
-ghost use Rattle.std.specs.Prelude.{◌≡◌, ◌↔◌, ◌-◌, ◌^◌, min, [], ◌∷◌, ◌++◌, length, map, slice_get, IsTrue, IfOk, IfErr, OnOk, option_map};
+ghost use Rattle.std.specs.Prelude.{◌≡◌, ◌↔◌, ◌-◌, ◌^◌, min, [], ◌∷◌, ◌++◌, length, map, slice_get, IsTrue, IfOk, IfErr, OnOk, OnErr, option_map};
 ghost use Rattle.tau_sexpr.specs.Form.{tree_of};
 ghost use Rattle.tau_sexpr.specs.Tree.{size_of, sizes};
 
@@ -100,6 +100,17 @@ impl Forms {
         match self.items.push(item) {
             Ok(()) => Ok(()),
             Err(failed) => Err((failed.value, AllocError)),
+        }
+    }
+
+    /// Adds a form at the end. Without memory the form is dropped, and the list stays as it was.
+    pub fn add(&mut self, item: Form) -> Result<(), AllocError>
+        ensures ok { OnOk result (self.new ≡ self.old ++ tree_of item ∷ []) }
+        ensures err { OnErr result (self.new ≡ self.old) }
+    {
+        match self.push(item) {
+            Ok(()) => Ok(()),
+            Err((_item, failed)) => Err(failed),
         }
     }
 

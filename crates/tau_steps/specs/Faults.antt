@@ -2,6 +2,7 @@
 use Rattle.std.specs.Prelude.{◌≡◌, ℕ, ◌+◌, ◌<◌, ◌≤◌, ◌==◌, ◌||◌, ◌&&◌, nat_lt, nat_le, is_some, Bool, false, List, [], ◌∷◌, length, slice_get, Option, Some, None, codes, if◌then◌else◌, ◌⊎◌}
 use Rattle.std.specs.Option.{option_map_or}
 use Rattle.std.specs.Str.{bytes_eq}
+use Rattle.tau_value.specs.declared.limits.TheConstants.{STEP_LIMIT}
 use Rattle.tau_sexpr.specs.Tree.{Tree, Trees, word, list, none, more}
 use Rattle.tau_value.specs.Names.{is_name, place_of}
 use Rattle.tau_value.specs.Numbers.{count_in}
@@ -97,7 +98,7 @@ messages_before o fs k = length o.targets + count_below (λ j. option_map_or (be
 -- step k has a fault: form k has it, or it is the 1,000,001st form, which is a shape
 pub data StepFault (o : Opening) (fs : List Tree) (k : ℕ) (e : Fault) : Type 0 where
   in_form : {f : Tree} → slice_get fs k ≡ Some f → FormFault o (transactors_before o fs k) (messages_before o fs k) f e → StepFault o fs k e
-  too_many : k ≡ 1000000 → k < length fs → e ≡ shape → StepFault o fs k e
+  too_many : k ≡ STEP_LIMIT → k < length fs → e ≡ shape → StepFault o fs k e
 
 -- the first fault: at the least faulty step, where shape comes before unknown
 pub record IsFirst (o : Opening) (fs : List Tree) (k : ℕ) (e : Fault) : Type 0 where

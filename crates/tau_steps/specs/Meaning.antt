@@ -1,6 +1,7 @@
 -- The step that a form means, where there are so many transactors and messages of an opening.
 use Rattle.std.specs.Prelude.{◌≡◌, ℕ, ◌<◌, ◌≤◌, Bool, true, false, List, [], ◌∷◌, length, slice_get, Option, Some, None, codes, if◌then◌else◌}
 use Rattle.std.specs.Str.{bytes_eq}
+use Rattle.tau_value.specs.declared.limits.TheConstants.{STEP_LIMIT}
 use Rattle.tau_sexpr.specs.Tree.{Tree, Trees, word, list, none, more}
 use Rattle.tau_value.specs.Val.{Val}
 use Rattle.tau_value.specs.Value.{val_of}
@@ -100,5 +101,5 @@ MeansStep o transactors messages f s = ⊥
 pub record MeansSteps (o : Opening) (fs : List Tree) (T : Run) : Type 0 where
   pub opening : T.opening ≡ o
   pub count : len T ≡ length fs
-  pub few : length fs ≤ 1000000
+  pub few : length fs ≤ STEP_LIMIT
   pub each : (k : ℕ) (f : Tree) (s : Step) → slice_get fs k ≡ Some f → step_at T k ≡ Some s → MeansStep o (born T k) (sent T k) f s

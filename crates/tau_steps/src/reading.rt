@@ -14,6 +14,7 @@ use crate::rows::read_step;
 use std::alloc::Global;
 use tau_sexpr::{Form, Forms};
 use tau_trace::{Opening, Step, Trace};
+use tau_value::STEP_LIMIT;
 
 /// The trace of an opening whose steps the forms from `from` on and below `to` mean, in this order (docs/formats.md,
 /// "Steps"). Whether the steps are legal isn't asked. `Shape` and `Unknown` come exactly at the first faulty step, counted
@@ -54,7 +55,7 @@ fn add_step(alloc: Global, trace: &mut Trace, form: &Form) -> Result<(), StepErr
     ensures { AddsStep trace.old.run (tree_of form.now) trace.new.run result }
 {
     let step = trace.len();
-    if step >= 1_000_000 {
+    if step >= STEP_LIMIT {
         return Err(StepError::Shape {
             step: u64::from(step),
         });

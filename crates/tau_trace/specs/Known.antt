@@ -1,5 +1,6 @@
 -- Openings and runs whose steps name only what exists (docs/rules.md, "Numbers"; docs/limits.md).
 use Rattle.std.specs.Prelude.{◌≡◌, ℕ, ◌<◌, ◌≤◌, Option, Some, All, length}
+use Rattle.tau_value.specs.declared.limits.TheConstants.{NODE_LIMIT, BEHAVIOUR_LIMIT, START_LIMIT, POST_LIMIT, STEP_LIMIT}
 use Rattle.tau_value.specs.declared.shared.Value.{Value}
 use Rattle.tau_value.specs.Value.{val_of}
 use Rattle.tau_value.specs.Sizes.{IsInBounds, NamesBelow}
@@ -14,11 +15,11 @@ use Rattle.tau_trace.specs.Numbering.{born, sent}
 pub record IsSound (o : Opening) : Type 0 where
   pub names : AreNames o.names
   pub behaviours : AreNames o.behaviours
-  pub few_names : length o.names ≤ 1024
-  pub few_behaviours : length o.behaviours ≤ 256
-  pub few_targets : length o.targets ≤ 4096
+  pub few_names : length o.names ≤ START_LIMIT
+  pub few_behaviours : length o.behaviours ≤ BEHAVIOUR_LIMIT
+  pub few_targets : length o.targets ≤ POST_LIMIT
   pub some_nodes : 1 ≤ o.nodes
-  pub few_nodes : o.nodes ≤ 64
+  pub few_nodes : o.nodes ≤ NODE_LIMIT
   pub a_home_each : length o.homes ≡ length o.names
   pub homes : All (λ n. n < o.nodes) o.homes
   pub targets : All (λ t. t < length o.names) o.targets
@@ -57,10 +58,10 @@ IsKnownAt T k s = IsKnown T.opening (born T k) (sent T k) s
 -- the step may stand at the end of the run
 pub record MayFollow (T : Run) (s : Step) : Type 0 where
   pub known : IsKnownAt T (len T) s
-  pub few_steps : len T < 1000000
+  pub few_steps : len T < STEP_LIMIT
 
 -- what holds of each trace: each step names what exists before it, and there are at most 1,000,000 steps
 pub record WellFormed (T : Run) : Type 0 where
   pub opening : IsSound T.opening
   pub known : (k : ℕ) (s : Step) → step_at T k ≡ Some s → IsKnownAt T k s
-  pub few_steps : len T ≤ 1000000
+  pub few_steps : len T ≤ STEP_LIMIT

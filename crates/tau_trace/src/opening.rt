@@ -5,7 +5,7 @@ ghost use Rattle.tau_value.specs.Names.{AreNames, place_of};
 use crate::numbers::Numbers;
 use std::alloc::AllocError;
 use tau_sexpr::Word;
-use tau_value::{Names, is_name};
+use tau_value::{BEHAVIOUR_LIMIT, NODE_LIMIT, Names, POST_LIMIT, START_LIMIT, is_name};
 
 /// What stands before the first step (docs/rules.md, "Numbers"): the names of the start transactors and of the
 /// behaviours, the number of nodes, the node of each start, and the receiver of each post.
@@ -27,11 +27,11 @@ impl Opening {
     pub fn is_sound(&self) -> bool
         ensures { IsTrue result ↔ IsSound self.now }
     {
-        self.names.len() <= 1024
-            && self.behaviours.len() <= 256
-            && self.targets.len() <= 4096
+        self.names.len() <= START_LIMIT
+            && self.behaviours.len() <= BEHAVIOUR_LIMIT
+            && self.targets.len() <= POST_LIMIT
             && 1 <= self.nodes
-            && self.nodes <= 64
+            && self.nodes <= NODE_LIMIT
             && self.homes.len() == self.names.len()
             && are_names(&self.names)
             && are_names(&self.behaviours)

@@ -42,7 +42,7 @@ fn write_step(alloc: Global, opening: &Opening, made: u32, step: &Step) -> Resul
     ensures value { OnOk result (ValueIsWritten opening.now step.now) }
 {
     let mut forms = Forms::new(alloc);
-    add(&mut forms, Form::Word(Word::of(alloc, kind_of(step))?))?;
+    forms.add(Form::Word(Word::of(alloc, kind_of(step))?))?;
     add_items(alloc, &mut forms, opening, made, step)?;
     Ok(Form::List(forms))
 }
@@ -147,13 +147,13 @@ fn add_name(alloc: Global, forms: &mut Forms, names: &Names, number: u32) -> Res
         Some(name) => name.copy()?,
         None => word_of_count(alloc, u64::from(number))?,
     };
-    add(forms, Form::Word(word))
+    forms.add(Form::Word(word))
 }
 
 fn add_count(alloc: Global, forms: &mut Forms, count: u32) -> Result<(), AllocError>
     ensures { OnOk result (forms.new ≡ forms.old ++ count_form count ∷ []) }
 {
-    add(forms, Form::Word(word_of_count(alloc, u64::from(count))?))
+    forms.add(Form::Word(word_of_count(alloc, u64::from(count))?))
 }
 
 #[tactic(auto, using(tau_sexpr::proofs::Literals::word_literal), unfolding(tau_sexpr::specs::Bytes::is_word_byte, tau_sexpr::specs::Bytes::is_letter_or_digit, tau_sexpr::specs::Bytes::is_word_sign))]
@@ -165,7 +165,7 @@ fn add_truth(alloc: Global, forms: &mut Forms, truth: bool) -> Result<(), AllocE
     } else {
         Word::of(alloc, b"false")?
     };
-    add(forms, Form::Word(word))
+    forms.add(Form::Word(word))
 }
 
 fn add_value(
@@ -178,14 +178,5 @@ fn add_value(
     ensures item { OnOk result (forms.new ≡ forms.old ++ written names.now (val_of value.now) ∷ []) }
     ensures value { OnOk result (IsWritten names.now value.now) }
 {
-    add(forms, form_of(alloc, value, names)?)
-}
-
-fn add(forms: &mut Forms, form: Form) -> Result<(), AllocError>
-    ensures { OnOk result (forms.new ≡ forms.old ++ tree_of form ∷ []) }
-{
-    match forms.push(form) {
-        Ok(()) => Ok(()),
-        Err((_form, failed)) => Err(failed),
-    }
+    forms.add(form_of(alloc, value, names)?)
 }

@@ -19,6 +19,7 @@ use crate::trace_parts::posts;
 use crate::transactors::Transactors;
 use std::alloc::{AllocError, Global};
 use std::marker::Model;
+use tau_value::STEP_LIMIT;
 
 /// A trace: an opening and the list of the steps of a run (docs/rules.md, "Steps"). Each step names what exists
 /// before it, and there are at most 1,000,000 steps. Contracts see the run, and whether one more step can be appended
@@ -90,7 +91,7 @@ impl Trace {
     pub fn admits(&self, step: &Step) -> bool
         ensures { IsTrue result ↔ MayFollow self.now.run step.now }
     {
-        self.len() < 1_000_000 && is_known(&self.opening, self.born(), self.sent(), step)
+        self.len() < STEP_LIMIT && is_known(&self.opening, self.born(), self.sent(), step)
     }
 
     /// Makes room, so that one step can be appended without memory.

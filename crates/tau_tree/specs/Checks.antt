@@ -1,5 +1,6 @@
 -- What the checks of a program ask, each of one thing; together they are the rules of a sound program.
 use Rattle.std.specs.Prelude.{ℕ, ◌+◌, ◌<◌, ◌≤◌, [], length}
+use Rattle.tau_value.specs.declared.limits.TheConstants.{NODE_LIMIT, BEHAVIOUR_LIMIT, START_LIMIT, POST_LIMIT, ENTRY_LIMIT}
 use Rattle.tau_value.specs.Names.{IsName}
 use Rattle.tau_value.specs.Sizes.{IsInBounds, NamesBelow}
 use Rattle.tau_value.specs.Value.{val_of}
@@ -13,11 +14,11 @@ use Rattle.tau_tree.specs.Parts.{depth_of, IsBoundIn, Throughout, HasNames, Name
 -- the limits of a program
 pub record KeepsLimits (p : Program) : Type 0 where
   pub some_nodes : 0 < p.nodes
-  pub nodes : p.nodes ≤ 64
-  pub behaviours : length p.behaviours ≤ 256
-  pub starts : length p.starts ≤ 1024
-  pub posts : length p.posts ≤ 4096
-  pub entries : length p.script ≤ 4096
+  pub nodes : p.nodes ≤ NODE_LIMIT
+  pub behaviours : length p.behaviours ≤ BEHAVIOUR_LIMIT
+  pub starts : length p.starts ≤ START_LIMIT
+  pub posts : length p.posts ≤ POST_LIMIT
+  pub entries : length p.script ≤ ENTRY_LIMIT
 
 -- the rules for one start, where there are so many nodes, behaviours and starts
 pub record IsSoundStart (nodes behaviours starts : ℕ) (s : Start) : Type 0 where

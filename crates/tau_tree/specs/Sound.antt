@@ -1,5 +1,6 @@
 -- The rules of a sound program.
 use Rattle.std.specs.Prelude.{◌≢◌, ℕ, ◌+◌, ◌<◌, ◌≤◌, List, [], length, map, All, AllPairs}
+use Rattle.tau_value.specs.declared.limits.TheConstants.{NODE_LIMIT, BEHAVIOUR_LIMIT, START_LIMIT, POST_LIMIT, ENTRY_LIMIT}
 use Rattle.tau_value.specs.Names.{IsName, AreNames}
 use Rattle.tau_value.specs.Sizes.{IsInBounds, NamesBelow, levels_of}
 use Rattle.tau_value.specs.Value.{val_of}
@@ -29,11 +30,11 @@ FailsBelow nodes (Lose message) = Unit {0}
 pub record Sound (p : Program) : Type 0 where
   -- there are 1 to 64 nodes, and at most 256 behaviours, 1,024 starts, 4,096 posts and 4,096 script entries
   pub some_nodes : 0 < p.nodes
-  pub nodes_limit : p.nodes ≤ 64
-  pub behaviours_limit : length p.behaviours ≤ 256
-  pub starts_limit : length p.starts ≤ 1024
-  pub posts_limit : length p.posts ≤ 4096
-  pub entries_limit : length p.script ≤ 4096
+  pub nodes_limit : p.nodes ≤ NODE_LIMIT
+  pub behaviours_limit : length p.behaviours ≤ BEHAVIOUR_LIMIT
+  pub starts_limit : length p.starts ≤ START_LIMIT
+  pub posts_limit : length p.posts ≤ POST_LIMIT
+  pub entries_limit : length p.script ≤ ENTRY_LIMIT
   -- each name is a name, and no two behaviours and no two starts have the same one
   pub behaviours_named : All IsName (behaviour_names p)
   pub behaviours_distinct : AllPairs (λ v w. v ≢ w) (behaviour_names p)

@@ -8,7 +8,10 @@ use crate::scopes::Scope;
 use crate::{Behaviour, Entry, Failure, Post, Program, Start};
 use std::alloc::{AllocError, Global};
 use tau_sexpr::Word;
-use tau_value::{Names, in_bounds, is_name, names_below};
+use tau_value::{
+    BEHAVIOUR_LIMIT, ENTRY_LIMIT, NODE_LIMIT, Names, POST_LIMIT, START_LIMIT, in_bounds, is_name,
+    names_below,
+};
 
 /// How many nodes, behaviours and starts a program has.
 #[derive(Clone, Copy)]
@@ -22,11 +25,11 @@ pub struct Counts {
 pub fn keeps_limits(program: &Program) -> bool
     ensures { IsTrue result ↔ KeepsLimits program.now }
 {
-    (1..=64).contains(&program.nodes)
-        && program.behaviours.len() <= 256
-        && program.starts.len() <= 1024
-        && program.posts.len() <= 4096
-        && program.script.len() <= 4096
+    (1..=NODE_LIMIT).contains(&program.nodes)
+        && program.behaviours.len() <= BEHAVIOUR_LIMIT
+        && program.starts.len() <= START_LIMIT
+        && program.posts.len() <= POST_LIMIT
+        && program.script.len() <= ENTRY_LIMIT
 }
 
 /// Whether the starts are sound, and no two have one name. The error is want of memory.

@@ -2,6 +2,7 @@
 #![tactic(auto)]
 
 mod faults;
+mod limits;
 mod name_list;
 mod number_words;
 mod printing;
@@ -9,6 +10,7 @@ mod reading;
 mod shared;
 
 pub use faults::ValueError;
+pub use limits::{BEHAVIOUR_LIMIT, ENTRY_LIMIT, NODE_LIMIT, POST_LIMIT, START_LIMIT, STEP_LIMIT};
 pub use name_list::{Names, is_name};
 pub use number_words::{count_of, integer_of, word_of_count, word_of_integer};
 pub use printing::form_of;

@@ -1,5 +1,5 @@
 //! Forms of values.
-ghost use Rattle.std.specs.Prelude.{◌≡◌, ◌∷◌, ◌++◌, [], All, IfOk, OnOk};
+ghost use Rattle.std.specs.Prelude.{◌≡◌, All, IfOk, OnOk};
 ghost use Rattle.tau_sexpr.specs.Bytes.{IsWordByte};
 ghost use Rattle.tau_sexpr.specs.Form.{tree_of};
 ghost use Rattle.tau_sexpr.specs.Tree as tree;
@@ -50,9 +50,9 @@ fn write_all(alloc: Global, items: &Values, names: &Names) -> Result<Form, Alloc
     ensures numbers { OnOk result (AllNumbersFit (inside items.now)) }
 {
     let mut forms = Forms::new(alloc);
-    add(&mut forms, form_of_word(alloc, b"list")?)?;
+    forms.add(form_of_word(alloc, b"list")?)?;
     for item in items.items() {
-        add(&mut forms, write(alloc, item, names)?)?;
+        forms.add(write(alloc, item, names)?)?;
     }
     Ok(Form::List(forms))
 }
@@ -66,8 +66,8 @@ fn form_of_name(alloc: Global, number: u32, names: &Names) -> Result<Form, Alloc
         None => word_of_count(alloc, u64::from(number))?,
     };
     let mut forms = Forms::new(alloc);
-    add(&mut forms, form_of_word(alloc, b"name")?)?;
-    add(&mut forms, Form::Word(word))?;
+    forms.add(form_of_word(alloc, b"name")?)?;
+    forms.add(Form::Word(word))?;
     Ok(Form::List(forms))
 }
 
@@ -76,13 +76,4 @@ fn form_of_word(alloc: Global, bytes: &[u8]) -> Result<Form, AllocError>
     ensures { IfOk result (λ f. tree_of f ≡ tree.word bytes.now) }
 {
     Ok(Form::Word(Word::of(alloc, bytes)?))
-}
-
-fn add(forms: &mut Forms, form: Form) -> Result<(), AllocError>
-    ensures { OnOk result (forms.new ≡ forms.old ++ tree_of form ∷ []) }
-{
-    match forms.push(form) {
-        Ok(()) => Ok(()),
-        Err((_form, failed)) => Err(failed),
-    }
 }

@@ -1,5 +1,6 @@
 -- What the parts of the reader tell: what a form or an item means, or its fault.
 use Rattle.std.specs.Prelude.{◌≡◌, ℕ, ◌≤◌, ◌<◌, ◌⊎◌, length, Result, Ok, Err}
+use Rattle.tau_value.specs.declared.limits.TheConstants.{STEP_LIMIT}
 use Rattle.tau_sexpr.specs.Tree.{Tree, Trees}
 use Rattle.tau_value.specs.Meaning.{Fault, shape, unknown}
 use Rattle.tau_trace.specs.declared.step.Step.{Step}
@@ -65,7 +66,7 @@ step_error items.NoMemory k = errors.NoMemory
 -- a run goes on with the step that a form means
 pub record GoesOn (T : Run) (f : Tree) (U : Run) : Type 0 where
   pub step : Step
-  pub few : len T < 1000000
+  pub few : len T < STEP_LIMIT
   pub means : MeansStep T.opening (born T (len T)) (sent T (len T)) f step
   pub appends : U ≡ appended T step
 
@@ -76,6 +77,6 @@ NextFault T f e = FormFault T.opening (born T (len T)) (sent T (len T)) f e
 -- a run goes on with the step that a form means, or the error tells why not
 abbrev pub AddsStep : {X : Type 0} → Run → Tree → Run → Result X StepError → Type 0
 AddsStep T f U (Ok x) = GoesOn T f U
-AddsStep T f U (Err (errors.Shape k)) = (k ≡ len T) × (NextFault T f shape ⊎ (1000000 ≤ len T))
-AddsStep T f U (Err (errors.Unknown k)) = (k ≡ len T) × NextFault T f unknown × (¬ NextFault T f shape) × (len T < 1000000)
+AddsStep T f U (Err (errors.Shape k)) = (k ≡ len T) × (NextFault T f shape ⊎ (STEP_LIMIT ≤ len T))
+AddsStep T f U (Err (errors.Unknown k)) = (k ≡ len T) × NextFault T f unknown × (¬ NextFault T f shape) × (len T < STEP_LIMIT)
 AddsStep T f U (Err errors.NoMemory) = Unit {0}

@@ -11,6 +11,6 @@ loop-entry-preserved c =
     let k = c.loop-entry.entry-index in
     let lt : k < length xs = omega arith in
     record {
-      forms = forms_more_at entry_form xs k _ c.args.forms.now c.loop-entry.forms _ _ lt c.loop-entry.invariant.forms c.in_ok-form_of_entry.ensures.form c.in_ok-add.ensures;
+      forms = forms_more_at entry_form xs k _ c.args.forms.now c.loop-entry.forms _ _ lt c.loop-entry.invariant.forms c.in_ok-form_of_entry.ensures.form c.in_ok-add.ensures.ok;
       numbers = All-more HasFittingNumbers xs k _ lt c.loop-entry.invariant.numbers c.in_ok-form_of_entry.ensures.numbers;
     }

@@ -13,6 +13,6 @@ loop-post-preserved c =
     let lt : k < length xs = omega arith in
     let item = c.post-item.result in
     record {
-      forms = forms_more (post_form c.args.starts.now) xs k item c.args.forms.now c.loop-post.forms _ _ lt c.post-item.is c.loop-post.invariant.forms c.in_ok-form_of_post.ensures.form c.in_ok-add.ensures;
+      forms = forms_more (post_form c.args.starts.now) xs k item c.args.forms.now c.loop-post.forms _ _ lt c.post-item.is c.loop-post.invariant.forms c.in_ok-form_of_post.ensures.form c.in_ok-add.ensures.ok;
       values = All-more (λ q. IsWritten c.args.starts.now (val_of q.value)) xs k item lt c.loop-post.invariant.values (subst (λ q. IsWritten c.args.starts.now (val_of q.value)) c.post-item.is c.in_ok-form_of_post.ensures.value);
     }

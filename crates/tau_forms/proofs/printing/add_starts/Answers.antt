@@ -13,6 +13,6 @@ loop-start-preserved c =
     let lt : k < length xs = omega arith in
     let item = c.start-item.result in
     record {
-      forms = forms_more (start_form c.args.tables.now.behaviours c.args.tables.now.starts) xs k item c.args.forms.now c.loop-start.forms _ _ lt c.start-item.is c.loop-start.invariant.forms c.in_ok-form_of_start.ensures.form c.in_ok-add.ensures;
+      forms = forms_more (start_form c.args.tables.now.behaviours c.args.tables.now.starts) xs k item c.args.forms.now c.loop-start.forms _ _ lt c.start-item.is c.loop-start.invariant.forms c.in_ok-form_of_start.ensures.form c.in_ok-add.ensures.ok;
       states = All-more (λ s. IsWritten c.args.tables.now.starts (val_of s.state)) xs k item lt c.loop-start.invariant.states (subst (λ s. IsWritten c.args.tables.now.starts (val_of s.state)) c.start-item.is c.in_ok-form_of_start.ensures.state);
     }

@@ -35,7 +35,7 @@ write_all-loop-item-preserved t c =
     let lt : k < length fs = omega arith in
     let more = map_more val_of fs k c.item-item.result lt in
     record {
-      forms = rw (c.in_ok-add-2.ensures, c.loop-item.invariant.forms, more, ← c.item-item.is, map-append, c.in_ok-write.ensures.form) refl;
+      forms = rw (c.in_ok-add-2.ensures.ok, c.loop-item.invariant.forms, more, ← c.item-item.is, map-append, c.in_ok-write.ensures.form) refl;
       numbers = rw (more, ← c.item-item.is) (numbers-push (map val_of (take k fs)) (val_of c.item-item.result) c.loop-item.invariant.numbers c.in_ok-write.ensures.numbers);
     }
 
