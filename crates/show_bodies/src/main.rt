@@ -27,7 +27,7 @@ fn main(rt: HostRuntime) -> ExitCode {
     let Ok(forms) = read_forms(alloc, &bytes) else {
         return ExitCode::from(3);
     };
-    let Ok(program) = program_of(alloc, &forms) else {
+    let Ok(program) = program_of(alloc, forms.items()) else {
         return ExitCode::from(3);
     };
     let Ok(text) = text_of(alloc, &program) else {

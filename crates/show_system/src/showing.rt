@@ -81,10 +81,8 @@ fn step_text(alloc: Global, trace: &Trace, place: u32) -> Result<Vec<u8>, AllocE
 {
     let form = form_of_step(alloc, trace, place)?;
     let mut forms = Forms::new(alloc);
-    match forms.push(form) {
-        Ok(()) => print_forms(alloc, &forms),
-        Err((_form, failed)) => Err(failed),
-    }
+    forms.add(form)?;
+    print_forms(alloc, &forms)
 }
 
 // Adds what a transactor is doing.

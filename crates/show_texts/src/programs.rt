@@ -15,7 +15,7 @@ pub(crate) fn add_program(
         Ok(forms) => forms,
         Err(error) => return writeln!(text, "{error}"),
     };
-    match program_of(alloc, &forms) {
+    match program_of(alloc, forms.items()) {
         Ok(program) => add_sound(alloc, text, &program.copy()?),
         Err(error) => writeln!(text, "{error}"),
     }
@@ -48,5 +48,5 @@ pub(crate) fn add_mixed(alloc: Global, text: &mut String, spelled: &str) -> Resu
 
 fn program_in(alloc: Global, text: &str) -> Option<Program> {
     let forms = read_forms(alloc, text.as_bytes()).ok()?;
-    program_of(alloc, &forms).ok()
+    program_of(alloc, forms.items()).ok()
 }

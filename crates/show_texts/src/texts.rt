@@ -25,7 +25,7 @@ pub(crate) fn add_built(alloc: Global, text: &mut String, spelled: &str) -> Resu
     };
     let mut built = Forms::new(alloc);
     for form in forms.items() {
-        add_form(&mut built, built_form(alloc, form)?)?;
+        built.add(built_form(alloc, form)?)?;
     }
     if !built.same(&forms) {
         return text.push_str("other forms\n");
@@ -39,10 +39,8 @@ pub(crate) fn add_one(alloc: Global, text: &mut String, form: Form) -> Result<()
     requires words { HasWords (tree_of form) }
 {
     let mut forms = Forms::new(alloc);
-    match forms.push(form) {
-        Ok(()) => add_printed(alloc, text, &forms),
-        Err((_form, failed)) => Err(failed),
-    }
+    forms.add(form)?;
+    add_printed(alloc, text, &forms)
 }
 
 /// Adds the printed forms.
@@ -52,14 +50,6 @@ pub(crate) fn add_printed(alloc: Global, text: &mut String, forms: &Forms) -> Re
 {
     let bytes = print_forms(alloc, forms)?;
     text.push_str(str::from_utf8(&bytes).unwrap_or(""))
-}
-
-// Adds a form to a list of forms.
-fn add_form(forms: &mut Forms, form: Form) -> Result<(), AllocError> {
-    match forms.push(form) {
-        Ok(()) => Ok(()),
-        Err((_form, failed)) => Err(failed),
-    }
 }
 
 fn built_form(alloc: Global, form: &Form) -> Result<Form, AllocError> {

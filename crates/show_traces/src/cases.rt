@@ -52,7 +52,7 @@ fn program_in(alloc: Global, text: &str) -> Result<Program, FactsError>
     ensures { IfOk result Sound }
 {
     let forms = read_forms(alloc, text.as_bytes())?;
-    Ok(program_of(alloc, &forms)?)
+    Ok(program_of(alloc, forms.items())?)
 }
 
 /// Adds each question with its answer, on a line of its own.

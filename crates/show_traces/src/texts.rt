@@ -74,8 +74,6 @@ pub(crate) fn step_text(alloc: Global, trace: &Trace, place: u32) -> Result<Stri
         return String::from_str(alloc, "none");
     }
     let mut forms = Forms::new(alloc);
-    match forms.push(form_of_step(alloc, trace, place)?) {
-        Ok(()) => report_text(alloc, &print_forms(alloc, &forms)?),
-        Err((_form, error)) => Err(error),
-    }
+    forms.add(form_of_step(alloc, trace, place)?)?;
+    report_text(alloc, &print_forms(alloc, &forms)?)
 }

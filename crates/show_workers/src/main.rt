@@ -76,7 +76,7 @@ fn program_from(alloc: Global, bytes: &[u8]) -> Option<Program>
     let Ok(forms) = read_forms(alloc, bytes) else {
         return None;
     };
-    match program_of(alloc, &forms) {
+    match program_of(alloc, forms.items()) {
         Ok(program) => Some(program),
         Err(_) => None,
     }

@@ -5,6 +5,8 @@ use Rattle.tau_io.specs.declared.reading.ReadError.{ReadError}
 use Rattle.tau_io.specs.declared.reading.ReadError.TheVariants as reads
 use Rattle.tau_command.specs.declared.commands.WordsError.{WordsError}
 use Rattle.tau_command.specs.declared.commands.WordsError.TheVariants as words
+use Rattle.tau_input.specs.FaultNumbers.{fault_number}
+use Rattle.tau_input.specs.declared.faults.InputFault.TheVariants as faults
 use Rattle.tau_input.specs.declared.errors.InputError.{InputError}
 use Rattle.tau_input.specs.declared.errors.InputError.TheVariants as inputs
 use Rattle.tau_output.specs.declared.outputs.End.{End}
@@ -66,7 +68,7 @@ of_words_error words.NoMemory = NoMemory
 
 abbrev pub of_read_error : ReadError → Status
 of_read_error reads.ReadFault = ReadFault
-of_read_error reads.TooLong = Input 10 input_limit
+of_read_error reads.TooLong = Input (fault_number faults.TooLong) input_limit
 of_read_error reads.NoMemory = NoMemory
 
 abbrev pub of_input_error : InputError → Status

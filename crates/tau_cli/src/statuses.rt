@@ -4,7 +4,7 @@ ghost use Rattle.tau_cli.specs.Status.{number_of};
 
 use std::fmt;
 use tau_command::WordsError;
-use tau_input::InputError;
+use tau_input::{InputError, InputFault};
 use tau_io::ReadError;
 use tau_output::{End, INPUT_LIMIT};
 use tau_points::Point;
@@ -107,7 +107,7 @@ impl From<ReadError> for Status {
         match error {
             ReadError::ReadFault => Status::ReadFault,
             ReadError::TooLong => Status::Input {
-                fault: 10,
+                fault: InputFault::TooLong.number(),
                 at: INPUT_LIMIT as u64,
             },
             ReadError::NoMemory => Status::NoMemory,

@@ -12,7 +12,9 @@ use Rattle.tau_trace.specs.declared.opening.Opening.{Opening}
 use Rattle.tau_script.specs.Openings.{program_opening}
 use Rattle.tau_steps.specs.Faults as steps
 use Rattle.tau_steps.specs.declared.errors.StepError.{StepError}
+use Rattle.tau_input.specs.declared.faults.InputFault.TheVariants.{NoTrace}
 use Rattle.tau_input.specs.declared.errors.InputError.TheVariants.{Fault}
+use Rattle.tau_input.specs.FaultNumbers.{fault_number}
 use Rattle.tau_input.specs.Errors.{of_form_error, of_program_error, of_step_error}
 use Rattle.tau_input.specs.Parts.{has_trace, program_forms, step_forms}
 
@@ -36,7 +38,7 @@ pub data PartsFault (forms : List Tree) (fault at : ℕ) : Type 0 where
 
 -- the same where `(trace)` has to stand between them: that it doesn't comes first, at the number of forms
 pub data MarkedFault (forms : List Tree) (fault at : ℕ) : Type 0 where
-  no_trace : has_trace forms ≡ false → fault ≡ 11 → at ≡ length forms → MarkedFault forms fault at
+  no_trace : has_trace forms ≡ false → fault ≡ fault_number NoTrace → at ≡ length forms → MarkedFault forms fault at
   in_parts : has_trace forms ≡ true → PartsFault forms fault at → MarkedFault forms fault at
 
 -- the first fault of bytes as `run` takes them

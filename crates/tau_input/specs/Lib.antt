@@ -1,3 +1,4 @@
+pub mod FaultNumbers
 pub mod Errors
 pub mod Parts
 pub mod Meaning

@@ -1,4 +1,5 @@
 //! The faults of inputs.
+use crate::InputFault;
 use std::alloc::AllocError;
 use tau_forms::ProgramError;
 use tau_sexpr::FormError;
@@ -34,11 +35,11 @@ impl From<FormError> for InputError {
 
     fn from(error: FormError) -> InputError {
         match error {
-            FormError::BadByte { at } => InputError::Fault { fault: 1, at },
-            FormError::Unopened { at } => InputError::Fault { fault: 2, at },
-            FormError::Unclosed { at } => InputError::Fault { fault: 3, at },
-            FormError::BadText { at } => InputError::Fault { fault: 4, at },
-            FormError::TooDeep { at } => InputError::Fault { fault: 5, at },
+            FormError::BadByte { at } => InputFault::BadByte.at(at),
+            FormError::Unopened { at } => InputFault::Unopened.at(at),
+            FormError::Unclosed { at } => InputFault::Unclosed.at(at),
+            FormError::BadText { at } => InputFault::BadText.at(at),
+            FormError::TooDeep { at } => InputFault::TooDeep.at(at),
             FormError::NoMemory => InputError::NoMemory,
         }
     }
@@ -52,13 +53,10 @@ impl From<ProgramError> for InputError {
 
     fn from(error: ProgramError) -> InputError {
         match error {
-            ProgramError::Shape { node } => InputError::Fault { fault: 6, at: node },
-            ProgramError::Unknown { node } => InputError::Fault { fault: 7, at: node },
-            ProgramError::Twice { node } => InputError::Fault { fault: 8, at: node },
-            ProgramError::Limit { which } => InputError::Fault {
-                fault: 9,
-                at: u64::from(which),
-            },
+            ProgramError::Shape { node } => InputFault::ProgramShape.at(node),
+            ProgramError::Unknown { node } => InputFault::ProgramUnknown.at(node),
+            ProgramError::Twice { node } => InputFault::ProgramTwice.at(node),
+            ProgramError::Limit { which } => InputFault::ProgramLimit.at(u64::from(which)),
             ProgramError::NoMemory => InputError::NoMemory,
         }
     }
@@ -72,14 +70,8 @@ impl From<StepError> for InputError {
 
     fn from(error: StepError) -> InputError {
         match error {
-            StepError::Shape { step } => InputError::Fault {
-                fault: 12,
-                at: step,
-            },
-            StepError::Unknown { step } => InputError::Fault {
-                fault: 13,
-                at: step,
-            },
+            StepError::Shape { step } => InputFault::StepShape.at(step),
+            StepError::Unknown { step } => InputFault::StepUnknown.at(step),
             StepError::NoMemory => InputError::NoMemory,
         }
     }

@@ -3,6 +3,7 @@
 #![tactic(auto)]
 
 mod errors;
+mod faults;
 mod laws;
 mod marks;
 mod parts;
@@ -10,6 +11,7 @@ mod printing;
 mod reading;
 
 pub use errors::InputError;
+pub use faults::InputFault;
 pub use laws::{inputs_are_unique, run_texts_are_read_back};
 pub use parts::RunText;
 pub use printing::program_text;

@@ -1,5 +1,5 @@
 //! The program and the trace that the forms of an input mean.
-ghost use Rattle.std.specs.Prelude.{◌≡◌, ◌+◌, ◌<◌, ◌≤◌, IfOk, IfErr, OnOk, [], ◌∷◌, ◌++◌, length, map, take};
+ghost use Rattle.std.specs.Prelude.{◌≡◌, ◌+◌, ◌<◌, ◌≤◌, IfOk, IfErr, length, map};
 ghost use Rattle.tau_sexpr.specs.Form.{tree_of};
 ghost use Rattle.tau_sexpr.specs.Tree.{depths};
 ghost use Rattle.tau_tree.specs.Sound.{Sound};
@@ -12,9 +12,9 @@ ghost use Rattle.tau_input.specs.Faults.{ProgramFault, StepsFault, PartsFault, M
 ghost use Rattle.tau_input.specs.Meaning.{MeansRun, MeansMarkedRun};
 ghost use Rattle.tau_input.specs.Parts.{program_forms, step_forms};
 
-use crate::InputError;
 use crate::marks::place_of_mark;
-use std::alloc::{AllocError, Global};
+use crate::{InputError, InputFault};
+use std::alloc::Global;
 use tau_forms::program_of;
 use tau_script::opening_of;
 use tau_sexpr::{Form, Forms};
@@ -36,6 +36,16 @@ pub(crate) fn whole_program(alloc: Global, forms: &Forms) -> Result<Program, Inp
     ensures sound { IfOk result Sound }
     ensures fault { IfErr result (TellsInputFault (ProgramFault forms.now)) }
 {
+    program_meant(alloc, forms.items())
+}
+
+/// The program that forms mean.
+fn program_meant(alloc: Global, forms: &[Form]) -> Result<Program, InputError>
+    requires { depths (map tree_of forms.now) ≤ 200 }
+    ensures program { IfOk result (Means (map tree_of forms.now)) }
+    ensures sound { IfOk result Sound }
+    ensures fault { IfErr result (TellsInputFault (ProgramFault (map tree_of forms.now))) }
+{
     Ok(program_of(alloc, forms)?)
 }
 
@@ -48,10 +58,7 @@ pub(crate) fn marked_text(alloc: Global, forms: &Forms) -> Result<RunText, Input
 {
     let mark = place_of_mark(forms.items(), b"trace");
     if mark == forms.len() {
-        return Err(InputError::Fault {
-            fault: 11,
-            at: mark as u64,
-        });
+        return Err(InputFault::NoTrace.at(mark as u64));
     }
     read_parts(alloc, forms, mark)
 }
@@ -85,7 +92,7 @@ fn read_parts(alloc: Global, forms: &Forms, mark: usize) -> Result<RunText, Inpu
     Ok(RunText { program, trace })
 }
 
-/// The program that the forms before a mark mean. They are copied.
+/// The program that the forms before a mark mean.
 fn program_before(alloc: Global, forms: &Forms, mark: usize) -> Result<Program, InputError>
     requires depth { depths forms.now ≤ 200 }
     requires mark { mark ≡ length (program_forms forms.now) }
@@ -93,8 +100,7 @@ fn program_before(alloc: Global, forms: &Forms, mark: usize) -> Result<Program, 
     ensures sound { IfOk result Sound }
     ensures fault { IfErr result (TellsInputFault (ProgramFault (program_forms forms.now))) }
 {
-    let front = copies_before(alloc, forms, mark)?;
-    whole_program(alloc, &front)
+    program_meant(alloc, &forms.items()[..mark])
 }
 
 /// The trace that the forms behind a mark mean, up to `(report)` or the end.
@@ -115,26 +121,4 @@ fn trace_behind(
     let to = from + place_of_mark(&forms.items()[from..end], b"report");
     let opening = opening_of(alloc, program)?;
     Ok(steps_of(alloc, forms, from, to, opening)?)
-}
-
-/// Copies of the first so many forms.
-fn copies_before(alloc: Global, forms: &Forms, end: usize) -> Result<Forms, AllocError>
-    requires { end ≤ length forms.now }
-    ensures { IfOk result (λ f. f ≡ take end forms.now) }
-{
-    let mut front = Forms::new(alloc);
-    for form in &forms.items()[..end] {
-        add(&mut front, form.copy()?)?;
-    }
-    Ok(front)
-}
-
-/// Adds a form at the end.
-fn add(forms: &mut Forms, form: Form) -> Result<(), AllocError>
-    ensures { OnOk result (forms.new ≡ forms.old ++ tree_of form ∷ []) }
-{
-    match forms.push(form) {
-        Ok(()) => Ok(()),
-        Err((_form, failed)) => Err(failed),
-    }
 }

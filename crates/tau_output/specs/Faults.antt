@@ -2,6 +2,8 @@
 use Rattle.std.specs.Prelude.{◌≡◌, ℕ, ◌<◌, ◌≤◌, Bool, true, false, IsTrue, List, length}
 use Rattle.tau_command.specs.declared.commands.Command.{Command}
 use Rattle.tau_command.specs.declared.commands.Command.TheVariants.{Run, Check, Audit, Report, Print, Gen, Drill}
+use Rattle.tau_input.specs.FaultNumbers.{fault_number}
+use Rattle.tau_input.specs.declared.faults.InputFault.TheVariants.{TooLong}
 use Rattle.tau_input.specs.Faults.{IsProgramFault, IsRunFault, IsPrintFault}
 
 -- how many bytes an input may have: 16 MiB
@@ -30,5 +32,5 @@ IsFaultOf (Drill number) bytes fault at = ⊥
 
 -- the input of a command has this fault at this place: too many bytes first
 pub data IsInputFault (command : Command) (bytes : List ℕ) (fault at : ℕ) : Type 0 where
-  too_long : IsTrue (reads_input command) → input_limit < length bytes → fault ≡ 10 → at ≡ input_limit → IsInputFault command bytes fault at
+  too_long : IsTrue (reads_input command) → input_limit < length bytes → fault ≡ fault_number TooLong → at ≡ input_limit → IsInputFault command bytes fault at
   within : length bytes ≤ input_limit → IsFaultOf command bytes fault at → IsInputFault command bytes fault at

@@ -1,5 +1,5 @@
 //! The command `drill`.
-ghost use Rattle.std.specs.Prelude.{◌≡◌, [], ◌∷◌, ◌++◌, IfOk, OnOk};
+ghost use Rattle.std.specs.Prelude.{◌≡◌, IfOk};
 ghost use Rattle.tau_sexpr.specs.Form.{tree_of};
 ghost use Rattle.tau_sexpr.specs.Tree.{HasWords};
 ghost use Rattle.tau_sexpr.specs.Printing.{printed};
@@ -41,8 +41,8 @@ fn lines_of(alloc: Global, program: &Program, trace: &Trace) -> Result<Vec<u8>, 
     ensures { IfOk result (λ v. v.items ≡ printed (drill_lines trace.now.run)) }
 {
     let mut lines = Forms::new(alloc);
-    add(&mut lines, steps_form(alloc, trace.len())?)?;
-    add(&mut lines, counts_form(alloc, program, trace)?)?;
+    lines.add(steps_form(alloc, trace.len())?)?;
+    lines.add(counts_form(alloc, program, trace)?)?;
     print_forms(alloc, &lines)
 }
 
@@ -53,11 +53,8 @@ fn steps_form(alloc: Global, steps: u32) -> Result<Form, AllocError>
     ensures words { IfOk result (λ f. HasWords (tree_of f)) }
 {
     let mut items = Forms::new(alloc);
-    add(&mut items, Form::Word(Word::of(alloc, b"steps")?))?;
-    add(
-        &mut items,
-        Form::Word(word_of_count(alloc, u64::from(steps))?),
-    )?;
+    items.add(Form::Word(Word::of(alloc, b"steps")?))?;
+    items.add(Form::Word(word_of_count(alloc, u64::from(steps))?))?;
     Ok(Form::List(items))
 }
 
@@ -72,15 +69,5 @@ fn counts_form(alloc: Global, program: &Program, trace: &Trace) -> Result<Form, 
     match report.item(report.len() - 1) {
         Some(counts) => counts.copy(),
         None => unreachable!(),
-    }
-}
-
-// Adds a form at the end.
-fn add(forms: &mut Forms, form: Form) -> Result<(), AllocError>
-    ensures { OnOk result (forms.new ≡ forms.old ++ tree_of form ∷ []) }
-{
-    match forms.push(form) {
-        Ok(()) => Ok(()),
-        Err((_form, failed)) => Err(failed),
     }
 }

@@ -1,5 +1,5 @@
 //! Parts of forms.
-ghost use Rattle.std.specs.Prelude.{◌≡◌, ◌∷◌, ◌++◌, [], All, IfOk, OnOk};
+ghost use Rattle.std.specs.Prelude.{◌≡◌, ◌∷◌, [], All, IfOk};
 ghost use Rattle.tau_sexpr.specs.Bytes.{IsWordByte};
 ghost use Rattle.tau_sexpr.specs.Form.{tree_of};
 ghost use Rattle.tau_sexpr.specs.Tree as tree;
@@ -12,23 +12,13 @@ use tau_sexpr::{Form, Forms, Word};
 use tau_trace::Opening;
 use tau_value::word_of_count;
 
-/// Adds a form at the end.
-pub(crate) fn add(forms: &mut Forms, form: Form) -> Result<(), AllocError>
-    ensures { OnOk result (forms.new ≡ forms.old ++ tree_of form ∷ []) }
-{
-    match forms.push(form) {
-        Ok(()) => Ok(()),
-        Err((_form, failed)) => Err(failed),
-    }
-}
-
 /// A list that begins with a word.
 pub(crate) fn headed(alloc: Global, bytes: &[u8]) -> Result<Forms, AllocError>
     requires { All IsWordByte bytes.now }
     ensures { IfOk result (λ f. f ≡ tree.word bytes.now ∷ []) }
 {
     let mut forms = Forms::new(alloc);
-    add(&mut forms, Form::Word(Word::of(alloc, bytes)?))?;
+    forms.add(Form::Word(Word::of(alloc, bytes)?))?;
     Ok(forms)
 }
 
@@ -56,6 +46,6 @@ pub(crate) fn form_of_named(alloc: Global, bytes: &[u8], count: u32) -> Result<F
     ensures { IfOk result (λ f. tree_of f ≡ count_of bytes.now count) }
 {
     let mut items = headed(alloc, bytes)?;
-    add(&mut items, form_of_count(alloc, count)?)?;
+    items.add(form_of_count(alloc, count)?)?;
     Ok(Form::List(items))
 }

@@ -6,7 +6,7 @@ ghost use Rattle.tau_trace.specs.StepForms.{IsWritten};
 ghost use Rattle.tau_report.specs.Inner.Rows as rows;
 ghost use Rattle.tau_report.specs.Inner.Rows.{saved_form, saved_row, IsRowWritten, AreRows};
 
-use crate::parts::{add, form_of_count, form_of_who, headed};
+use crate::parts::{form_of_count, form_of_who, headed};
 use std::alloc::{AllocError, Global};
 use tau_sexpr::{Form, Forms};
 use tau_states::StateRecord;
@@ -45,7 +45,7 @@ fn add_saved(
     if is_unlisted(record) {
         return Ok(());
     }
-    add(forms, form_of_saved(alloc, opening, who, record)?)
+    forms.add(form_of_saved(alloc, opening, who, record)?)
 }
 
 /// Whether a transactor has ended or is at interval 0.
@@ -68,8 +68,8 @@ fn form_of_saved(
     ensures written { OnOk result (IsWritten opening.now.names record.now.base) }
 {
     let mut items = headed(alloc, b"saved")?;
-    add(&mut items, form_of_who(alloc, opening, who)?)?;
-    add(&mut items, form_of_count(alloc, record.interval)?)?;
-    add(&mut items, form_of(alloc, &record.base, &opening.names)?)?;
+    items.add(form_of_who(alloc, opening, who)?)?;
+    items.add(form_of_count(alloc, record.interval)?)?;
+    items.add(form_of(alloc, &record.base, &opening.names)?)?;
     Ok(Form::List(items))
 }

@@ -8,7 +8,7 @@ ghost use Rattle.tau_report.specs.Report.{IsReport, IsReportText};
 ghost use Rattle.tau_report.specs.Inner.Rows.{counts_tree};
 
 use crate::counts::Counts;
-use crate::parts::{add, form_of_named, headed};
+use crate::parts::{form_of_named, headed};
 use crate::saved::saved_forms;
 use crate::survey::survey_of;
 use std::alloc::{AllocError, Global};
@@ -38,7 +38,7 @@ pub fn report_forms(alloc: Global, program: &Program, trace: &Trace) -> Result<F
 {
     let survey = survey_of(alloc, &program.starts, trace)?;
     let mut forms = saved_forms(alloc, trace.opening(), survey.states.records())?;
-    add(&mut forms, form_of_counts(alloc, survey.counts)?)?;
+    forms.add(form_of_counts(alloc, survey.counts)?)?;
     Ok(forms)
 }
 
@@ -48,13 +48,10 @@ fn form_of_counts(alloc: Global, counts: Counts) -> Result<Form, AllocError>
     ensures { IfOk result (λ f. tree_of f ≡ counts_tree counts) }
 {
     let mut items = headed(alloc, b"counts")?;
-    add(
-        &mut items,
-        form_of_named(alloc, b"checkpoints", counts.checkpoints)?,
-    )?;
-    add(&mut items, form_of_named(alloc, b"holds", counts.holds)?)?;
-    add(&mut items, form_of_named(alloc, b"drops", counts.drops)?)?;
-    add(&mut items, form_of_named(alloc, b"falls", counts.falls)?)?;
-    add(&mut items, form_of_named(alloc, b"losses", counts.losses)?)?;
+    items.add(form_of_named(alloc, b"checkpoints", counts.checkpoints)?)?;
+    items.add(form_of_named(alloc, b"holds", counts.holds)?)?;
+    items.add(form_of_named(alloc, b"drops", counts.drops)?)?;
+    items.add(form_of_named(alloc, b"falls", counts.falls)?)?;
+    items.add(form_of_named(alloc, b"losses", counts.losses)?)?;
     Ok(Form::List(items))
 }

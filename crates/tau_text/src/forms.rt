@@ -1,7 +1,6 @@
 //! The forms of a run text, and the text.
 ghost use Rattle.std.specs.Prelude.{◌≡◌, ◌∷◌, ◌++◌, [], All, IfOk, OnOk};
 ghost use Rattle.tau_sexpr.specs.Bytes.{IsWordByte};
-ghost use Rattle.tau_sexpr.specs.Form.{tree_of};
 ghost use Rattle.tau_tree.specs.Sound.{Sound};
 ghost use Rattle.tau_trace.specs.Run.{len};
 ghost use Rattle.tau_script.specs.Openings.{program_opening};
@@ -49,8 +48,8 @@ fn add_mark(alloc: Global, forms: &mut Forms, word: &[u8]) -> Result<(), AllocEr
     ensures { OnOk result (forms.new ≡ forms.old ++ mark_of word.now ∷ []) }
 {
     let mut items = Forms::new(alloc);
-    add(&mut items, Form::Word(Word::of(alloc, word)?))?;
-    add(forms, Form::List(items))
+    items.add(Form::Word(Word::of(alloc, word)?))?;
+    forms.add(Form::List(items))
 }
 
 /// Adds the forms of the steps of a trace, in order.
@@ -58,7 +57,7 @@ fn add_steps(alloc: Global, forms: &mut Forms, trace: &Trace) -> Result<(), Allo
     ensures { OnOk result (AddsSteps trace.now.run (len trace.now.run) forms.old forms.new) }
 {
     for place in 0..trace.len() {
-        add(forms, form_of_step(alloc, trace, place)?)?;
+        forms.add(form_of_step(alloc, trace, place)?)?;
     }
     Ok(())
 }
@@ -68,17 +67,7 @@ fn add_copies(forms: &mut Forms, more: &Forms) -> Result<(), AllocError>
     ensures { OnOk result (forms.new ≡ forms.old ++ more.now) }
 {
     for form in more.items() {
-        add(forms, form.copy()?)?;
+        forms.add(form.copy()?)?;
     }
     Ok(())
-}
-
-/// Adds a form at the end.
-fn add(forms: &mut Forms, form: Form) -> Result<(), AllocError>
-    ensures { OnOk result (forms.new ≡ forms.old ++ tree_of form ∷ []) }
-{
-    match forms.push(form) {
-        Ok(()) => Ok(()),
-        Err((_form, failed)) => Err(failed),
-    }
 }

@@ -10,14 +10,14 @@ saved_forms-requires-clause-few c =
 pub returns-clause-report : goal.returns-clause-report
 returns-clause-report c =
     let survey = c.in_ok-survey.survey in
-    (report_is c.args.program.now c.args.trace.now.run c.opening.result.now survey.states.records c.records.result.now survey.counts c.in_ok-forms.forms c.add.new.forms (tree_of c.in_ok-form_of_counts.field-0) c.requires.sound c.in_ok-survey.ensures.well_formed c.in_ok-survey.ensures.survey c.opening.ensures.value c.records.ensures c.in_ok-forms.ensures c.in_ok-add.ensures c.in_ok-form_of_counts.ensures).0
+    (report_is c.args.program.now c.args.trace.now.run c.opening.result.now survey.states.records c.records.result.now survey.counts c.in_ok-forms.forms c.add.new.self (tree_of c.in_ok-form_of_counts.field-0) c.requires.sound c.in_ok-survey.ensures.well_formed c.in_ok-survey.ensures.survey c.opening.ensures.value c.records.ensures c.in_ok-forms.ensures c.in_ok-add.ensures.ok c.in_ok-form_of_counts.ensures).0
 
 pub returns-clause-depth : goal.returns-clause-depth
 returns-clause-depth c =
     let survey = c.in_ok-survey.survey in
-    (report_is c.args.program.now c.args.trace.now.run c.opening.result.now survey.states.records c.records.result.now survey.counts c.in_ok-forms.forms c.add.new.forms (tree_of c.in_ok-form_of_counts.field-0) c.requires.sound c.in_ok-survey.ensures.well_formed c.in_ok-survey.ensures.survey c.opening.ensures.value c.records.ensures c.in_ok-forms.ensures c.in_ok-add.ensures c.in_ok-form_of_counts.ensures).1.depth
+    (report_is c.args.program.now c.args.trace.now.run c.opening.result.now survey.states.records c.records.result.now survey.counts c.in_ok-forms.forms c.add.new.self (tree_of c.in_ok-form_of_counts.field-0) c.requires.sound c.in_ok-survey.ensures.well_formed c.in_ok-survey.ensures.survey c.opening.ensures.value c.records.ensures c.in_ok-forms.ensures c.in_ok-add.ensures.ok c.in_ok-form_of_counts.ensures).1.depth
 
 pub returns-clause-words : goal.returns-clause-words
 returns-clause-words c =
     let survey = c.in_ok-survey.survey in
-    (report_is c.args.program.now c.args.trace.now.run c.opening.result.now survey.states.records c.records.result.now survey.counts c.in_ok-forms.forms c.add.new.forms (tree_of c.in_ok-form_of_counts.field-0) c.requires.sound c.in_ok-survey.ensures.well_formed c.in_ok-survey.ensures.survey c.opening.ensures.value c.records.ensures c.in_ok-forms.ensures c.in_ok-add.ensures c.in_ok-form_of_counts.ensures).1.words
+    (report_is c.args.program.now c.args.trace.now.run c.opening.result.now survey.states.records c.records.result.now survey.counts c.in_ok-forms.forms c.add.new.self (tree_of c.in_ok-form_of_counts.field-0) c.requires.sound c.in_ok-survey.ensures.well_formed c.in_ok-survey.ensures.survey c.opening.ensures.value c.records.ensures c.in_ok-forms.ensures c.in_ok-add.ensures.ok c.in_ok-form_of_counts.ensures).1.words

@@ -7,5 +7,5 @@ loop-place-init c = steps_none c.args.trace.now.run c.args.forms.now
 
 pub loop-place-preserved : goal.loop-place-preserved
 loop-place-preserved c =
-    steps_more c.args.trace.now.run c.loop-place.place c.args.forms.now c.loop-place.forms c.add.new.forms (tree_of c.in_ok-form_of_step.field-0) c.in_ok-add.ensures
+    steps_more c.args.trace.now.run c.loop-place.place c.args.forms.now c.loop-place.forms c.add.new.self (tree_of c.in_ok-form_of_step.field-0) c.in_ok-add.ensures.ok
     c.in_ok-form_of_step.ensures.form (c.in_ok-form_of_step.ensures.value) c.in_ok-form_of_step.ensures.depth c.in_ok-form_of_step.ensures.words c.loop-place.invariant
