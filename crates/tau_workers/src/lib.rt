@@ -1,9 +1,10 @@
-//! A run of a program to its end by several workers, on threads, over one book under a lock.
+//! A run of a program to its end by several workers, on threads, each at a seat at one book.
 #![tactic(auto)]
 
 mod gates;
 mod locked;
 mod running;
+mod seats;
 mod workers;
 
 pub use gates::{Gate, OpenGate};
