@@ -32,12 +32,12 @@ impl Model for Log {
     ghost Value = { Told };
 
     ghost view = { λ l. record {
-        versions = l.versions.items;
-        takes = l.takes.items;
-        closed = l.closed.items;
-        spare_versions = vec_capacity l.versions - vec_len l.versions;
-        spare_takes = vec_capacity l.takes - vec_len l.takes;
-        spare_closed = vec_capacity l.closed - vec_len l.closed
+      versions = l.versions.items;
+      takes = l.takes.items;
+      closed = l.closed.items;
+      spare_versions = vec_capacity l.versions - vec_len l.versions;
+      spare_takes = vec_capacity l.takes - vec_len l.takes;
+      spare_closed = vec_capacity l.closed - vec_len l.closed;
     } };
 }
 
