@@ -1,6 +1,9 @@
 //! Laws of versions, each the contract of a function that does nothing.
+ghost use Rattle.tau_logs.specs.Known.{FatesAtBoundsTellTheKnown};
 ghost use Rattle.tau_logs.specs.Laws.{LatestIsUnique, LatestOfTheGreaterPlace, LatestStaysLatest, LogsStay, LogsAreLocal};
 ghost use Rattle.tau_logs.specs.Takes.{TakenStays, ReachedPointsHaveTakenNothing, SetsTakeTheRoots, LaterSetsTakeNothingNew, TakesGoOn};
+
+use tau_past::AnyPlaces;
 
 /// At a place at most one version is the latest.
 pub fn latest_is_unique()
@@ -50,4 +53,9 @@ pub fn later_sets_take_nothing_new()
 /// With a version that tells what its point has taken, a log goes on.
 pub fn takes_go_on()
     ensures { TakesGoOn }
+{}
+
+/// By the bound of what was heard, a version tells what is known of its transactor's points.
+pub fn fates_at_bounds_tell_the_known<H: AnyPlaces>()
+    ensures { FatesAtBoundsTellTheKnown H.holds }
 {}
