@@ -28,7 +28,12 @@ pub trait Knowledge: Sized {
         ensures { IfOk result (λ k. (o : Opening) → IsSound o → length o.names ≡ starts → length o.targets ≡ posts → knows k (opened o)) };
 
     /// What a step at the end of the run changes, with all memory that it takes. The error is want of memory.
-    fn prepare(&mut self, alloc: Global, trace: &Trace, step: &Step) -> Result<Self::Change, AllocError>
+    fn prepare(
+        &mut self,
+        alloc: Global,
+        trace: &Trace,
+        step: &Step,
+    ) -> Result<Self::Change, AllocError>
         requires knows { knows self.old trace.now.run }
         requires follows { MayFollow trace.now.run step.now }
         requires ready { IsReady trace.now.run step.now }
@@ -40,7 +45,13 @@ pub trait Knowledge: Sized {
         ensures { (T : Run) → leads self.old change T → knows self.new T };
 
     /// What becomes of a message in flight at its receipt by `who` (docs/rules.md, "Verdict"). The error is want of memory.
-    fn verdict(&self, alloc: Global, trace: &Trace, who: u32, message: u32) -> Result<Receipt, AllocError>
+    fn verdict(
+        &self,
+        alloc: Global,
+        trace: &Trace,
+        who: u32,
+        message: u32,
+    ) -> Result<Receipt, AllocError>
         requires knows { knows self.now trace.now.run }
         requires rules { KeepsRules trace.now.run }
         requires exists { who < born trace.now.run (len trace.now.run) }

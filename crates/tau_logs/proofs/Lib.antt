@@ -1,2 +1,4 @@
+pub mod Known
 pub mod Latest
+pub mod Taking
 pub mod Telling

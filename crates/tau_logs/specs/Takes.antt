@@ -11,7 +11,7 @@ use Rattle.tau_past.specs.Heard.{Own, Heard}
 use Rattle.tau_past.specs.Pasts.{ClosesAt}
 use Rattle.tau_logs.specs.declared.version.Version.{Version}
 use Rattle.tau_logs.specs.Versions.{IsLatest}
-use Rattle.tau_logs.specs.Told.{Told, TellsHistories}
+use Rattle.tau_logs.specs.Told.{Told}
 
 -- what the version's point has taken
 abbrev pub taken : List Point → Version → List Point
@@ -35,7 +35,7 @@ pub record TellsTaken (T : Run) (u a : ℕ) (listed : List Point) : Type 0 where
 
 -- the log tells at each place up to n what u's point there has taken
 pub record TellsTakes (T : Run) (u n : ℕ) (log : Told) : Type 0 where
-  pub within : (i : ℕ) (v : Version) → slice_get log.versions i ≡ Some v → v.last ≤ length log.takes
+  pub within : (i : ℕ) (v : Version) → slice_get log.versions i ≡ Some v → (v.first ≤ v.last) × (v.last ≤ length log.takes)
   pub told : (a i : ℕ) (v : Version) → a ≤ n → IsLatest log.versions a i v → TellsTaken T u a (taken log.takes v)
 
 -- where the point stays and takes nothing, what it has taken stays
@@ -45,7 +45,7 @@ TakenStays = (T : Run) (u n : ℕ) (listed : List Point) → point_at T u (suc n
 
 -- a point that was reached by a Checkpoint or a falling step has taken nothing
 abbrev pub ReachedPointsHaveTakenNothing : Type 0
-ReachedPointsHaveTakenNothing = (T : Run) (u n : ℕ) → Leaves T u n → TellsTaken T u (suc n) []
+ReachedPointsHaveTakenNothing = (T : Run) (u n : ℕ) → WellFormed T → Leaves T u n → TellsTaken T u (suc n) []
 
 -- the roots of u at place n are pending there, and cover all that is
 pub record TellsPending (T : Run) (u n : ℕ) (roots : List Point) : Type 0 where
@@ -66,5 +66,5 @@ LaterSetsTakeNothingNew = (T : Run) (u n : ℕ) (listed : List Point) → Does i
 -- with a version that begins after place n the log goes on
 abbrev pub TakesGoOn : Type 0
 TakesGoOn = (T : Run) (u n : ℕ) (old new : Told) (v : Version) (more : List Point) → new.versions ≡ old.versions ++ v ∷ [] → new.takes ≡ old.takes ++ more
-    → v.from ≡ suc n → v.last ≤ length new.takes → TellsTaken T u (suc n) (taken new.takes v)
-    → TellsHistories T u n old → TellsTakes T u n old → TellsTakes T u (suc n) new
+    → v.from ≡ suc n → v.first ≤ v.last → v.last ≤ length new.takes → TellsTaken T u (suc n) (taken new.takes v)
+    → TellsTakes T u n old → TellsTakes T u (suc n) new

@@ -1,5 +1,9 @@
 //! Laws of versions, each the contract of a function that does nothing.
+ghost use Rattle.tau_logs.specs.Known.{FatesAtBoundsTellTheKnown};
 ghost use Rattle.tau_logs.specs.Laws.{LatestIsUnique, LatestOfTheGreaterPlace, LatestStaysLatest, LogsStay, LogsAreLocal};
+ghost use Rattle.tau_logs.specs.Takes.{TakenStays, ReachedPointsHaveTakenNothing, SetsTakeTheRoots, LaterSetsTakeNothingNew, TakesGoOn};
+
+use tau_past::AnyPlaces;
 
 /// At a place at most one version is the latest.
 pub fn latest_is_unique()
@@ -24,4 +28,34 @@ pub fn logs_stay()
 /// A log is right for each run with these steps.
 pub fn logs_are_local()
     ensures { LogsAreLocal }
+{}
+
+/// A point that stays and takes nothing has taken what it had.
+pub fn taken_stays()
+    ensures { TakenStays }
+{}
+
+/// A point that is reached by a Checkpoint or a falling step has taken nothing yet.
+pub fn reached_points_have_taken_nothing()
+    ensures { ReachedPointsHaveTakenNothing }
+{}
+
+/// By a Set the point takes each other root.
+pub fn sets_take_the_roots()
+    ensures { SetsTakeTheRoots }
+{}
+
+/// By a further Set of a turn the point takes nothing that it hasn't taken.
+pub fn later_sets_take_nothing_new()
+    ensures { LaterSetsTakeNothingNew }
+{}
+
+/// With a version that tells what its point has taken, a log goes on.
+pub fn takes_go_on()
+    ensures { TakesGoOn }
+{}
+
+/// By the bound of what was heard, a version tells what is known of its transactor's points.
+pub fn fates_at_bounds_tell_the_known<H: AnyPlaces>()
+    ensures { FatesAtBoundsTellTheKnown H.holds }
 {}

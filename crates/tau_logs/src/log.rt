@@ -32,12 +32,12 @@ impl Model for Log {
     ghost Value = { Told };
 
     ghost view = { λ l. record {
-        versions = l.versions.items;
-        takes = l.takes.items;
-        closed = l.closed.items;
-        spare_versions = vec_capacity l.versions - vec_len l.versions;
-        spare_takes = vec_capacity l.takes - vec_len l.takes;
-        spare_closed = vec_capacity l.closed - vec_len l.closed
+      versions = l.versions.items;
+      takes = l.takes.items;
+      closed = l.closed.items;
+      spare_versions = vec_capacity l.versions - vec_len l.versions;
+      spare_takes = vec_capacity l.takes - vec_len l.takes;
+      spare_closed = vec_capacity l.closed - vec_len l.closed;
     } };
 }
 
@@ -143,6 +143,19 @@ impl Log {
         self.versions.push_reserved(version);
     }
 
+    /// Adds takes, and a version at the same point. It takes no memory.
+    pub fn take(&mut self, points: &[Point], version: Version)
+        requires spare { 1 ≤ self.old.spare_versions }
+        requires spare_takes { length points.now ≤ self.old.spare_takes }
+        ensures versions { self.new.versions ≡ self.old.versions ++ version ∷ [] }
+        ensures takes { self.new.takes ≡ self.old.takes ++ points.now }
+        ensures tells { (T : Run) (u n : ℕ) → version.from ≡ suc n → IsVersionOf version (history T u (suc n)) → (history T u (suc n)).closed ≡ (history T u n).closed
+            → TellsHistories T u n self.old → TellsHistories T u (suc n) self.new }
+    {
+        put_all(&mut self.takes, points);
+        self.versions.push_reserved(version);
+    }
+
     /// Closes the interval with an incarnation, and adds the first version at the next one. It takes no memory.
     pub fn close(&mut self, incarnation: u32, version: Version)
         requires spare { 1 ≤ self.old.spare_versions }
@@ -181,5 +194,16 @@ fn fate_in(version: &Version, closed: &[u32], interval: u32, incarnation: u32) -
         Some(_) if interval != version.interval => Fate::Closed,
         Some(_) if version.stable => Fate::Stable,
         Some(_) => Fate::Open,
+    }
+}
+
+// Appends points, for which there is room.
+fn put_all(takes: &mut Vec<Point>, points: &[Point])
+    requires room { length takes.old.items + length points.now ≤ vec_capacity takes.old }
+    ensures { takes.new.items ≡ takes.old.items ++ points.now }
+{
+    match takes.extend_from_slice(points) {
+        Ok(()) => {}
+        Err(_) => unreachable!(),
     }
 }

@@ -43,6 +43,20 @@ impl Version {
         }
     }
 
+    /// The version whose point has taken what stands in this range.
+    pub fn taking(self, first: u32, last: u32, from: u32) -> Version
+        ensures tells { (h : Timeline) → IsVersionOf self h → IsVersionOf result h }
+        ensures from { result.from ≡ from }
+        ensures takes { (result.first ≡ first) × (result.last ≡ last) }
+    {
+        Version {
+            first,
+            last,
+            from,
+            ..self
+        }
+    }
+
     /// The version after a falling step: the next incarnation, without takes.
     pub fn fallen(self, from: u32) -> Version
         requires fits { self.incarnation < 2 ^ 32 - 1 }
