@@ -2,7 +2,7 @@
 ghost use Rattle.std.specs.Prelude.{◌≡◌, ◌<◌, ◌≤◌, false, IfOk, IfSome, IsErr, IsErrOf, IsTrue, length, vec_len};
 ghost use Rattle.tau_io.specs.Faults.{HasRisen};
 ghost use Rattle.tau_output.specs.Faults.{input_limit, reads_input as reads};
-ghost use Rattle.tau_output.specs.Writing.{Writes};
+ghost use Rattle.tau_output.specs.Writing.{WritesSerially};
 ghost use Rattle.tau_cli.specs.Ends.{Ends, Finds, effect_on};
 ghost use Rattle.tau_cli.specs.Output.{AreLeft, IsTooLong};
 
@@ -30,8 +30,8 @@ pub fn tau_still<I: Source, O: Sink>(
     input: &mut I,
     output: &mut O,
 ) -> Status
-    // With `run` the text is as `RunsSerially` says.
-    ensures { Ends Writes words.now (effect_on I.left I.faults input.old input.new)
+    // With `run` the text is as `RunsBy` says of one worker.
+    ensures { Ends WritesSerially words.now (effect_on I.left I.faults input.old input.new)
         (effect_on O.held O.faults output.old output.new) result }
 {
     match output_for(alloc, words, input) {
@@ -46,7 +46,7 @@ pub fn tau_still<I: Source, O: Sink>(
 
 // What the words ask for, or the status with which they end before anything is written.
 fn output_for<I: Source>(alloc: Global, words: &Words, input: &mut I) -> Result<Output, Status>
-    ensures { Finds Writes words.now (effect_on I.left I.faults input.old input.new) result }
+    ensures { Finds WritesSerially words.now (effect_on I.left I.faults input.old input.new) result }
 {
     let command = read_words(alloc, words)?;
     let bytes = read_input(alloc, &command, input)?;

@@ -2,7 +2,7 @@
 ghost use Rattle.std.specs.Prelude.{◌≡◌, ℕ, List, Result};
 ghost use Rattle.std.specs.Process.{exit_status};
 ghost use Rattle.tau_command.specs.declared.commands.WordsError.{WordsError};
-ghost use Rattle.tau_output.specs.Writing.{WritesTogether};
+ghost use Rattle.tau_output.specs.Writing.{Writes};
 ghost use Rattle.tau_cli.specs.Ends.{EndsFor, Exits, effect_on};
 ghost use Rattle.tau_cli.specs.Status.{number_of};
 
@@ -29,7 +29,7 @@ pub fn run_process<R: Env + Alloc + Eprint + Threads + Wait + Sync, I: Source, O
     output: &mut O,
 ) -> ExitCode
     ensures { (words : Result (List (List ℕ)) WordsError)
-        × Exits WritesTogether words (effect_on I.left I.faults input.old input.new)
+        × Exits Writes words (effect_on I.left I.faults input.old input.new)
         (effect_on O.held O.faults output.old output.new) (exit_status result) }
 {
     let words = collect_words(rt, alloc);
@@ -45,7 +45,7 @@ pub fn run_words<R: Eprint + Threads + Wait + Sync, I: Source, O: Sink>(
     input: &mut I,
     output: &mut O,
 ) -> ExitCode
-    ensures { Exits WritesTogether words (effect_on I.left I.faults input.old input.new)
+    ensures { Exits Writes words (effect_on I.left I.faults input.old input.new)
         (effect_on O.held O.faults output.old output.new) (exit_status result) }
 {
     let status = call_tau(rt, alloc, words, input, output);
@@ -71,7 +71,7 @@ fn call_tau<R: Threads + Wait + Sync, I: Source, O: Sink>(
     input: &mut I,
     output: &mut O,
 ) -> Status
-    ensures { EndsFor WritesTogether words (effect_on I.left I.faults input.old input.new)
+    ensures { EndsFor Writes words (effect_on I.left I.faults input.old input.new)
         (effect_on O.held O.faults output.old output.new) result }
 {
     match words {

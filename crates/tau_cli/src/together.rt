@@ -1,5 +1,5 @@
 //! The commands where `run` starts several workers, from the words to the status.
-ghost use Rattle.tau_output.specs.Writing.{WritesTogether};
+ghost use Rattle.tau_output.specs.Writing.{Writes};
 ghost use Rattle.tau_cli.specs.Ends.{Ends, Finds, effect_on};
 
 use crate::Status;
@@ -24,8 +24,8 @@ pub fn tau<R: Threads + Wait + Sync, I: Source, O: Sink, G: Gate + Sync>(
     output: &mut O,
     gate: &G,
 ) -> Status
-    // With `run` the text is as `RunsTogether` says.
-    ensures { Ends WritesTogether words.now (effect_on I.left I.faults input.old input.new)
+    // With `run` the text is as `RunsBy` says of as many workers as are told.
+    ensures { Ends Writes words.now (effect_on I.left I.faults input.old input.new)
         (effect_on O.held O.faults output.old output.new) result }
 {
     match output_together(rt, alloc, words, input, gate) {
@@ -46,7 +46,7 @@ fn output_together<R: Threads + Wait + Sync, I: Source, G: Gate + Sync>(
     input: &mut I,
     gate: &G,
 ) -> Result<Output, Status>
-    ensures { Finds WritesTogether words.now (effect_on I.left I.faults input.old input.new) result }
+    ensures { Finds Writes words.now (effect_on I.left I.faults input.old input.new) result }
 {
     let command = read_words(alloc, words)?;
     let bytes = read_input(alloc, &command, input)?;

@@ -1,5 +1,5 @@
 -- What is written for an input is determined, and comes only where the input has no fault.
-use Rattle.std.proofs.Common.{◌≡◌, ◌⊎◌, inl, inr, ℕ, ◌<◌, ◌≤◌, List, length, Some, Result, Ok, Err, IfOk, IfErr, refl, sym, ap, subst, ◌∙◌, arith}
+use Rattle.std.proofs.Common.{◌≡◌, ◌⊎◌, inl, inr, ℕ, ◌<◌, ◌≤◌, List, length, Some, Result, Ok, Err, IfOk, IfErr, IsTrue, refl, sym, ap, subst, ◌∙◌, arith}
 use Rattle.tau_sexpr.specs.Printing.{printed}
 use Rattle.tau_points.specs.declared.point.Point.{Point}
 use Rattle.tau_points.proofs.PointOrder.{point_cmp-total}
@@ -20,10 +20,10 @@ use Rattle.tau_input.proofs.FaultLemmas.{program_unique, run_unique, print_uniqu
 use Rattle.tau_output.specs.declared.outputs.End.{End}
 use Rattle.tau_output.specs.declared.outputs.Output.{Output}
 use Rattle.tau_output.specs.declared.outputs.End.TheVariants.{Done, Stopped, Bad, Broken}
-use Rattle.tau_output.specs.Faults.{input_limit, IsFaultOf, IsInputFault, too_long, within}
+use Rattle.tau_output.specs.Faults.{input_limit, reads_input, IsFaultOf, IsInputFault, too_long, within}
 use Rattle.tau_output.specs.Checks.{IsChecked, bad_line, ChecksAs}
 use Rattle.tau_output.specs.Audits.{IsAudited, broken_line, AuditsAs}
-use Rattle.tau_output.specs.Writing.{Answers, Writes}
+use Rattle.tau_output.specs.Writing.{Answers, Writes, by_one_worker, WritesSerially}
 use Rattle.tau_output.specs.Reports.{ReportsAs}
 use Rattle.tau_output.specs.Printing.{PrintsAs}
 use Rattle.tau_output.proofs.SerialLemmas.{runs_once, drills_once}
@@ -78,15 +78,40 @@ pub fault_within : (command : Command) (bytes : List ℕ) (r : Result Output Inp
 fault_within command bytes (Ok o) l t = tt
 fault_within command bytes (Err e) l t = tells_within command bytes e l t
 
+-- what one worker alone writes, or one of the other commands, is what the command writes with as many workers as it is told
+serially_answered : (command : Command) (bytes : List ℕ) (end : End) (text : List ℕ) → Answers (by_one_worker command) bytes end text → Answers command bytes end text
+serially_answered (RunCommand workers jobs seed steps) bytes end text w = record { runs = w.runs; serial = λ l. w.serial (omega arith) }
+serially_answered Check bytes end text w = w
+serially_answered Audit bytes end text w = w
+serially_answered Report bytes end text w = w
+serially_answered Print bytes end text w = w
+serially_answered (Gen number) bytes end text w = w
+serially_answered (Drill number) bytes end text w = w
+
+-- a command on one thread reads an input where the command reads one
+same_reading : (command : Command) → IsTrue (reads_input command) → IsTrue (reads_input (by_one_worker command))
+same_reading (RunCommand workers jobs seed steps) reads = reads
+same_reading Check reads = reads
+same_reading Audit reads = reads
+same_reading Report reads = reads
+same_reading Print reads = reads
+same_reading (Gen number) reads = reads
+same_reading (Drill number) reads = reads
+
+pub serially_written : (command : Command) (bytes : List ℕ) (r : Result Output InputError) → IfOk r (λ o. WritesSerially command bytes o.end o.text.items) → IfOk r (λ o. Writes command bytes o.end o.text.items)
+serially_written command bytes (Ok o) w =
+    record { few = λ reads. w.few (same_reading command reads); answers = serially_answered command bytes o.end o.text.items w.answers }
+serially_written command bytes (Err e) w = tt
+
 answered : (kind : Command) (bytes : List ℕ) (r : Result Output InputError) → length bytes ≤ input_limit → IfOk r (λ o. Answers kind bytes o.end o.text.items) → IfOk r (λ o. Writes kind bytes o.end o.text.items)
 answered kind bytes (Ok o) l w = record { few = λ reads. l; answers = w }
 answered kind bytes (Err e) l w = tt
 
 -- and so of what a command answers for bytes that aren't too many
-pub answer_told : (command kind : Command) (bytes : List ℕ) (r : Result Output InputError) → command ≡ kind → length bytes ≤ input_limit → IfOk r (λ o. Answers kind bytes o.end o.text.items)
+pub answer_told : (command kind : Command) (bytes : List ℕ) (r : Result Output InputError) → command ≡ kind → length bytes ≤ input_limit → IfOk r (λ o. Answers (by_one_worker kind) bytes o.end o.text.items)
     → IfErr r (TellsInputFault (IsFaultOf kind bytes)) → (a b : ℕ) → IsInputFault command bytes a b → (r ≡ Err (Fault a b)) ⊎ (r ≡ Err NoMemory)
 answer_told command kind bytes r same l w t a b f =
-    fault_told kind bytes r (answered kind bytes r l w) (fault_within kind bytes r l t) a b (subst (λ x. IsInputFault x bytes a b) same f)
+    fault_told kind bytes r (serially_written kind bytes r (answered (by_one_worker kind) bytes r l w)) (fault_within kind bytes r l t) a b (subst (λ x. IsInputFault x bytes a b) same f)
 
 -- ---- checks
 
@@ -173,7 +198,7 @@ print_text_once : (bytes text other : List ℕ) → PrintsAs bytes text → Prin
 print_text_once bytes text other v w =
     v.is_text ∙ ap (λ p. printed (forms.printed p)) ((print_unique bytes).one_meaning v.program w.program v.read w.read) ∙ sym w.is_text
 
-answers_once : (command : Command) (bytes : List ℕ) (end another : End) (text other : List ℕ) → Answers command bytes end text → Answers command bytes another other → (end ≡ another) × (text ≡ other)
+answers_once : (command : Command) (bytes : List ℕ) (end another : End) (text other : List ℕ) → Answers (by_one_worker command) bytes end text → Answers (by_one_worker command) bytes another other → (end ≡ another) × (text ≡ other)
 answers_once (RunCommand workers jobs seed steps) bytes end another text other v w = runs_once jobs seed steps bytes end another text other v w
 answers_once Check bytes end another text other v w = check_once bytes end another text other v w
 answers_once Audit bytes end another text other v w = audit_once bytes end another text other v w

@@ -19,7 +19,7 @@ use Rattle.tau_input.proofs.ReadBack.{run_texts_read_back}
 use Rattle.tau_output.specs.declared.outputs.End.{End}
 use Rattle.tau_output.specs.declared.outputs.End.TheVariants.{Done, Stopped}
 use Rattle.tau_output.specs.Inner.Ends.{end_of_run}
-use Rattle.tau_output.specs.Runs.{EndsAs, IsDecided, IsReportLine, RunsAs, RunsSerially}
+use Rattle.tau_output.specs.Runs.{EndsAs, IsDecided, IsReportLine, RunsAs, RunsBy}
 use Rattle.tau_output.specs.Checks.{IsChecked}
 use Rattle.tau_output.specs.Laws.{TextsTellRuns, RunTextsAreAccepted, line_after}
 
@@ -58,10 +58,10 @@ runs_as limit P T is_complete bytes text spelled well legal complete stopped is_
 
 -- and where the run is the serial one
 pub runs_serially : (jobs seed limit : ℕ) (P : Program) (T : Run) (is_complete : Bool) (bytes text : List ℕ) → IsProgram bytes P → IsSerialRun P jobs seed limit T → WellFormed T → Legal P T → (IsTrue is_complete → Complete P T × (len T ≤ limit))
-    → (IsFalse is_complete → (¬ Complete P T) × (len T ≡ limit)) → IsRunText P T text → IsReadBack P T text → RunsSerially jobs seed limit bytes (end_of_run is_complete) text
+    → (IsFalse is_complete → (¬ Complete P T) × (len T ≡ limit)) → IsRunText P T text → IsReadBack P T text → RunsBy 1 jobs seed limit bytes (end_of_run is_complete) text
 unfolding runs_as
 runs_serially jobs seed limit P T is_complete bytes text spelled serial well legal complete stopped is_text read_back =
-    record { runs = runs_as limit P T is_complete bytes text spelled well legal complete stopped is_text read_back; serial = serial }
+    record { runs = runs_as limit P T is_complete bytes text spelled well legal complete stopped is_text read_back; serial = λ l. serial }
 
 -- a run ends in one way
 pub ends_once : (limit other : ℕ) (P : Program) (T : Run) (end another : End) → EndsAs limit P T end → EndsAs other P T another → end ≡ another

@@ -1,5 +1,5 @@
 -- On one thread `run` and `drill` write one text, since there is one serial run.
-use Rattle.std.proofs.Common.{◌≡◌, ℕ, suc, List, [], ◌∷◌, ◌++◌, Option, Some, None, refl, sym, ap, subst, ◌∙◌}
+use Rattle.std.proofs.Common.{◌≡◌, ℕ, suc, List, [], ◌∷◌, ◌++◌, Option, Some, None, refl, sym, ap, subst, ◌∙◌, arith}
 use Rattle.std.specs.Prelude.{slice_get}
 use Rattle.tau_sexpr.specs.Tree.{Tree}
 use Rattle.tau_sexpr.specs.Printing.{printed}
@@ -14,7 +14,7 @@ use Rattle.tau_serial.proofs.OneRun.{one_serial_run}
 use Rattle.tau_gen.specs.Generated.{generated}
 use Rattle.tau_input.proofs.FaultLemmas.{program_unique}
 use Rattle.tau_output.specs.declared.outputs.End.{End}
-use Rattle.tau_output.specs.Runs.{EndsAs, RunsAs, RunsSerially}
+use Rattle.tau_output.specs.Runs.{EndsAs, RunsAs, RunsBy}
 use Rattle.tau_output.specs.Drills.{drill_lines, DrillsAs}
 use Rattle.tau_output.proofs.RunLemmas.{ends_once}
 
@@ -49,13 +49,13 @@ end_of_same limit P Q T U end another p t a b =
 serial_of_same : (P Q : Program) (jobs seed limit : ℕ) (T U : Run) → P ≡ Q → IsSerialRun P jobs seed limit T → IsSerialRun Q jobs seed limit U → T ≡ U
 serial_of_same P Q jobs seed limit T U p a b = one_serial_run P jobs seed limit T U a (subst (λ X. IsSerialRun X jobs seed limit U) (sym p) b)
 
-pub runs_once : (jobs seed steps : ℕ) (bytes : List ℕ) (end another : End) (text other : List ℕ) → RunsSerially jobs seed steps bytes end text → RunsSerially jobs seed steps bytes another other
+pub runs_once : (jobs seed steps : ℕ) (bytes : List ℕ) (end another : End) (text other : List ℕ) → RunsBy 1 jobs seed steps bytes end text → RunsBy 1 jobs seed steps bytes another other
     → (end ≡ another) × (text ≡ other)
 runs_once jobs seed steps bytes end another text other v w =
     let P = v.runs.program in
     let Q = w.runs.program in
     let program : P ≡ Q = (program_unique bytes).one_meaning P Q v.runs.spelled w.runs.spelled in
-    let run : v.runs.run ≡ w.runs.run = serial_of_same P Q jobs seed steps v.runs.run w.runs.run program v.serial w.serial in
+    let run : v.runs.run ≡ w.runs.run = serial_of_same P Q jobs seed steps v.runs.run w.runs.run program (v.serial (omega arith)) (w.serial (omega arith)) in
     (end_of_same steps P Q v.runs.run w.runs.run end another program run v.runs.ends w.runs.ends, text_of_same P Q v.runs.run w.runs.run text other program run v.runs.is_text w.runs.is_text)
 
 pub drills_once : (number : ℕ) (end another : End) (text other : List ℕ) → DrillsAs number end text → DrillsAs number another other → (end ≡ another) × (text ≡ other)

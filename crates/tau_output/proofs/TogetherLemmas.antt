@@ -1,7 +1,7 @@
 -- What `run` writes where it starts several workers.
 use Rattle.std.proofs.Common.{◌≡◌, ◌⊎◌, inl, inr, ℕ, ◌≤◌, List, length, Result, Ok, Err, IfOk, IfErr, ap, subst, arith}
 use Rattle.tau_command.specs.declared.commands.Command.{Command}
-use Rattle.tau_command.specs.declared.commands.Command.TheVariants.{Run as RunCommand, Check, Audit, Report, Print, Gen, Drill}
+use Rattle.tau_command.specs.declared.commands.Command.TheVariants.{Run as RunCommand}
 use Rattle.tau_input.specs.declared.errors.InputError.{InputError}
 use Rattle.tau_input.specs.declared.errors.InputError.TheVariants.{Fault, NoMemory}
 use Rattle.tau_input.specs.Errors.{TellsInputFault}
@@ -11,22 +11,7 @@ use Rattle.tau_output.specs.declared.outputs.End.{End}
 use Rattle.tau_output.specs.declared.outputs.Output.{Output}
 use Rattle.tau_output.specs.Faults.{input_limit, IsInputFault, too_long, within}
 use Rattle.tau_output.specs.Runs.{RunsAs}
-use Rattle.tau_output.specs.Writing.{Writes, WritesTogether}
 use Rattle.tau_output.proofs.LawLemmas.{told_once, fault_within}
-
--- what is written on one thread is what one worker alone writes, and what the other commands write
-pub written_together : (command : Command) (bytes : List ℕ) (end : End) (text : List ℕ) → Writes command bytes end text → WritesTogether command bytes end text
-written_together (RunCommand workers jobs seed steps) bytes end text w = record { few = w.few; answers = record { runs = w.answers.runs; alone = λ l. w.answers.serial } }
-written_together Check bytes end text w = record { few = w.few; answers = w.answers }
-written_together Audit bytes end text w = record { few = w.few; answers = w.answers }
-written_together Report bytes end text w = record { few = w.few; answers = w.answers }
-written_together Print bytes end text w = record { few = w.few; answers = w.answers }
-written_together (Gen number) bytes end text w = record { few = w.few; answers = w.answers }
-written_together (Drill number) bytes end text w = record { few = w.few; answers = w.answers }
-
-pub answered_together : (command : Command) (bytes : List ℕ) (r : Result Output InputError) → IfOk r (λ o. Writes command bytes o.end o.text.items) → IfOk r (λ o. WritesTogether command bytes o.end o.text.items)
-answered_together command bytes (Ok o) w = written_together command bytes o.end o.text.items w
-answered_together command bytes (Err e) w = tt
 
 -- several workers write nothing for an input with a fault
 clean_together : (workers jobs seed steps : ℕ) (bytes : List ℕ) (end : End) (text : List ℕ) → length bytes ≤ input_limit → RunsAs steps bytes end text → (a b : ℕ)

@@ -9,11 +9,11 @@ use Rattle.tau_output.specs.declared.outputs.End.{End}
 use Rattle.tau_output.specs.declared.outputs.End.TheVariants.{Done, Stopped}
 use Rattle.tau_output.specs.Faults.{input_limit, IsInputFault}
 use Rattle.tau_output.specs.Runs.{RunsAs}
-use Rattle.tau_output.specs.Writing.{Writes}
+use Rattle.tau_output.specs.Writing.{Writes, WritesSerially}
 
 -- on one thread a command writes no other text for the same bytes, and ends in no other way
 abbrev pub WritesOnce : List ℕ → Type 0
-WritesOnce bytes = (command : Command) (end another : End) (text other : List ℕ) → Writes command bytes end text → Writes command bytes another other → (end ≡ another) × (text ≡ other)
+WritesOnce bytes = (command : Command) (end another : End) (text other : List ℕ) → WritesSerially command bytes end text → WritesSerially command bytes another other → (end ≡ another) × (text ≡ other)
 
 -- a command writes nothing for bytes with a fault
 abbrev pub WritesWithoutFault : List ℕ → Type 0

@@ -60,12 +60,7 @@ pub record RunsAs (steps : ℕ) (bytes : List ℕ) (end : End) (text : List ℕ)
   -- each value on a saved line of the report was saved by a Checkpoint or is an opening state
   pub saved : All (IsReportLine program run) is_text.are.report
 
--- as one worker runs it that holds so many jobs at most and chooses by this seed: the run is the serial one
-pub record RunsSerially (jobs seed steps : ℕ) (bytes : List ℕ) (end : End) (text : List ℕ) : Type 0 where
+-- as so many workers run it that each hold so many jobs at most and choose by this seed: the run of one worker is the serial one
+pub record RunsBy (workers jobs seed steps : ℕ) (bytes : List ℕ) (end : End) (text : List ℕ) : Type 0 where
   pub runs : RunsAs steps bytes end text
-  pub serial : IsSerialRun runs.program jobs seed steps runs.run
-
--- as several workers run it: where there is one alone, the run is the serial one
-pub record RunsTogether (workers jobs seed steps : ℕ) (bytes : List ℕ) (end : End) (text : List ℕ) : Type 0 where
-  pub runs : RunsAs steps bytes end text
-  pub alone : workers ≤ 1 → IsSerialRun runs.program jobs seed steps runs.run
+  pub serial : workers ≤ 1 → IsSerialRun runs.program jobs seed steps runs.run

@@ -5,7 +5,7 @@ use Rattle.tau_command.specs.declared.commands.Command.TheVariants.{Run, Check, 
 use Rattle.tau_output.specs.declared.outputs.End.{End}
 use Rattle.tau_output.specs.declared.outputs.End.TheVariants.{Done}
 use Rattle.tau_output.specs.Faults.{input_limit, reads_input}
-use Rattle.tau_output.specs.Runs.{RunsSerially, RunsTogether}
+use Rattle.tau_output.specs.Runs.{RunsBy}
 use Rattle.tau_output.specs.Checks.{ChecksAs}
 use Rattle.tau_output.specs.Audits.{AuditsAs}
 use Rattle.tau_output.specs.Reports.{ReportsAs}
@@ -14,7 +14,7 @@ use Rattle.tau_output.specs.Drills.{DrillsAs}
 
 -- the text that a command writes for bytes, and how it then ends
 abbrev pub Answers : Command → List ℕ → End → List ℕ → Type 0
-Answers (Run workers jobs seed steps) bytes end text = RunsSerially jobs seed steps bytes end text
+Answers (Run workers jobs seed steps) bytes end text = RunsBy workers jobs seed steps bytes end text
 Answers Check bytes end text = ChecksAs bytes end text
 Answers Audit bytes end text = AuditsAs bytes end text
 Answers Report bytes end text = ReportsAs bytes text × (end ≡ Done)
@@ -27,14 +27,18 @@ pub record Writes (command : Command) (bytes : List ℕ) (end : End) (text : Lis
   pub few : IsTrue (reads_input command) → length bytes ≤ input_limit
   pub answers : Answers command bytes end text
 
--- the same, where `run` starts as many workers as it is told
-abbrev pub AnswersTogether : Command → List ℕ → End → List ℕ → Type 0
-AnswersTogether (Run workers jobs seed steps) bytes end text = RunsTogether workers jobs seed steps bytes end text
-AnswersTogether command bytes end text = Answers command bytes end text
+-- a command on one thread: `run` has one worker, however many it is told
+abbrev pub by_one_worker : Command → Command
+by_one_worker (Run workers jobs seed steps) = Run 1 jobs seed steps
+by_one_worker Check = Check
+by_one_worker Audit = Audit
+by_one_worker Report = Report
+by_one_worker Print = Print
+by_one_worker (Gen number) = Gen number
+by_one_worker (Drill number) = Drill number
 
-pub record WritesTogether (command : Command) (bytes : List ℕ) (end : End) (text : List ℕ) : Type 0 where
-  pub few : IsTrue (reads_input command) → length bytes ≤ input_limit
-  pub answers : AnswersTogether command bytes end text
+abbrev pub WritesSerially : Command → List ℕ → End → List ℕ → Type 0
+WritesSerially command bytes end text = Writes (by_one_worker command) bytes end text
 
 -- some workers, a number of jobs that a worker can hold, and a limit of steps that a trace can have
 abbrev pub HasLimit : Command → Type 0

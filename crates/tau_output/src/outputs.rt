@@ -2,7 +2,7 @@
 ghost use Rattle.std.specs.Prelude.{◌≡◌, ◌⊎◌, ℕ, ◌≤◌, length, IfOk, IfErr, Err};
 ghost use Rattle.tau_input.specs.Errors.{TellsInputFault};
 ghost use Rattle.tau_output.specs.Faults.{input_limit, reads_input as reads, IsInputFault};
-ghost use Rattle.tau_output.specs.Writing.{Writes, HasLimit};
+ghost use Rattle.tau_output.specs.Writing.{WritesSerially, HasLimit};
 
 use crate::auditing::audit_run;
 use crate::checking::check_run;
@@ -61,13 +61,13 @@ pub fn reads_input(command: &Command) -> bool
     }
 }
 
-/// What a command writes for the bytes of its input (docs/formats.md, "Command line"). The bytes are passed over where it
-/// reads none.
+/// What a command writes on one thread for the bytes of its input (docs/formats.md, "Command line"): `run` with one worker,
+/// however many it is told. The bytes are passed over where it reads none.
 /// `Fault` comes exactly where the input has a fault, with the first one (docs/formats.md, "Input faults").
 pub fn output_of(alloc: Global, command: Command, bytes: &[u8]) -> Result<Output, InputError>
     requires bytes { length bytes.now ≤ input_limit }
     requires limit { HasLimit command }
-    ensures output { IfOk result (λ o. Writes command bytes.now o.end o.text.items) }
+    ensures output { IfOk result (λ o. WritesSerially command bytes.now o.end o.text.items) }
 
     ensures fault { IfErr result (TellsInputFault (IsInputFault command bytes.now)) }
     ensures faulty { (fault at : ℕ) → IsInputFault command bytes.now fault at

@@ -2,7 +2,7 @@
 ghost use Rattle.std.specs.Prelude.{◌≡◌, ◌≤◌, IfOk, IfErr};
 ghost use Rattle.tau_input.specs.Errors.{TellsInputFault};
 ghost use Rattle.tau_input.specs.Faults.{IsProgramFault};
-ghost use Rattle.tau_output.specs.Runs.{RunsSerially};
+ghost use Rattle.tau_output.specs.Runs.{RunsBy};
 ghost use Rattle.tau_output.specs.Inner.Ends.{end_of_run};
 
 use crate::{End, Output};
@@ -22,7 +22,7 @@ pub(crate) fn run_program(
     requires some { 1 ≤ jobs }
     requires few { jobs ≤ 16 }
     requires limit { steps ≤ 1000000 }
-    ensures output { IfOk result (λ o. RunsSerially jobs seed steps bytes.now o.end o.text.items) }
+    ensures output { IfOk result (λ o. RunsBy 1 jobs seed steps bytes.now o.end o.text.items) }
     ensures fault { IfErr result (TellsInputFault (IsProgramFault bytes.now)) }
 {
     let program = read_program(alloc, bytes)?;

@@ -4,7 +4,7 @@ ghost use Rattle.tau_input.specs.Errors.{TellsInputFault};
 ghost use Rattle.tau_input.specs.Faults.{IsProgramFault};
 ghost use Rattle.tau_output.specs.Faults.{input_limit, IsInputFault};
 ghost use Rattle.tau_output.specs.Runs.{RunsAs};
-ghost use Rattle.tau_output.specs.Writing.{WritesTogether, HasLimit};
+ghost use Rattle.tau_output.specs.Writing.{Writes, HasLimit};
 
 use crate::running::end_of;
 use crate::{Output, output_of};
@@ -27,7 +27,7 @@ pub fn output_by_workers<R: Threads + Wait + Sync, G: Gate + Sync>(
 ) -> Result<Output, InputError>
     requires bytes { length bytes.now ≤ input_limit }
     requires limit { HasLimit command }
-    ensures output { IfOk result (λ o. WritesTogether command bytes.now o.end o.text.items) }
+    ensures output { IfOk result (λ o. Writes command bytes.now o.end o.text.items) }
 
     ensures fault { IfErr result (TellsInputFault (IsInputFault command bytes.now)) }
     ensures faulty { (fault at : ℕ) → IsInputFault command bytes.now fault at

@@ -1,7 +1,8 @@
 use Rattle.std.proofs.Common.{◌≡◌, ◌∙◌, sym, IfOk, subst}
 use Rattle.tau_command.specs.declared.commands.Command.{Command}
-use Rattle.tau_output.specs.Writing.{Writes}
-use Rattle.tau_output.proofs.TogetherLemmas.{together_told, answered_together}
+use Rattle.tau_output.specs.Writing.{WritesSerially}
+use Rattle.tau_output.proofs.LawLemmas.{serially_written}
+use Rattle.tau_output.proofs.TogetherLemmas.{together_told}
 use Rattle.tau_output.proofs.together.output_by_workers.Goals.{in_default-via-in-Run+else-workers-gt1, in_default-via-in_default}
 use Rattle.tau_output.proofs.together.output_by_workers.Goals as goal
 
@@ -11,8 +12,8 @@ returns-in-Run-clause-faulty g c =
 
 pub returns-in_default-clause-output : goal.returns-in_default-clause-output
 returns-in_default-clause-output g c =
-    let Told : Command → Type 0 = λ x. IfOk c.output_of.result (λ o. Writes x c.args.bytes.now o.end o.text.items) in
-    answered_together c.args.command c.args.bytes.now c.output_of.result (elim c.in_default.branch [
+    let Told : Command → Type 0 = λ x. IfOk c.output_of.result (λ o. WritesSerially x c.args.bytes.now o.end o.text.items) in
+    serially_written c.args.command c.args.bytes.now c.output_of.result (elim c.in_default.branch [
       | in_default-via-in-Run+else-workers-gt1 w ↦ subst Told (w.command-is ∙ sym w.in-Run.is) c.output_of.ensures.output
       | in_default-via-in_default w ↦ subst Told w.command-is c.output_of.ensures.output
     ])
