@@ -11,7 +11,6 @@ pub fn fitting_traces_keep_the_rules()
 {}
 
 /// Whatever the program, each message of a trace in which every step fits has a receiver (docs/rules.md, "Numbers").
-#[tactic(auto, using(crate::proofs::ReceiverLemmas::receivers_of_fitting))]
 pub fn messages_have_receivers()
     ensures { MessagesHaveReceivers }
 {}
