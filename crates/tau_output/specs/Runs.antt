@@ -60,7 +60,7 @@ pub record RunsAs (steps : ℕ) (bytes : List ℕ) (end : End) (text : List ℕ)
   -- each value on a saved line of the report was saved by a Checkpoint or is an opening state
   pub saved : All (IsReportLine program run) is_text.are.report
 
--- as so many workers run it that each hold so many jobs at most and choose by this seed: the run of one worker is the serial one
+-- as so many workers run it, each with room for so many jobs, from this seed: with one worker alone the run is the serial one
 pub record RunsBy (workers jobs seed steps : ℕ) (bytes : List ℕ) (end : End) (text : List ℕ) : Type 0 where
   pub runs : RunsAs steps bytes end text
   pub serial : workers ≤ 1 → IsSerialRun runs.program jobs seed steps runs.run

@@ -37,6 +37,7 @@ by_one_worker Print = Print
 by_one_worker (Gen number) = Gen number
 by_one_worker (Drill number) = Drill number
 
+-- what a command writes on one thread
 abbrev pub WritesSerially : Command → List ℕ → End → List ℕ → Type 0
 WritesSerially command bytes end text = Writes (by_one_worker command) bytes end text
 
