@@ -71,8 +71,8 @@ module _ (L : Point → Point → Type 0) (C : Point → Type 0) (far : Point �
           ⊎_elim
           (λ less. absurd (omega (arith, less, here, b.2, s)))
           (λ same. ⊎_elim
-            (λ (eq : x ≡ c.first). inr (eq, first_from x xs y c.rest c.last g e (subst (λ q. LeadsAlong L q c.rest c.last) (sym eq) c.leads) c.ends s))
-            (λ before. inl before) same.1)
+          (λ (eq : x ≡ c.first). inr (eq, first_from x xs y c.rest c.last g e (subst (λ q. LeadsAlong L q c.rest c.last) (sym eq) c.leads) c.ends s))
+          (λ before. inl before) same.1)
           (best.best c.first b.0 c.begins b.1)
 
     pub no_chain : ((q : Point) → S q → far q ≡ None) → HasNoChain L S C
@@ -80,8 +80,3 @@ module _ (L : Point → Point → Type 0) (C : Point → Type 0) (far : Point �
         let b = bounded c.first c.rest c.last c.leads c.ends in
         let e = sym (none c.first c.begins) ∙ b.1 in
         absurd (cc)
-
-  -- one point more
-  pub goes_further : (x : Point) (xs : List Point) (y z : Point) (n : ℕ) → GoesOn L far x xs y → IsNext L far y z n → GoesOn L far x (xs ++ z ∷ []) z
-  goes_further x [] y z n e i = ((n, subst (λ w. IsNext L far w z n) (sym e) i), refl)
-  goes_further x (w ∷ ws) y z n g i = (g.0, goes_further w ws y z n g.1 i)

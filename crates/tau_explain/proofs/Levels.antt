@@ -79,10 +79,10 @@ module _ (L M : Point → Point → Type 0) (before after C : Point → Type 0) 
   near_x p l =
       let h = has p l in
       (h.0, h.1, ⊎_elim (λ o. bound p h.0 o) (λ f. omega (arith, f.0)) (noted.fresh p h.0 h.1)) where
-    bound : (p : Point) (n : ℕ) → far0 p ≡ Some n → n ≤ suc m
-    bound p n e =
-        let c = s.stands p n e in
-        old_le c.0 n p c.1 (subst (λ z. far0 z ≡ Some n) (sym c.2) e)
+        bound : (p : Point) (n : ℕ) → far0 p ≡ Some n → n ≤ suc m
+        bound p n e =
+            let c = s.stands p n e in
+            old_le c.0 n p c.1 (subst (λ z. far0 z ≡ Some n) (sym c.2) e)
 
   pub searches_on : Searches M after C (at + 1) queue far
   searches_on = record {
@@ -93,9 +93,9 @@ module _ (L M : Point → Point → Type 0) (before after C : Point → Type 0) 
         (cases_lt i (length queue0));
     ordered = λ i j a b d le high e f. ⊎_elim
         (λ low. ⊎_elim
-          (λ low2. s.ordered i j a b d le low2 (old i a d low e) (old j b d low2 f))
-          (λ le2. omega (arith, any_le i a d (omega (arith, le, high)) e, new j b d le2 high f))
-          (cases_lt j (length queue0)))
+        (λ low2. s.ordered i j a b d le low2 (old i a d low e) (old j b d low2 f))
+        (λ le2. omega (arith, any_le i a d (omega (arith, le, high)) e, new j b d le2 high f))
+        (cases_lt j (length queue0)))
         (λ le2. omega (arith, new i a d le2 (omega (arith, le, high)) e, new j b d (omega (arith, le, le2)) high f))
         (cases_lt i (length queue0));
     spread = λ j a b d high high2 e f. omega (arith, any_le j b d high2 f, at_least (at + 1) a d (omega arith) high e);
@@ -122,11 +122,11 @@ module _ (L M : Point → Point → Type 0) (before after C : Point → Type 0) 
     step p n e f = ⊎_elim
         (λ c. absurd (Contains-none p c))
         (λ r. ⊎_elim
-          (λ (same : p ≡ x). let g : far x ≡ Some (suc n) = subst (λ z. far z ≡ Some (suc n)) same e in
-          let h : far x ≡ Some m = noted.kept x m there in
-          let k : suc n ≡ m = same_some (sym g ∙ h) in absurd (omega (arith, k, f.0)))
-          (λ l. let k : m ≡ n = omega (arith, f.0) in (x, (pushed.same p x).1 l, subst (λ z. far x ≡ Some z) k (noted.kept x m there)))
-          r)
+        (λ (same : p ≡ x). let g : far x ≡ Some (suc n) = subst (λ z. far z ≡ Some (suc n)) same e in
+        let h : far x ≡ Some m = noted.kept x m there in
+        let k : suc n ≡ m = same_some (sym g ∙ h) in absurd (omega (arith, k, f.0)))
+        (λ l. let k : m ≡ n = omega (arith, f.0) in (x, (pushed.same p x).1 l, subst (λ z. far x ≡ Some z) k (noted.kept x m there)))
+        r)
         (pushed.allowed p f.1)
 
     go : (p : Point) (i n : ℕ) (d : Point) → i < at + 1 → M p (get_or queue i d) → far (get_or queue i d) ≡ Some n → (k : ℕ) × (far p ≡ Some k) × (k ≤ suc n)

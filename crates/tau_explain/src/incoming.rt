@@ -10,7 +10,9 @@ use tau_points::Point;
 /// that it doesn't push again.
 pub(crate) trait Incoming {
     ghost leads: { Self → Point → Point → Type 0 };
+
     ghost passed: { Self → Point → Type 0 };
+
     ghost is_ready: { Self → Type 0 };
 
     /// Pushes the points that lead to the point and weren't pushed before, in any order, each maybe several times.

@@ -1,5 +1,5 @@
 //! The nearest point of a list, and the least point at a distance.
-ghost use Rattle.std.specs.Prelude.{◌≡◌, ◌⊎◌, Option, Some, None, Contains, IfSome};
+ghost use Rattle.std.specs.Prelude.{◌≡◌, ◌⊎◌, ◌↔◌, Some, Contains, IfSome, IsTrue};
 ghost use Rattle.std.specs.HashMap.{get};
 ghost use Rattle.tau_points.specs.Order.{IsAscending};
 ghost use Rattle.tau_explain.specs.Chains.{IsNotAfter};
@@ -45,11 +45,21 @@ pub(crate) fn least_at(
 {
     let mut least = None;
     for point in points {
-        if far.get(point) == Some(&distance) {
+        if is_at(far, point, distance) {
             least = Some(lesser(least, *point));
         }
     }
     least
+}
+
+/// Whether the point is at the distance.
+fn is_at(far: &HashMap<Point, usize>, point: &Point, distance: usize) -> bool
+    ensures { IsTrue result ↔ (get same_point far.now point.now ≡ Some distance) }
+{
+    match far.get(point) {
+        Some(found) => *found == distance,
+        None => false,
+    }
 }
 
 /// The lesser of two points.

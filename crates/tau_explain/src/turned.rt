@@ -30,7 +30,9 @@ impl Turned {
 
 impl Incoming for Turned {
     ghost leads = { λ t p q. Leads t.pairs q p };
+
     ghost passed = { λ t p. ⊥ };
+
     ghost is_ready = { λ t. Unit {0} };
 
     fn push_incoming(&mut self, point: &Point, into: &mut Vec<Point>) -> Result<(), AllocError> {

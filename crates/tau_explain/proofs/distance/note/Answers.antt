@@ -1,7 +1,7 @@
 use Rattle.std.proofs.Common.{rules}
 use Rattle.std.specs.HashMap.{get}
 use Rattle.tau_explain.specs.Inner.Distances.{same_point}
-use Rattle.tau_explain.proofs.Noting.{notes_fresh, notes_known}
+use Rattle.tau_explain.proofs.Noting.{notes_fresh}
 use Rattle.tau_explain.proofs.distance.note.Goals as goal
 
 pub returns-in_ok-push : goal.returns-in_ok-push

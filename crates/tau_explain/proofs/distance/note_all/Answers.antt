@@ -1,5 +1,3 @@
-use Rattle.std.specs.HashMap.{get}
-use Rattle.tau_explain.specs.Inner.Distances.{same_point}
 use Rattle.tau_explain.proofs.Noting.{notes_on}
 use Rattle.tau_explain.proofs.distance.note_all.Goals as goal
 
