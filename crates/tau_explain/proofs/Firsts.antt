@@ -1,11 +1,9 @@
 -- Going on to the least nearer point gives the first of the shortest chains.
-use Rattle.std.proofs.Common.{◌≡◌, ◌⊎◌, ◌≤◌, ◌<◌, ◌+◌, ℕ, zero, suc, List, [], ◌∷◌, ◌++◌, length, Option, Some, None, refl, sym, ap, ◌∙◌, subst, inl, inr, ⊎_elim, arith}
-use Rattle.std.specs.declared.cmp.Ordering.TheVariants.{Less}
+use Rattle.std.proofs.Common.{◌≡◌, ◌≤◌, ℕ, suc, List, [], ◌∷◌, length, Option, Some, None, refl, sym, ap, ◌∙◌, subst, inl, inr, ⊎_elim, arith}
 use Rattle.tau_points.specs.declared.point.Point.{Point}
-use Rattle.tau_points.specs.Order.{point_cmp}
 use Rattle.tau_points.specs.Reach.{LeadsAlong}
-use Rattle.tau_explain.specs.Chains.{IsChain, IsNotAfter, ComesUpTo, IsFirstShortest, HasNoChain}
-use Rattle.tau_explain.specs.Inner.Distances.{IsFar, IsNext, GoesOn, IsNearest, IsNearestOf}
+use Rattle.tau_explain.specs.Chains.{IsChain, ComesUpTo, IsFirstShortest, HasNoChain}
+use Rattle.tau_explain.specs.Inner.Distances.{IsFar, GoesOn, IsNearest}
 
 same_some : {a b : ℕ} → Some a ≡ Some b → a ≡ b
 same_some e = cc

@@ -1,5 +1,5 @@
 -- Going on, each time to the least point that is one link nearer, and where that leads.
-use Rattle.std.proofs.Common.{◌≡◌, ◌↔◌, ◌⊎◌, ℕ, suc, List, [], ◌∷◌, ◌++◌, Option, Some, None, refl, sym, ap, ◌∙◌, subst, inl, inr, ⊎_elim}
+use Rattle.std.proofs.Common.{◌≡◌, ℕ, suc, List, [], ◌∷◌, ◌++◌, Option, Some, None, refl, sym, ap, ◌∙◌, subst, inr, ⊎_elim}
 use Rattle.std.specs.Prelude.{Contains}
 use Rattle.tau_points.specs.declared.point.Point.{Point}
 use Rattle.tau_points.specs.Members.{AddsAll}

@@ -1,5 +1,5 @@
 -- The nearest point of a list, and the least point at a distance, with one point more.
-use Rattle.std.proofs.Common.{◌≡◌, ◌≢◌, ◌⊎◌, ◌<◌, ◌≤◌, ◌+◌, ℕ, Bool, true, false, nat_lt, if◌then◌else◌, List, [], ◌∷◌, ◌++◌, length, get_or, take, Option, Some, None, refl, sym, ap, ◌∙◌, subst, inl, inr, ⊎_elim, arith}
+use Rattle.std.proofs.Common.{◌≡◌, ◌≢◌, ◌⊎◌, ◌<◌, ◌+◌, ℕ, Bool, true, false, nat_lt, if◌then◌else◌, List, [], ◌∷◌, ◌++◌, length, get_or, take, Option, Some, None, refl, sym, ap, ◌∙◌, subst, inl, inr, ⊎_elim, arith}
 use Rattle.std.specs.Prelude.{Contains, IfSome}
 use Rattle.std.specs.declared.cmp.Ordering.TheVariants.{Less}
 use Rattle.std.proofs.lemmas.Bool.{lt-ltb, ltb-true, ltb-false, cases_lt}
@@ -11,7 +11,7 @@ use Rattle.tau_points.specs.Order.{point_cmp, IsAscending}
 use Rattle.tau_points.proofs.PointOrder.{point_cmp-total}
 use Rattle.tau_points.proofs.Membership.{Contains-none}
 use Rattle.tau_explain.specs.Chains.{IsNotAfter}
-use Rattle.tau_explain.specs.Inner.Distances.{IsNearest, IsNearestOf, IsLeastAt, nearer_of}
+use Rattle.tau_explain.specs.Inner.Distances.{IsNearestOf, IsLeastAt, nearer_of}
 
 same_some : {a b : ℕ} → Some a ≡ Some b → a ≡ b
 same_some e = cc

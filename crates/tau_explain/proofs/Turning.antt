@@ -1,5 +1,5 @@
 -- A relation, turned round.
-use Rattle.std.proofs.Common.{◌≡◌, ◌⊎◌, ◌↔◌, ◌≤◌, ◌<◌, ℕ, arith, inl, inr, ⊎_elim, List, Result, Ok, Err, map, take, length, sym, ap, ◌∙◌, subst}
+use Rattle.std.proofs.Common.{◌≡◌, ◌≤◌, ◌<◌, ℕ, arith, inl, inr, ⊎_elim, List, Result, Ok, Err, map, take, length, sym, ap, ◌∙◌, subst}
 use Rattle.std.specs.Prelude.{Contains, OnOk}
 use Rattle.tau_points.specs.declared.point.Point.{Point}
 use Rattle.std.proofs.lemmas.List.{take_all, get_or-map, length-map}

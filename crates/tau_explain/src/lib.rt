@@ -9,6 +9,8 @@ mod nearest;
 mod places;
 mod points;
 mod searching;
+#[cfg(test)]
+mod tests;
 mod turned;
 
 pub use chain::Chain;
