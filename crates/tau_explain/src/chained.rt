@@ -1,0 +1,9 @@
+use tau_points::Point;
+
+/// A point of a chain (docs/definitions.md, "Chain"), and the place of a step that makes the link to it from the point before;
+/// `None` for the first.
+#[derive(Clone, Copy, Debug, PartialEq, Eq)]
+pub struct Chained {
+    pub point: Point,
+    pub by: Option<u32>,
+}
