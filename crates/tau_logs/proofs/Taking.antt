@@ -35,7 +35,7 @@ closed_on T H G t i q grows (checkpoint {j = j} h c e f) = checkpoint (grows j h
 closed_on T H G t i q grows (opening a b c) = opening a b c
 
 -- what is covered stays so in a greater set, by a greater list and at a later place
-cover_on : (T : Run) (H G : ℕ → Type 0) (xs ys : List Point) (j k : ℕ) (q : Point) → ((l : ℕ) → H l → G l) → ((r : Point) → Contains xs r → Contains ys r) → j ≤ k → Covered T H xs j q → Covered T G ys k q
+pub cover_on : (T : Run) (H G : ℕ → Type 0) (xs ys : List Point) (j k : ℕ) (q : Point) → ((l : ℕ) → H l → G l) → ((r : Point) → Contains xs r → Contains ys r) → j ≤ k → Covered T H xs j q → Covered T G ys k q
 cover_on T H G xs ys j k q grows more le (is_listed l) = is_listed (more q l)
 cover_on T H G xs ys j k q grows more le (is_closed d) = is_closed (closed_on T H G q.who q.interval q grows d)
 cover_on T H G xs ys j k q grows more le (through {r = r} {i = i} l lt h t) = through (⊎_elim (λ a. inl (more r a)) (λ d. inr (closed_on T H G r.who r.interval r grows d)) l) (omega (arith, lt, le)) (grows i h) t
@@ -91,7 +91,7 @@ set_stays T u n d =
 pending_of : (T : Run) (u n : ℕ) (q : Point) → ActsAt T u n → Carried T n q → Pending T u n q
 pending_of T u n q a c = let F : ℕ → Type 0 = λ t. Pending T t n q in subst F (same_some (sym c.acts ∙ a)) c.pending
 
-takes_pending : (T : Run) (u n : ℕ) (p q : Point) → ActsAt T u n → TakesBy T n p q → Pending T u n q × (q ≢ p)
+pub takes_pending : (T : Run) (u n : ℕ) (p q : Point) → ActsAt T u n → TakesBy T n p q → Pending T u n q × (q ≢ p)
 takes_pending T u n p q a (by_set d e c ne) = (pending_of T u n q a c, ne)
 takes_pending T u n p q a (by_new b e c ne) = (pending_of T u n q a c, ne)
 

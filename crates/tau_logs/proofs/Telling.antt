@@ -109,7 +109,7 @@ pub starts_tell : (T : Run) (u : ℕ) (log : Told) (v : Version) → log.version
 starts_tell T u log v is from tells closed start =
     one_version T u 0 log v is from (λ a le. tells_same v opening (history T u a) (sym (started T u start) ∙ ap (history T u) (omega (arith, le))) tells) (closed ∙ ap (λ h. h.closed) (sym (started T u start)))
 
-created : (T : Run) (u n : ℕ) → starts T ≤ u → IsQuiet T u n → history T u n ≡ newborn
+pub created : (T : Run) (u n : ℕ) → starts T ≤ u → IsQuiet T u n → history T u n ≡ newborn
 created T u n late quiet = quiet_history T u n quiet ∙ history-zero T u ∙ ap (λ b. cond b opening newborn) (le-ltb u (starts T) late)
 
 pub newborns_tell : (T : Run) (u n : ℕ) (log : Told) (v : Version) → log.versions ≡ v ∷ [] → v.from ≡ 0 → IsVersionOf v newborn → log.closed ≡ [] → starts T ≤ u → IsQuiet T u n → TellsHistories T u n log

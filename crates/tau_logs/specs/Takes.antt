@@ -63,6 +63,10 @@ LaterSetsTakeNothingNew = (T : Run) (u n : ℕ) (listed : List Point) → Does i
     → ((q : Point) → Pending T u n q → q ≢ point_at T u n → (i : ℕ) × (i < n) × Own T u n i × TakesBy T i (point_at T u n) q)
     → TellsTaken T u n listed → TellsTaken T u (suc n) listed
 
+-- the first point of a transactor that a New makes takes what its creator's turn carries
+abbrev pub NewbornsTakeWhatIsCarried : Type 0
+NewbornsTakeWhatIsCarried = (T : Run) (by u n : ℕ) (roots : List Point) → WellFormed T → IsNew T n by u → TellsPending T by n roots → TellsTaken T u (suc n) roots
+
 -- with a version that begins after place n the log goes on
 abbrev pub TakesGoOn : Type 0
 TakesGoOn = (T : Run) (u n : ℕ) (old new : Told) (v : Version) (more : List Point) → new.versions ≡ old.versions ++ v ∷ [] → new.takes ≡ old.takes ++ more
