@@ -1,11 +1,11 @@
 -- What the first points of created transactors take.
-use Rattle.std.proofs.Common.{◌≡◌, ◌≢◌, inl, ℕ, suc, ◌<◌, ◌≤◌, List, refl, sym, ap, ◌∙◌, subst, arith}
+use Rattle.std.proofs.Common.{◌≡◌, ◌≢◌, inl, ℕ, suc, ◌<◌, sym, ap, ◌∙◌, subst, arith}
 use Rattle.std.specs.Prelude.{Contains}
 use Rattle.tau_history.specs.Timeline.{Timeline, interval}
 use Rattle.tau_points.specs.declared.point.Point.{Point}
-use Rattle.tau_trace.specs.Run.{Run, ActsAt}
+use Rattle.tau_trace.specs.Run.{ActsAt}
 use Rattle.tau_trace.specs.Points.{point_at}
-use Rattle.tau_trace.specs.Numbering.{IsNew, born}
+use Rattle.tau_trace.specs.Numbering.{born}
 use Rattle.tau_trace.proofs.Agreement.{born-grows}
 use Rattle.tau_trace.proofs.Once.{new_once}
 use Rattle.tau_trace.proofs.Quiet.{acts}

@@ -1,5 +1,5 @@
 -- What a log tells stays right, and goes on with each version.
-use Rattle.std.proofs.Common.{◌≡◌, ◌⊎◌, inl, inr, ⊎_elim, ℕ, suc, ◌+◌, ◌<◌, ◌≤◌, List, [], ◌∷◌, ◌++◌, length, Some, refl, sym, ap, ◌∙◌, subst, arith, Bool, true, false, cond, ltb, ltb-true, lt-ltb}
+use Rattle.std.proofs.Common.{◌≡◌, ◌⊎◌, ⊎_elim, ℕ, suc, ◌<◌, ◌≤◌, List, [], ◌∷◌, ◌++◌, length, Some, refl, sym, ap, ◌∙◌, subst, arith, Bool, true, false, cond, ltb, ltb-true, lt-ltb}
 use Rattle.std.specs.Prelude.{slice_get}
 use Rattle.std.specs.Prelude.{take}
 use Rattle.std.proofs.lemmas.List.{length-take}
@@ -8,7 +8,7 @@ use Rattle.tau_history.specs.Timeline.{Timeline, opening, newborn}
 use Rattle.tau_history.specs.Closed.{IsFront}
 use Rattle.tau_history.proofs.Chain.{closed_front}
 use Rattle.tau_trace.proofs.PointLemmas.{chain}
-use Rattle.tau_trace.specs.Run.{Run, Agree, starts}
+use Rattle.tau_trace.specs.Run.{Run, starts}
 use Rattle.tau_trace.proofs.Counted.{history-zero}
 use Rattle.tau_trace.proofs.Quiet.{IsQuiet, quiet_history}
 use Rattle.tau_trace.specs.Histories.{history}

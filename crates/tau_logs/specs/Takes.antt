@@ -2,7 +2,6 @@
 use Rattle.std.specs.Prelude.{◌≡◌, ◌≢◌, ◌⊎◌, ◌↔◌, ℕ, suc, ◌-◌, ◌<◌, ◌≤◌, List, [], ◌∷◌, ◌++◌, length, take, drop, Some, Contains, slice_get}
 use Rattle.tau_points.specs.declared.point.Point.{Point}
 use Rattle.tau_trace.specs.Run.{Run, Does}
-use Rattle.tau_trace.specs.Histories.{history}
 use Rattle.tau_trace.specs.Points.{point_at, Leaves}
 use Rattle.tau_trace.specs.Numbering.{IsNew}
 use Rattle.tau_trace.specs.Known.{WellFormed}
