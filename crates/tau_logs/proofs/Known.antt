@@ -1,7 +1,6 @@
 -- Fates at a bound are what is known.
-use Rattle.std.proofs.Common.{◌≡◌, ◌⊎◌, inl, inr, ⊎_elim, ◌↔◌, ℕ, ◌<◌, Some, refl, sym, ap, ◌∙◌}
+use Rattle.std.proofs.Common.{◌≡◌, ◌⊎◌, inl, inr, ⊎_elim, ℕ, Some, refl, ap, ◌∙◌}
 use Rattle.tau_history.specs.Timeline.{fall}
-use Rattle.tau_history.specs.Fates.{fate}
 use Rattle.tau_history.specs.declared.fate.Fate.TheVariants.{Stable, Closed, Fallen}
 use Rattle.tau_history.proofs.Table.{has_row, fate_by_row}
 use Rattle.tau_points.specs.declared.point.Point.{Point}

@@ -1,4 +1,5 @@
 pub mod Known
 pub mod Latest
+pub mod Newborns
 pub mod Taking
 pub mod Telling

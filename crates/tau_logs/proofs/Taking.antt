@@ -1,9 +1,9 @@
 -- What points take, step by step.
-use Rattle.std.proofs.Common.{◌≡◌, ◌≢◌, ◌⊎◌, ◌↔◌, inl, inr, ⊎_elim, ℕ, suc, ◌+◌, ◌-◌, ◌<◌, ◌≤◌, Bool, true, false, IsTrue, List, [], ◌∷◌, ◌++◌, length, take, drop, Some, refl, sym, ap, ◌∙◌, subst, arith, length-append, length-drop}
+use Rattle.std.proofs.Common.{◌≡◌, ◌≢◌, ◌⊎◌, inl, inr, ⊎_elim, ℕ, suc, ◌-◌, ◌<◌, ◌≤◌, Bool, true, false, IsTrue, List, [], ◌∷◌, ◌++◌, length, take, drop, Some, refl, sym, ap, ◌∙◌, subst, arith, length-append, length-drop}
 use Rattle.std.specs.Prelude.{slice_get, Contains}
 use Rattle.std.proofs.lemmas.List.{take-append-le, drop-append-le}
 use Rattle.std.proofs.lemmas.Option.{slice_get_within}
-use Rattle.tau_history.specs.Timeline.{Timeline, interval, Move, keep, moved}
+use Rattle.tau_history.specs.Timeline.{Timeline, interval, keep, moved}
 use Rattle.tau_points.specs.declared.point.Point.{Point}
 use Rattle.tau_points.proofs.PointOrder.{point_eq, point_eq-Decides}
 use Rattle.tau_points.proofs.Membership.{Contains-none}
@@ -11,23 +11,22 @@ use Rattle.tau_trace.specs.declared.step.Step.{Step}
 use Rattle.tau_trace.specs.declared.step.Step.TheVariants.{Set}
 use Rattle.tau_trace.specs.Run.{Run, ActsAt, Does}
 use Rattle.tau_trace.specs.Histories.{history, move_of}
-use Rattle.tau_trace.specs.Points.{point_at, Leaves, IsUpTo, IsEarlier}
-use Rattle.tau_trace.specs.Numbering.{IsNew, born}
+use Rattle.tau_trace.specs.Points.{point_at, IsUpTo, IsEarlier}
+use Rattle.tau_trace.specs.Numbering.{IsNew}
 use Rattle.tau_trace.specs.Known.{WellFormed}
 use Rattle.tau_trace.proofs.Lists.{same_some, slice_get-front, slice_get-push_cases}
 use Rattle.tau_trace.proofs.Counted.{history-suc, move_at-own}
 use Rattle.tau_trace.proofs.PointLemmas.{points_grow}
 use Rattle.tau_trace.proofs.Quiet.{acts}
 use Rattle.tau_trace.proofs.Sequences.{cases_last}
-use Rattle.tau_past.specs.Carried.{Pending, Carried, TakesBy, by_set, by_new, is_set, first_point}
+use Rattle.tau_past.specs.Carried.{Pending, Carried, TakesBy, by_set, by_new, is_set}
 use Rattle.tau_past.specs.Heard.{Own, own_step, own_birth, Heard}
 use Rattle.tau_past.specs.Pasts.{ClosesAt, checkpoint, opening}
 use Rattle.tau_past.proofs.HeardLemmas.{heard_grows}
 use Rattle.tau_past.proofs.Known.{acts_known}
 use Rattle.tau_logs.specs.declared.version.Version.{Version}
 use Rattle.tau_logs.specs.Versions.{IsLatest}
-use Rattle.tau_logs.specs.Told.{Told}
-use Rattle.tau_logs.specs.Takes.{taken, ClosedIn, Covered, is_listed, is_closed, through, TellsTaken, TellsTakes, TellsPending, TakenStays, ReachedPointsHaveTakenNothing, SetsTakeTheRoots, LaterSetsTakeNothingNew, TakesGoOn}
+use Rattle.tau_logs.specs.Takes.{taken, Covered, is_listed, is_closed, through, TellsTaken, TakenStays, ReachedPointsHaveTakenNothing, SetsTakeTheRoots, LaterSetsTakeNothingNew, TakesGoOn}
 use Rattle.tau_logs.proofs.Latest.{latest_is_unique, newest_is_latest}
 
 closed_on : (T : Run) (H G : ℕ → Type 0) (t i : ℕ) (q : Point) → ((j : ℕ) → H j → G j) → ClosesAt T H t i q → ClosesAt T G t i q
@@ -35,7 +34,7 @@ closed_on T H G t i q grows (checkpoint {j = j} h c e f) = checkpoint (grows j h
 closed_on T H G t i q grows (opening a b c) = opening a b c
 
 -- what is covered stays so in a greater set, by a greater list and at a later place
-cover_on : (T : Run) (H G : ℕ → Type 0) (xs ys : List Point) (j k : ℕ) (q : Point) → ((l : ℕ) → H l → G l) → ((r : Point) → Contains xs r → Contains ys r) → j ≤ k → Covered T H xs j q → Covered T G ys k q
+pub cover_on : (T : Run) (H G : ℕ → Type 0) (xs ys : List Point) (j k : ℕ) (q : Point) → ((l : ℕ) → H l → G l) → ((r : Point) → Contains xs r → Contains ys r) → j ≤ k → Covered T H xs j q → Covered T G ys k q
 cover_on T H G xs ys j k q grows more le (is_listed l) = is_listed (more q l)
 cover_on T H G xs ys j k q grows more le (is_closed d) = is_closed (closed_on T H G q.who q.interval q grows d)
 cover_on T H G xs ys j k q grows more le (through {r = r} {i = i} l lt h t) = through (⊎_elim (λ a. inl (more r a)) (λ d. inr (closed_on T H G r.who r.interval r grows d)) l) (omega (arith, lt, le)) (grows i h) t
@@ -91,7 +90,7 @@ set_stays T u n d =
 pending_of : (T : Run) (u n : ℕ) (q : Point) → ActsAt T u n → Carried T n q → Pending T u n q
 pending_of T u n q a c = let F : ℕ → Type 0 = λ t. Pending T t n q in subst F (same_some (sym c.acts ∙ a)) c.pending
 
-takes_pending : (T : Run) (u n : ℕ) (p q : Point) → ActsAt T u n → TakesBy T n p q → Pending T u n q × (q ≢ p)
+pub takes_pending : (T : Run) (u n : ℕ) (p q : Point) → ActsAt T u n → TakesBy T n p q → Pending T u n q × (q ≢ p)
 takes_pending T u n p q a (by_set d e c ne) = (pending_of T u n q a c, ne)
 takes_pending T u n p q a (by_new b e c ne) = (pending_of T u n q a c, ne)
 

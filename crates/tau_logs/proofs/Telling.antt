@@ -1,5 +1,5 @@
 -- What a log tells stays right, and goes on with each version.
-use Rattle.std.proofs.Common.{◌≡◌, ◌⊎◌, inl, inr, ⊎_elim, ℕ, suc, ◌+◌, ◌<◌, ◌≤◌, List, [], ◌∷◌, ◌++◌, length, Some, refl, sym, ap, ◌∙◌, subst, arith, Bool, true, false, cond, ltb, ltb-true, lt-ltb}
+use Rattle.std.proofs.Common.{◌≡◌, ◌⊎◌, ⊎_elim, ℕ, suc, ◌<◌, ◌≤◌, List, [], ◌∷◌, ◌++◌, length, Some, refl, sym, ap, ◌∙◌, subst, arith, Bool, true, false, cond, ltb, ltb-true, lt-ltb}
 use Rattle.std.specs.Prelude.{slice_get}
 use Rattle.std.specs.Prelude.{take}
 use Rattle.std.proofs.lemmas.List.{length-take}
@@ -8,7 +8,7 @@ use Rattle.tau_history.specs.Timeline.{Timeline, opening, newborn}
 use Rattle.tau_history.specs.Closed.{IsFront}
 use Rattle.tau_history.proofs.Chain.{closed_front}
 use Rattle.tau_trace.proofs.PointLemmas.{chain}
-use Rattle.tau_trace.specs.Run.{Run, Agree, starts}
+use Rattle.tau_trace.specs.Run.{Run, starts}
 use Rattle.tau_trace.proofs.Counted.{history-zero}
 use Rattle.tau_trace.proofs.Quiet.{IsQuiet, quiet_history}
 use Rattle.tau_trace.specs.Histories.{history}
@@ -109,7 +109,7 @@ pub starts_tell : (T : Run) (u : ℕ) (log : Told) (v : Version) → log.version
 starts_tell T u log v is from tells closed start =
     one_version T u 0 log v is from (λ a le. tells_same v opening (history T u a) (sym (started T u start) ∙ ap (history T u) (omega (arith, le))) tells) (closed ∙ ap (λ h. h.closed) (sym (started T u start)))
 
-created : (T : Run) (u n : ℕ) → starts T ≤ u → IsQuiet T u n → history T u n ≡ newborn
+pub created : (T : Run) (u n : ℕ) → starts T ≤ u → IsQuiet T u n → history T u n ≡ newborn
 created T u n late quiet = quiet_history T u n quiet ∙ history-zero T u ∙ ap (λ b. cond b opening newborn) (le-ltb u (starts T) late)
 
 pub newborns_tell : (T : Run) (u n : ℕ) (log : Told) (v : Version) → log.versions ≡ v ∷ [] → v.from ≡ 0 → IsVersionOf v newborn → log.closed ≡ [] → starts T ≤ u → IsQuiet T u n → TellsHistories T u n log

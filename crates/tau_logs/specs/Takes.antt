@@ -2,7 +2,6 @@
 use Rattle.std.specs.Prelude.{◌≡◌, ◌≢◌, ◌⊎◌, ◌↔◌, ℕ, suc, ◌-◌, ◌<◌, ◌≤◌, List, [], ◌∷◌, ◌++◌, length, take, drop, Some, Contains, slice_get}
 use Rattle.tau_points.specs.declared.point.Point.{Point}
 use Rattle.tau_trace.specs.Run.{Run, Does}
-use Rattle.tau_trace.specs.Histories.{history}
 use Rattle.tau_trace.specs.Points.{point_at, Leaves}
 use Rattle.tau_trace.specs.Numbering.{IsNew}
 use Rattle.tau_trace.specs.Known.{WellFormed}
@@ -62,6 +61,10 @@ abbrev pub LaterSetsTakeNothingNew : Type 0
 LaterSetsTakeNothingNew = (T : Run) (u n : ℕ) (listed : List Point) → Does is_set T u n
     → ((q : Point) → Pending T u n q → q ≢ point_at T u n → (i : ℕ) × (i < n) × Own T u n i × TakesBy T i (point_at T u n) q)
     → TellsTaken T u n listed → TellsTaken T u (suc n) listed
+
+-- the first point of a transactor that a New makes takes what its creator's turn carries
+abbrev pub NewbornsTakeWhatIsCarried : Type 0
+NewbornsTakeWhatIsCarried = (T : Run) (by u n : ℕ) (roots : List Point) → WellFormed T → IsNew T n by u → TellsPending T by n roots → TellsTaken T u (suc n) roots
 
 -- with a version that begins after place n the log goes on
 abbrev pub TakesGoOn : Type 0

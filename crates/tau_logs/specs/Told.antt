@@ -1,6 +1,5 @@
 -- What contracts see of the type `Log`, and what a log says of a run.
 use Rattle.std.specs.Prelude.{◌≡◌, ℕ, ◌≤◌, List, Some, slice_get}
-use Rattle.tau_history.specs.Timeline.{Timeline}
 use Rattle.tau_points.specs.declared.point.Point.{Point}
 use Rattle.tau_trace.specs.Run.{Run}
 use Rattle.tau_trace.specs.Histories.{history}

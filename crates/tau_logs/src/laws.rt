@@ -1,7 +1,7 @@
 //! Laws of versions, each the contract of a function that does nothing.
 ghost use Rattle.tau_logs.specs.Known.{FatesAtBoundsTellTheKnown};
 ghost use Rattle.tau_logs.specs.Laws.{LatestIsUnique, LatestOfTheGreaterPlace, LatestStaysLatest, LogsStay, LogsAreLocal};
-ghost use Rattle.tau_logs.specs.Takes.{TakenStays, ReachedPointsHaveTakenNothing, SetsTakeTheRoots, LaterSetsTakeNothingNew, TakesGoOn};
+ghost use Rattle.tau_logs.specs.Takes.{TakenStays, ReachedPointsHaveTakenNothing, SetsTakeTheRoots, LaterSetsTakeNothingNew, NewbornsTakeWhatIsCarried, TakesGoOn};
 
 use tau_past::AnyPlaces;
 
@@ -58,4 +58,9 @@ pub fn takes_go_on()
 /// By the bound of what was heard, a version tells what is known of its transactor's points.
 pub fn fates_at_bounds_tell_the_known<H: AnyPlaces>()
     ensures { FatesAtBoundsTellTheKnown H.holds }
+{}
+
+/// The first point of a transactor that a New makes takes what its creator's turn carries.
+pub fn newborns_take_what_is_carried()
+    ensures { NewbornsTakeWhatIsCarried }
 {}

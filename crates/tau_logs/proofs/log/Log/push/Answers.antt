@@ -1,4 +1,4 @@
-use Rattle.std.proofs.Common.{◌≡◌, ◌++◌, ◌∷◌, [], sym, ap, ◌∙◌}
+use Rattle.std.proofs.Common.{◌++◌, ◌∷◌, [], sym, ap, ◌∙◌}
 use Rattle.tau_logs.proofs.Telling.{log_goes_on}
 use Rattle.tau_logs.proofs.log.Log.push.Goals as goal
 
