@@ -1,5 +1,5 @@
-use Rattle.std.proofs.Common.{◌≡◌, map, take, codes, sym, ap, ◌∙◌, subst, arith}
-use Rattle.std.proofs.lemmas.List.{take-map}
+use Rattle.std.proofs.Common.{◌≡◌, map, take, length, codes, sym, ap, ◌∙◌, subst, arith}
+use Rattle.std.proofs.lemmas.List.{take-map, length-map}
 use Rattle.std.specs.Prelude.{IfOk, IfErr}
 use Rattle.tau_sexpr.specs.Form.{tree_of}
 use Rattle.tau_sexpr.specs.Tree.{depths}
@@ -7,8 +7,12 @@ use Rattle.tau_forms.specs.Meaning.{Means}
 use Rattle.tau_input.specs.Errors.{TellsInputFault}
 use Rattle.tau_input.specs.Faults.{ProgramFault}
 use Rattle.tau_input.specs.Parts.{program_forms}
-use Rattle.tau_input.proofs.PartLemmas.{before_taken, before_depth}
+use Rattle.tau_input.proofs.PartLemmas.{before_le, before_taken, before_depth}
 use Rattle.tau_input.proofs.parts.program_before.Goals as goal
+
+pub slice_bounds-program_meant-end : goal.slice_bounds-program_meant-end
+slice_bounds-program_meant-end c =
+    omega (arith, c.requires.mark, before_le (codes "trace") c.args.forms.now, ap length c.items.ensures, length-map c.items.result.now tree_of)
 
 pub program_meant-requires : goal.program_meant-requires
 program_meant-requires c =
