@@ -18,7 +18,8 @@ use Rattle.tau_scripted.specs.OpenTurns.{AreOpenTurns}
 use Rattle.tau_scripted.specs.Flight.{AreDeliverable}
 use Rattle.tau_scripted.specs.ScriptedRun.{ScriptedRun}
 use Rattle.tau_scripted.proofs.Members.{contains_nothing}
-use Rattle.tau_legal.proofs.ReceiverLemmas.{each_received, at_place}
+use Rattle.tau_legal.proofs.ReceiverLemmas.{has_receiver}
+use Rattle.tau_scripted.proofs.Homes.{at_place}
 use Rattle.tau_book.specs.Hands.{Held, IsNumbered}
 use Rattle.tau_book.specs.Books.{booked, GoesOn}
 use Rattle.tau_book.specs.Offers.{Offer, jobs_with, store_without, options, number_drawn, generator_after}
@@ -31,7 +32,7 @@ some_open P T [] messages are deliverable none none_due incomplete = absurd (inc
   none_due = none_due;
   no_turn = λ t place m u. contains_nothing place ((are.each place).1 (record { who = t; message = m; turn = u }));
   none_in_flight = λ m f.
-      let r = each_received T (len T) m f.exists in
+      let r = has_receiver T m f.exists in
       contains_nothing m (subst (λ (ms : List ℕ). Contains ms m) none ((deliverable.each m).1 (record {
         receiver = r.0;
         receives = r.1;

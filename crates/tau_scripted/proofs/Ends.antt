@@ -24,7 +24,7 @@ use Rattle.tau_scripted.specs.Flight.{AreInFlight}
 use Rattle.tau_scripted.specs.ScriptedRun.{IsScripted}
 use Rattle.tau_scripted.proofs.Members.{contains_nothing, contains_here}
 use Rattle.tau_scripted.proofs.OpenLemmas.{AreBusy}
-use Rattle.tau_legal.proofs.ReceiverLemmas.{each_received}
+use Rattle.tau_legal.proofs.ReceiverLemmas.{has_receiver}
 use Rattle.tau_scripted.proofs.Homes.{each_homed}
 
 -- without open turns and letters nothing is left
@@ -32,7 +32,7 @@ pub nothing_left : (T : Run) (ls : List Letter) (turns : List ℕ) → WellForme
 nothing_left T ls turns w letters are no_turns no_letters = record {
   no_turn = λ t place m u. contains_nothing place (subst (λ (xs : List ℕ). Contains xs place) no_turns ((are.each place).1 (record { who = t; message = m; turn = u })));
   none_in_flight = λ m f.
-      let r = each_received T (len T) m f.exists in
+      let r = has_receiver T m f.exists in
       let h = each_homed T w.opening (len T) r.0 (receiver_exists T w m r.0 f.exists r.1) in
       let l : Letter = record { message = m; who = r.0; node = h.0 } in
       contains_nothing l (subst (λ (xs : List Letter). Contains xs l) no_letters ((letters.each l).1 (record { in_flight = f; receiver = r.1; home = h.1 })));

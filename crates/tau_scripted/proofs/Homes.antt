@@ -1,5 +1,6 @@
 -- Each transactor has a node.
-use Rattle.std.proofs.Common.{◌≡◌, ◌⊎◌, ⊎_elim, ℕ, zero, suc, ◌+◌, ◌<◌, Bool, true, false, cond, Option, Some, None, length, refl, ap, subst, arith}
+use Rattle.std.proofs.Common.{◌≡◌, ◌⊎◌, ⊎_elim, ℕ, zero, suc, ◌+◌, ◌<◌, Bool, true, false, cond, Option, Some, None, List, [], ◌∷◌, length, refl, ap, subst, arith}
+use Rattle.std.specs.Prelude.{slice_get}
 use Rattle.std.specs.Option.{option_map_or}
 use Rattle.tau_value.specs.declared.shared.Value.{Value}
 use Rattle.tau_trace.specs.declared.step.Step.{Step}
@@ -9,8 +10,16 @@ use Rattle.tau_trace.specs.Run.{Run, step_at}
 use Rattle.tau_trace.specs.Numbering.{born, IsHome, start, created}
 use Rattle.tau_trace.specs.Known.{IsSound, WellFormed}
 use Rattle.tau_legal.proofs.ValueLemmas.{at_all}
-use Rattle.tau_legal.proofs.ReceiverLemmas.{at_place, below_or_last}
 use Rattle.tau_trace.proofs.Counts.{count-suc, count-zero}
+
+-- the element at a place within a list
+pub at_place : {A : Type 0} (xs : List A) (k : ℕ) → k < length xs → (x : A) × (slice_get xs k ≡ Some x)
+at_place [] k l = absurd (omega arith)
+at_place (x ∷ xs) zero l = (x, refl)
+at_place (x ∷ xs) (suc k) l = at_place xs k (omega (arith, l))
+
+pub below_or_last : (j k : ℕ) → j < k + 1 → (j < k) ⊎ (j ≡ k)
+below_or_last j k l = grind arith
 
 -- transactor t stands at some node
 abbrev pub HasHome : Run → ℕ → Type 0

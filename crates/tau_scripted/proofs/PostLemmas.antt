@@ -18,7 +18,7 @@ use Rattle.tau_scripted.specs.Inner.Posted.{ArePosted}
 use Rattle.tau_scripted.specs.Flight.{AreInFlight}
 use Rattle.tau_scripted.specs.ScriptedRun.{IsScripted}
 use Rattle.tau_scripted.proofs.Members.{contains_nothing}
-use Rattle.tau_legal.proofs.ReceiverLemmas.{below_or_last}
+use Rattle.tau_scripted.proofs.Homes.{below_or_last}
 
 pub posted_below : (T : Run) (n : ℕ) (ls : List Letter) → ArePosted T n ls → AllBelow n ls
 posted_below T n ls h k d lt = ((h.each (get_or ls k d)).0 (Contains-get_or ls k d lt)).0

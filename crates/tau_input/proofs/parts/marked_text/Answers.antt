@@ -1,5 +1,6 @@
-use Rattle.std.proofs.Common.{◌≡◌, ◌<◌, length, codes, refl, sym, ap, ◌∙◌, arith}
+use Rattle.std.proofs.Common.{◌≡◌, ◌<◌, length, codes, refl, sym, ap, ◌∙◌, subst, arith}
 use Rattle.std.proofs.lemmas.Result.{IfOk-weaker}
+use Rattle.tau_input.specs.Errors.{TellsInputFault}
 use Rattle.tau_input.specs.Faults.{PartsFault, MarkedFault, no_trace, in_parts}
 use Rattle.tau_input.specs.Meaning.{MeansRun, MeansMarkedRun}
 use Rattle.tau_input.specs.Parts.{before}
@@ -12,7 +13,7 @@ returns-then-mark-len-clause-fault c =
     let forms = c.args.forms.now in
     let told : c.place_of_mark-mark.result ≡ length (before (codes "trace") forms) = c.place_of_mark-mark.ensures ∙ ap (λ ts. length (before (codes "trace") ts)) c.items.ensures in
     let all : c.place_of_mark-mark.result ≡ length forms = c.if-mark-len.true ∙ c.len.ensures in
-    no_trace (unmarked_all (codes "trace") forms (sym told ∙ all)) refl all
+    subst (TellsInputFault (MarkedFault forms)) (sym c.at.ensures) (no_trace (unmarked_all (codes "trace") forms (sym told ∙ all)) refl all)
 
 pub read_parts-requires-clause-marked : goal.read_parts-requires-clause-marked
 read_parts-requires-clause-marked c =

@@ -1,5 +1,5 @@
-use Rattle.std.proofs.Common.{◌≡◌, map, take, length, codes, sym, ap, ◌∙◌, subst, arith}
-use Rattle.std.proofs.lemmas.List.{take-map, length-map}
+use Rattle.std.proofs.Common.{◌≡◌, ◌≤◌, map, take, length, codes, sym, ap, ◌∙◌, subst, arith}
+use Rattle.std.proofs.lemmas.List.{take-map, length-map, length-take-le}
 use Rattle.std.specs.Prelude.{IfOk, IfErr}
 use Rattle.tau_sexpr.specs.Form.{tree_of}
 use Rattle.tau_sexpr.specs.Tree.{depths}
@@ -12,7 +12,8 @@ use Rattle.tau_input.proofs.parts.program_before.Goals as goal
 
 pub slice_bounds-program_meant-end : goal.slice_bounds-program_meant-end
 slice_bounds-program_meant-end c =
-    omega (arith, c.requires.mark, before_le (codes "trace") c.args.forms.now, ap length c.items.ensures, length-map c.items.result.now tree_of)
+    let within : c.args.mark ≤ length c.items.result.now = omega (arith, c.requires.mark, before_le (codes "trace") c.args.forms.now, ap length c.items.ensures, length-map c.items.result.now tree_of) in
+    sym (length-take-le c.args.mark c.items.result.now within)
 
 pub program_meant-requires : goal.program_meant-requires
 program_meant-requires c =

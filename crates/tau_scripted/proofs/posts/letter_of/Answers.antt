@@ -3,14 +3,14 @@ use Rattle.std.specs.Option.{IsSome}
 use Rattle.tau_trace.specs.Run.{Run, len}
 use Rattle.tau_trace.specs.Numbering.{born}
 use Rattle.tau_rules.proofs.DeliverLemmas.{receiver_exists}
-use Rattle.tau_legal.proofs.ReceiverLemmas.{each_received}
+use Rattle.tau_legal.proofs.ReceiverLemmas.{has_receiver}
 use Rattle.tau_scripted.proofs.Homes.{home_below}
 use Rattle.tau_scripted.proofs.posts.letter_of.Goals as goal
 
 pub unreachable-requires : goal.unreachable-requires
 unreachable-requires c =
     let T : Run = c.args.trace.now.run in
-    let received = each_received T (len T) c.args.message c.requires in
+    let received = has_receiver T c.args.message c.requires in
     absurd (c.in_default.ensures received.0 received.1)
 
 pub unreachable-requires-in_default-home : goal.unreachable-requires-in_default-home
