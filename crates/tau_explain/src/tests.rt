@@ -66,7 +66,9 @@ fn lists_keep_what_is_added(rt: HostRuntime) -> Result<(), AllocError> {
     let mut places = Places::new(alloc);
     assert!(rt; places.is_empty());
     places.push(7).map_err(|failed| failed.1)?;
-    assert!(rt; places.len() == 1 && places.copy()?.item(0) == Some(&7) && places.items() == &[7]);
+    assert!(rt;
+        places.len() == 1 && places.copy()?.item(0) == Some(&7) && places.items() == [7].as_slice()
+    );
     let mut chain = Chain::new(alloc);
     assert!(rt; chain.is_empty());
     let linked = Chained {
@@ -75,7 +77,9 @@ fn lists_keep_what_is_added(rt: HostRuntime) -> Result<(), AllocError> {
     };
     chain.push(linked).map_err(|failed| failed.1)?;
     assert!(rt;
-        chain.len() == 1 && chain.copy()?.item(0) == Some(&linked) && chain.items() == &[linked]
+        chain.len() == 1
+            && chain.copy()?.item(0) == Some(&linked)
+            && chain.items() == [linked].as_slice()
     );
     Ok(())
 }
