@@ -1,10 +1,14 @@
 //! Runs of one program by 2, 4 and 32 workers. Sixteen transactors in a ring hand on numbers, each one less than before, until they are
-//! 0: thousands of messages. For each run it is written that it ended, and whether its trace is legal and complete.
+//! 0: thousands of messages. For each run it is written that it ended, and whether its trace is legal and complete: once with workers
+//! that have seats at the book, as `run_workers` does it, and once with the book under a lock.
 #![tactic(auto)]
 
 ghost use Rattle.std.specs.Prelude.{◌≤◌, IfOk, IfSome};
 ghost use Rattle.tau_tree.specs.Sound.{Sound};
 
+mod locked;
+
+use crate::locked::add_locked;
 use std::alloc::{AllocError, Global};
 use std::process::ExitCode;
 use std::sync::Wait;
@@ -51,6 +55,7 @@ fn text_of<R: Threads + Wait + Sync>(rt: &R, alloc: Global) -> Result<String, Al
             limit: 1_000_000,
         };
         add_run(rt, alloc, &mut text, &program, settings)?;
+        add_locked(rt, alloc, &mut text, &program, settings)?;
     }
     Ok(text)
 }
