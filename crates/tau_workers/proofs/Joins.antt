@@ -1,6 +1,7 @@
 -- Workers with a seat each, before they work and after.
-use Rattle.std.proofs.Common.{◌≡◌, ◌<◌, ◌≤◌, ℕ, suc, List, [], ◌∷◌, ◌++◌, map, length, take, drop, slice_index_or, All, arith, append-nil, refl, ap, sym, ◌∙◌, subst}
-use Rattle.std.proofs.lemmas.List.{map-append, drop_all, take_all}
+use Rattle.std.proofs.Common.{◌≡◌, ◌<◌, ◌≤◌, ℕ, zero, suc, List, [], ◌∷◌, ◌++◌, map, length, take, drop, slice_index_or, All, arith, append-nil, refl, ap, sym, ◌∙◌, subst}
+use Rattle.std.proofs.lemmas.List.{map-append, drop_all, take_all, take_at, drop_at}
+use Rattle.std.proofs.lemmas.List.Elements.{All-append, All-take, All-drop}
 use Rattle.tau_book.specs.Hands.{Held}
 use Rattle.tau_seat.specs.Seated.{Tabled}
 use Rattle.tau_seat.specs.SeatPlaces.{Placed, PlaceKey, key_of_place}
@@ -31,3 +32,18 @@ pub ones_back : (t : Tabled) (old lent new : List (Worker Placed)) (n : ℕ) →
 ones_back t old lent new n at is same parts all =
     subst (All (λ (w : Worker Placed). HasOne t w.place)) (sym (whole old new n at (same ∙ ap length is)))
     (ones_stay t lent new same parts (subst (All (λ (w : Worker Placed). HasOne t w.place)) (sym is) all))
+
+-- with a worker more that has one, each has one
+pub one_more : (t : Tabled) (xs ys : List (Worker Placed)) (w : Worker Placed) → ys ≡ xs ++ w ∷ [] → All (λ w. HasOne t w.place) xs → HasOne t w.place → All (λ w. HasOne t w.place) ys
+one_more t xs ys w items all one =
+    subst (All (λ (v : Worker Placed). HasOne t v.place)) (sym items) (All-append (λ (v : Worker Placed). HasOne t v.place) xs (w ∷ []) all (only one)) where
+  only : HasOne t w.place → All (λ (v : Worker Placed). HasOne t v.place) (w ∷ [])
+  only h zero d l = h
+  only h (suc k) d l = absurd (omega (arith, l))
+
+-- of a list of those that have one, with a last one, the others have one, and so has the last
+pub with_last : (t : Tabled) (xs ys : List (Worker Placed)) (w : Worker Placed) → xs ≡ ys ++ w ∷ [] → All (λ w. HasOne t w.place) xs → All (λ w. HasOne t w.place) ys × HasOne t w.place
+with_last t xs ys w items all =
+    let both : All (λ (v : Worker Placed). HasOne t v.place) (ys ++ w ∷ []) = subst (All (λ (v : Worker Placed). HasOne t v.place)) items all in
+    ( subst (All (λ (v : Worker Placed). HasOne t v.place)) (take_at ys (w ∷ []) (length ys) refl) (All-take (λ (v : Worker Placed). HasOne t v.place) (length ys) (ys ++ w ∷ []) both)
+    , (subst (All (λ (v : Worker Placed). HasOne t v.place)) (drop_at ys (w ∷ []) (length ys) refl) (All-drop (λ (v : Worker Placed). HasOne t v.place) (length ys) (ys ++ w ∷ []) both)) zero w (omega arith) )

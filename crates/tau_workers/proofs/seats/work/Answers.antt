@@ -1,15 +1,13 @@
 use denote.Param.Send.{sendable}
 use Rattle.std.proofs.Common.{rules}
 use Rattle.std.proofs.Crossing.{crosses}
-use Rattle.atomic_table.proofs.shared.Seat.TheSendSync as seat_crosses
-use Rattle.tau_seat.proofs.table.SeatTable.TheSendSync as table_crosses
-use Rattle.tau_workers.proofs.Sends.{trace_send, job_send, states_send, record_send, pruned_send, index_send, cursor_send, value_send, program_sync}
+use Rattle.tau_workers.proofs.Sends.{job_send}
+use Rattle.tau_workers.proofs.SeatSends.{place_send}
 use Rattle.tau_workers.proofs.Joins.{ones_back}
 use Rattle.tau_workers.proofs.seats.work.Goals as goal
 
 pub run-requires-send-T : goal.run-requires-send-T
-run-requires-send-T g c κs within =
-    search (crosses, sendable, seat_crosses.the_send, table_crosses.the_sync, trace_send, job_send, states_send, record_send, pruned_send, index_send, cursor_send, value_send, program_sync) depth 200 fits 100000
+run-requires-send-T g c κs within = search (crosses, sendable, place_send, job_send) depth 200 fits 100000
 
 pub join_all-requires-clause-ones : goal.join_all-requires-clause-ones
 join_all-requires-clause-ones g c =
