@@ -19,3 +19,20 @@ returns g c = record {
   complete = λ command bytes e l f r w.
       stops_without_fault c.in-Err.status c.args.words.now _ _ _ command bytes c.in-Err.ensures.status e l f r;
 }
+
+pub returns-in-Ok-write_all_of : goal.returns-in-Ok-write_all_of
+returns-in-Ok-write_all_of g c = record {
+  words = search rules;
+  unread = search rules;
+  refused = search rules;
+  read_fault = search rules;
+  untouched = search rules;
+  input = search rules;
+  faulty = search rules;
+  unwritten = search rules;
+  written = search rules;
+  write_fault = search rules;
+  front = search rules;
+  no_memory = search rules;
+  complete = search rules;
+}
