@@ -16,7 +16,7 @@ use tau_sexpr::read_forms;
 use tau_tree::{Behaviour, Post, Program, Start};
 use tau_value::Value;
 
-// The effects of a turn that are followed at most.
+/// The effects of a turn that are followed at most.
 const LIMIT: u32 = 100;
 
 fn main(rt: HostRuntime) -> ExitCode {
@@ -39,7 +39,7 @@ fn main(rt: HostRuntime) -> ExitCode {
     }
 }
 
-// A turn: its program, its transactor with the behaviour, and its message.
+/// A turn: its program, its transactor with the behaviour, and its message.
 #[derive(Clone, Copy)]
 struct Turn<'p> {
     program: &'p Program,
@@ -77,7 +77,7 @@ fn text_of(alloc: Global, program: &Program) -> Result<Vec<u8>, AllocError> {
     Ok(text)
 }
 
-// The effects of a turn by its job.
+/// The effects of a turn by its job.
 fn put_by_job(alloc: Global, text: &mut Vec<u8>, turn: Turn<'_>) -> Result<(), AllocError> {
     if turn.start.behaviour as usize >= turn.program.behaviours.len() {
         return Ok(());
@@ -106,7 +106,7 @@ fn put_by_job(alloc: Global, text: &mut Vec<u8>, turn: Turn<'_>) -> Result<(), A
     Ok(())
 }
 
-// The effects of a turn by the plain evaluator.
+/// The effects of a turn by the plain evaluator.
 fn put_by_plain(alloc: Global, text: &mut Vec<u8>, turn: Turn<'_>) -> Result<(), AllocError> {
     let behaviour = turn.behaviour;
     let body = &behaviour.body;
@@ -123,7 +123,7 @@ fn put_by_plain(alloc: Global, text: &mut Vec<u8>, turn: Turn<'_>) -> Result<(),
     Ok(())
 }
 
-// The reply to the effect of this number; `None` where the turn ends.
+/// The reply to the effect of this number; `None` where the turn ends.
 fn reply_to(effect: &Effect, start: &Start, number: u32) -> Result<Option<Value>, AllocError> {
     match effect {
         Effect::Get => Ok(Some(start.state.copy()?)),

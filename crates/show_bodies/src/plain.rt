@@ -74,7 +74,7 @@ pub fn next<'p>(
 }
 
 impl<'p> Plain<'p> {
-    // The value of an expression at most `depth` deep.
+    /// The value of an expression at most `depth` deep.
     #[cycle(value)]
     fn value(&mut self, expr: &'p Expr, depth: u32) -> Result<Value, Stop> {
         if self.count >= 100_000 || depth == 0 {
@@ -125,7 +125,7 @@ impl<'p> Plain<'p> {
         }
     }
 
-    // The nearest variable of a name.
+    /// The nearest variable of a name.
     fn variable(&mut self, name: &Word) -> Result<Value, Stop> {
         for binding in self.bindings.iter().rev() {
             if binding.name.same(name) {
@@ -135,7 +135,7 @@ impl<'p> Plain<'p> {
         Ok(Value::Unit)
     }
 
-    // The next reply; without one the evaluation ends at the effect.
+    /// The next reply; without one the evaluation ends at the effect.
     fn reply(&mut self, effect: Effect) -> Result<Value, Stop> {
         match self.replies.get(self.used) {
             Some(reply) => {

@@ -47,7 +47,7 @@ fn put_count(alloc: Global, text: &mut Vec<u8>, count: u32) -> Result<(), AllocE
     text.extend_from_slice(word_of_count(alloc, u64::from(count))?.bytes())
 }
 
-// Adds a value at most `depth` deep; of a long list or text its length.
+/// Adds a value at most `depth` deep; of a long list or text its length.
 fn put_value(
     alloc: Global,
     text: &mut Vec<u8>,

@@ -27,7 +27,7 @@ fn main(rt: HostRuntime) -> ExitCode {
     }
 }
 
-// The text for all sections.
+/// The text for all sections.
 fn text_of<R: Threads + Wait + Sync>(
     rt: &R,
     alloc: Global,
@@ -46,13 +46,13 @@ fn text_of<R: Threads + Wait + Sync>(
     Ok(text)
 }
 
-// The first line, without its line feed, and what follows it.
+/// The first line, without its line feed, and what follows it.
 fn line_of(bytes: &[u8]) -> Option<(&[u8], &[u8])> {
     let end = bytes.iter().position(|byte| *byte == b'\n')?;
     Some((&bytes[..end], &bytes[end + 1..]))
 }
 
-// What stands before the first line that begins with `#`, and from there on.
+/// What stands before the first line that begins with `#`, and from there on.
 fn section_of(bytes: &[u8]) -> (&[u8], &[u8]) {
     let mut at_start = true;
     for (place, byte) in bytes.iter().enumerate() {
@@ -64,7 +64,7 @@ fn section_of(bytes: &[u8]) -> (&[u8], &[u8]) {
     (bytes, &bytes[bytes.len()..])
 }
 
-// Adds the line of a section, what its words write for its input, and the status.
+/// Adds the line of a section, what its words write for its input, and the status.
 fn add_section<R: Threads + Wait + Sync>(
     rt: &R,
     alloc: Global,
@@ -93,7 +93,7 @@ fn add_section<R: Threads + Wait + Sync>(
     Ok(())
 }
 
-// Whether the words are those of `run` with one worker.
+/// Whether the words are those of `run` with one worker.
 fn starts_one_worker(alloc: Global, words: &Words) -> bool {
     matches!(
         read_words(alloc, words),
@@ -101,7 +101,7 @@ fn starts_one_worker(alloc: Global, words: &Words) -> bool {
     )
 }
 
-// Adds a line with the number of a status, and the line that the program prints for it.
+/// Adds a line with the number of a status, and the line that the program prints for it.
 fn add_status(alloc: Global, text: &mut Vec<u8>, status: Status) -> Result<(), AllocError> {
     text.extend_from_slice(b"; ")?;
     text.push(b'0' + number(&status) % 10)?;
@@ -113,7 +113,7 @@ fn add_status(alloc: Global, text: &mut Vec<u8>, status: Status) -> Result<(), A
     Ok(())
 }
 
-// The words of a line, without the `#` before them.
+/// The words of a line, without the `#` before them.
 fn words_of(alloc: Global, line: &[u8]) -> Result<Words, AllocError> {
     let mut words = Words::new(alloc);
     let text = str::from_utf8(line).unwrap_or("");

@@ -43,14 +43,14 @@ fn program(alloc: Global) -> Result<Vec<u8>, AllocError> {
     Vec::from_slice(alloc, PROGRAM.as_bytes())
 }
 
-// The list of this one number.
+/// The list of this one number.
 fn numbers(alloc: Global, number: u32) -> Result<Vec<u32>, AllocError> {
     let mut numbers = Vec::new(alloc);
     numbers.push(number)?;
     Ok(numbers)
 }
 
-// The status of `tau run`.
+/// The status of `tau run`.
 fn run<I: Source, O: Sink>(
     alloc: Global,
     input: &mut I,

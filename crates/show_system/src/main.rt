@@ -37,7 +37,7 @@ fn main(rt: HostRuntime) -> ExitCode {
     }
 }
 
-// The text for all sections.
+/// The text for all sections.
 fn text_of(alloc: Global, bytes: &[u8]) -> Result<String, AllocError> {
     let mut text = String::new(alloc);
     let mut rest = bytes;
@@ -52,13 +52,13 @@ fn text_of(alloc: Global, bytes: &[u8]) -> Result<String, AllocError> {
     Ok(text)
 }
 
-// The first line, without its line feed, and what follows it.
+/// The first line, without its line feed, and what follows it.
 fn line_of(bytes: &[u8]) -> Option<(&[u8], &[u8])> {
     let end = bytes.iter().position(|byte| *byte == b'\n')?;
     Some((&bytes[..end], &bytes[end + 1..]))
 }
 
-// What stands before the first line that begins with `#`, and from there on.
+/// What stands before the first line that begins with `#`, and from there on.
 fn section_of(bytes: &[u8]) -> (&[u8], &[u8]) {
     let mut at_start = true;
     for (place, byte) in bytes.iter().enumerate() {
@@ -70,7 +70,7 @@ fn section_of(bytes: &[u8]) -> (&[u8], &[u8]) {
     (bytes, &bytes[bytes.len()..])
 }
 
-// What stands before the line `(calls)`, and what follows it.
+/// What stands before the line `(calls)`, and what follows it.
 fn parts_of(section: &[u8]) -> (&[u8], &[u8]) {
     let mut at_start = true;
     for (place, byte) in section.iter().enumerate() {
@@ -84,7 +84,7 @@ fn parts_of(section: &[u8]) -> (&[u8], &[u8]) {
     (section, &section[section.len()..])
 }
 
-// What follows the first line, where it is `(calls)`.
+/// What follows the first line, where it is `(calls)`.
 fn after_mark(bytes: &[u8]) -> Option<&[u8]> {
     let (line, after) = line_of(bytes)?;
     if line == b"(calls)".as_slice() {
@@ -94,7 +94,7 @@ fn after_mark(bytes: &[u8]) -> Option<&[u8]> {
     }
 }
 
-// Adds the line of a section, and what its calls answer.
+/// Adds the line of a section, and what its calls answer.
 fn add_section(
     alloc: Global,
     text: &mut String,
@@ -119,7 +119,7 @@ fn add_section(
     Ok(())
 }
 
-// The program that bytes spell.
+/// The program that bytes spell.
 fn program_from(alloc: Global, bytes: &[u8]) -> Option<Program>
     ensures { IfSome result Sound }
 {
@@ -132,7 +132,7 @@ fn program_from(alloc: Global, bytes: &[u8]) -> Option<Program>
     }
 }
 
-// Adds what the calls answer on a run of the program.
+/// Adds what the calls answer on a run of the program.
 fn add_run<V: Shown>(
     alloc: Global,
     text: &mut String,

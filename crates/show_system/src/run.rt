@@ -9,7 +9,7 @@ use tau_rules::{ActError, Acted, DeliverError, Delivered, FailError, LoseError, 
 use tau_tree::Program;
 use tau_value::Value;
 
-// How many steps a run may have.
+/// How many steps a run may have.
 const MOST: u32 = 1_000_000;
 
 /// A system, and the jobs that it handed out.
@@ -49,7 +49,7 @@ impl<'p, V: Shown> Run<'p, V> {
         }
     }
 
-    // Makes a call that makes a step.
+    /// Makes a call that makes a step.
     fn step(&mut self, verb: &str, number: u32) -> Result<Answer, AllocError> {
         match verb {
             "deliver" => self.deliver(number),
@@ -59,7 +59,7 @@ impl<'p, V: Shown> Run<'p, V> {
         }
     }
 
-    // Adds what a call came to.
+    /// Adds what a call came to.
     fn tell(&mut self, text: &mut String, answer: Answer) -> Result<(), AllocError> {
         match answer {
             Answer::Made => add_step(self.alloc, text, self.system.trace()),
@@ -72,7 +72,7 @@ impl<'p, V: Shown> Run<'p, V> {
         }
     }
 
-    // Delivers a message. The job of the turn that begins is kept.
+    /// Delivers a message. The job of the turn that begins is kept.
     fn deliver(&mut self, message: u32) -> Result<Answer, AllocError> {
         if message >= self.system.trace().sent() || self.system.trace().len() >= MOST {
             return Ok(Answer::Nothing);
@@ -89,7 +89,7 @@ impl<'p, V: Shown> Run<'p, V> {
         }
     }
 
-    // Makes the next step of the job that is kept for a transactor.
+    /// Makes the next step of the job that is kept for a transactor.
     fn act(&mut self, who: u32) -> Result<Answer, AllocError> {
         let Some(place) = self.jobs.iter().position(|job| job.who() == who) else {
             return Ok(Answer::Nothing);
@@ -98,7 +98,7 @@ impl<'p, V: Shown> Run<'p, V> {
         self.act_job(job)
     }
 
-    // Makes the next step of a job. The job with its reply is kept.
+    /// Makes the next step of a job. The job with its reply is kept.
     fn act_job(&mut self, job: Job<'p>) -> Result<Answer, AllocError> {
         let pending = match job.advance() {
             Ok(pending) => pending,
@@ -122,7 +122,7 @@ impl<'p, V: Shown> Run<'p, V> {
         }
     }
 
-    // Lets a transactor fail.
+    /// Lets a transactor fail.
     fn fail(&mut self, who: u32) -> Result<Answer, AllocError> {
         if who >= self.system.trace().born() || self.system.trace().len() >= MOST {
             return Ok(Answer::Nothing);
@@ -134,7 +134,7 @@ impl<'p, V: Shown> Run<'p, V> {
         }
     }
 
-    // Loses a message.
+    /// Loses a message.
     fn lose(&mut self, message: u32) -> Result<Answer, AllocError> {
         if message >= self.system.trace().sent() || self.system.trace().len() >= MOST {
             return Ok(Answer::Nothing);
@@ -146,8 +146,8 @@ impl<'p, V: Shown> Run<'p, V> {
         }
     }
 
-    // Keeps, in place of the jobs there, one of a turn from a place that takes this number as its message, of the first
-    // transactor with the first behaviour.
+    /// Keeps, in place of the jobs there, one of a turn from a place that takes this number as its message, of the first
+    /// transactor with the first behaviour.
     fn begin(&mut self, place: u32, number: u32) -> Result<(), AllocError> {
         let program = self.system.program();
         if program.behaviours.len() == 0 {
@@ -160,8 +160,8 @@ impl<'p, V: Shown> Run<'p, V> {
         Ok(())
     }
 
-    // Makes up to so many steps, each of the job that was kept last, or the receipt of the least message in flight, and adds
-    // how many the run has.
+    /// Makes up to so many steps, each of the job that was kept last, or the receipt of the least message in flight, and adds
+    /// how many the run has.
     fn run(&mut self, text: &mut String, limit: u32) -> Result<(), AllocError> {
         let mut least = 0;
         for _ in 0..limit {
@@ -179,7 +179,7 @@ impl<'p, V: Shown> Run<'p, V> {
         writeln!(text, "(steps {steps})")
     }
 
-    // The least message in flight that isn't less, or the number of messages.
+    /// The least message in flight that isn't less, or the number of messages.
     fn in_flight_from(&self, from: u32) -> u32 {
         let trace = self.system.trace();
         for message in from..trace.sent() {

@@ -11,7 +11,8 @@ use tau_history::History;
 use tau_points::{Point, Relation};
 use tau_rules::{Standing, System};
 use tau_sexpr::{Forms, print_forms};
-use tau_trace::{Trace, form_of_step};
+use tau_steps::form_of_step;
+use tau_trace::Trace;
 use tau_value::Value;
 use tau_view::{FullView, View};
 
@@ -75,7 +76,7 @@ pub(crate) fn add_step(alloc: Global, text: &mut String, trace: &Trace) -> Resul
     text.push_str(str::from_utf8(&bytes).unwrap_or(""))
 }
 
-// The line of a step.
+/// The line of a step.
 fn step_text(alloc: Global, trace: &Trace, place: u32) -> Result<Vec<u8>, AllocError>
     requires { place < len trace.now.run }
 {
@@ -85,7 +86,7 @@ fn step_text(alloc: Global, trace: &Trace, place: u32) -> Result<Vec<u8>, AllocE
     print_forms(alloc, &forms)
 }
 
-// Adds what a transactor is doing.
+/// Adds what a transactor is doing.
 fn add_standing(text: &mut String, who: u32, standing: Option<Standing>) -> Result<(), AllocError> {
     match standing {
         None => writeln!(text, "(standing {who} none)"),
@@ -95,7 +96,7 @@ fn add_standing(text: &mut String, who: u32, standing: Option<Standing>) -> Resu
     }
 }
 
-// Adds a state, or a saved one, by its integer.
+/// Adds a state, or a saved one, by its integer.
 fn add_state(
     text: &mut String,
     verb: &str,
@@ -109,7 +110,7 @@ fn add_state(
     }
 }
 
-// Adds a history: its transactor, its mode, and its numbers.
+/// Adds a history: its transactor, its mode, and its numbers.
 fn add_history(text: &mut String, who: u32, history: Option<&History>) -> Result<(), AllocError> {
     let Some(history) = history else {
         return Ok(());
@@ -128,7 +129,7 @@ fn add_point(text: &mut String, point: &Point) -> Result<(), AllocError> {
     write!(text, " ({who} {interval} {incarnation})")
 }
 
-// Adds a view: its histories of the transactors below a number, its edges and its roots.
+/// Adds a view: its histories of the transactors below a number, its edges and its roots.
 fn add_view<V: Shown>(text: &mut String, born: u32, view: &V) -> Result<(), AllocError> {
     text.push_str("(view")?;
     for who in 0..born {
@@ -151,7 +152,7 @@ fn add_view<V: Shown>(text: &mut String, born: u32, view: &V) -> Result<(), Allo
     text.push_str("))\n")
 }
 
-// The own point of a transactor.
+/// The own point of a transactor.
 fn own_point<V: Shown>(system: &System<'_, V>, who: u32) -> Option<Point> {
     let history = system.history_of(who)?;
     Some(Point {
@@ -161,7 +162,7 @@ fn own_point<V: Shown>(system: &System<'_, V>, who: u32) -> Option<Point> {
     })
 }
 
-// Adds whether a transactor is free, by its view.
+/// Adds whether a transactor is free, by its view.
 fn add_freedom<V: Shown>(
     alloc: Global,
     text: &mut String,
@@ -181,7 +182,7 @@ fn add_freedom<V: Shown>(
     }
 }
 
-// Adds the verdict on a message in flight, by the views.
+/// Adds the verdict on a message in flight, by the views.
 fn add_verdict<V: Shown>(
     alloc: Global,
     text: &mut String,
@@ -207,7 +208,7 @@ fn add_verdict<V: Shown>(
     text.push_str(")\n")
 }
 
-// The view of a transactor with the facts of a message in flight.
+/// The view of a transactor with the facts of a message in flight.
 fn merged_view<V: Shown>(
     system: &System<'_, V>,
     who: u32,

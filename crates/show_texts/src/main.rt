@@ -40,7 +40,7 @@ fn main(rt: HostRuntime) -> ExitCode {
     }
 }
 
-// The text for all sections.
+/// The text for all sections.
 fn text_of(alloc: Global, input: &str) -> Result<String, AllocError> {
     let mut text = String::new(alloc);
     for section in input.split("# ").skip(1) {
@@ -49,7 +49,7 @@ fn text_of(alloc: Global, input: &str) -> Result<String, AllocError> {
     Ok(text)
 }
 
-// Adds the line of a section, and what its verb answers.
+/// Adds the line of a section, and what its verb answers.
 fn add_section(alloc: Global, text: &mut String, section: &str) -> Result<(), AllocError> {
     let (line, rest) = section.split_once("\n").unwrap_or((section, ""));
     let rest = rest.strip_suffix("\n").unwrap_or(rest);

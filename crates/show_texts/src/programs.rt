@@ -21,7 +21,7 @@ pub(crate) fn add_program(
     }
 }
 
-// Adds a program, printed, where it is sound.
+/// Adds a program, printed, where it is sound.
 fn add_sound(alloc: Global, text: &mut String, program: &Program) -> Result<(), AllocError> {
     if !program.sound(alloc)? {
         return text.push_str("not sound\n");

@@ -60,7 +60,7 @@ fn built_form(alloc: Global, form: &Form) -> Result<Form, AllocError> {
     }
 }
 
-// The word of the same bytes, the last of which is pushed.
+/// The word of the same bytes, the last of which is pushed.
 fn built_word(alloc: Global, word: &Word) -> Result<Word, AllocError> {
     let Some((last, front)) = word.bytes().split_last() else {
         return Ok(Word::new(alloc));
@@ -75,7 +75,7 @@ fn built_word(alloc: Global, word: &Word) -> Result<Word, AllocError> {
     }
 }
 
-// The text of the same bytes, the last of which is pushed; another text shares the bytes before it.
+/// The text of the same bytes, the last of which is pushed; another text shares the bytes before it.
 fn built_text(alloc: Global, text: &Text) -> Result<Text, AllocError> {
     let Some((last, front)) = text.bytes().split_last() else {
         return Ok(Text::new(alloc));

@@ -4,7 +4,7 @@ use std::alloc::{AllocError, Global};
 use tau_sexpr::{Form, Word, read_forms};
 use tau_value::{Names, count_of, form_of, integer_of, value_of, word_of_count, word_of_integer};
 
-// The names that values are read with, and the bound.
+/// The names that values are read with, and the bound.
 const NAMES: &str = "a to-2";
 
 const BOUND: u32 = 9;
@@ -82,7 +82,7 @@ fn names_of(alloc: Global) -> Result<Names, AllocError> {
     names.copy()
 }
 
-// Adds a form as a value, printed from a copy; or its fault.
+/// Adds a form as a value, printed from a copy; or its fault.
 fn add_value(
     alloc: Global,
     text: &mut String,

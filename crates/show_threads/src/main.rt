@@ -39,7 +39,7 @@ fn main(rt: HostRuntime) -> ExitCode {
     }
 }
 
-// The text for all runs.
+/// The text for all runs.
 fn text_of<R: Threads + Wait + Sync>(rt: &R, alloc: Global) -> Result<String, AllocError> {
     let mut text = String::new(alloc);
     let spelled = ring(alloc)?;
@@ -60,7 +60,7 @@ fn text_of<R: Threads + Wait + Sync>(rt: &R, alloc: Global) -> Result<String, Al
     Ok(text)
 }
 
-// The text of the program.
+/// The text of the program.
 fn ring(alloc: Global) -> Result<String, AllocError> {
     let mut text = String::new(alloc);
     text.push_str("(nodes 1)\n")?;
@@ -82,7 +82,7 @@ fn ring(alloc: Global) -> Result<String, AllocError> {
     Ok(text)
 }
 
-// The program that bytes spell.
+/// The program that bytes spell.
 fn program_from(alloc: Global, bytes: &[u8]) -> Option<Program>
     ensures { IfSome result Sound }
 {
@@ -95,7 +95,7 @@ fn program_from(alloc: Global, bytes: &[u8]) -> Option<Program>
     }
 }
 
-// Runs the program, and adds that the run ended, and what its trace is.
+/// Runs the program, and adds that the run ended, and what its trace is.
 fn add_run<R: Threads + Wait + Sync>(
     rt: &R,
     alloc: Global,

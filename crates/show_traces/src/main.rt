@@ -31,7 +31,7 @@ fn main(rt: HostRuntime) -> ExitCode {
     }
 }
 
-// The text for all sections.
+/// The text for all sections.
 fn facts_of(alloc: Global, bytes: &[u8]) -> Result<String, FactsError> {
     let Ok(input) = str::from_utf8(bytes) else {
         return Err(FactsError::Faulty);

@@ -4,7 +4,8 @@ use tau_check::Legality;
 use tau_past::Audit;
 use tau_points::Point;
 use tau_sexpr::{Forms, print_forms};
-use tau_trace::{Trace, form_of_step};
+use tau_steps::form_of_step;
+use tau_trace::Trace;
 
 pub(crate) fn number_text(alloc: Global, number: Option<u32>) -> Result<String, AllocError> {
     match number {

@@ -5,8 +5,8 @@ use std::alloc::{AllocError, Global};
 use std::sync::Wait;
 use std::thread::Threads;
 use tau_cli::{Line, Status, Words, tau};
-use tau_input::read_run_text;
 use tau_io::{SteadySink, SteadySource};
+use tau_text::read_run_text;
 
 /// Lets `tau run --workers 2` run the program of a text with the gate of a case, and adds what holds of the run text that it writes.
 pub fn add_command<R: Threads + Wait + Sync>(
@@ -31,7 +31,7 @@ pub fn add_command<R: Threads + Wait + Sync>(
     }
 }
 
-// The words of a line, which stand one space apart.
+/// The words of a line, which stand one space apart.
 fn words_of(alloc: Global, line: &str) -> Result<Words, AllocError> {
     let mut words = Words::new(alloc);
     for word in line.split(' ') {

@@ -50,7 +50,7 @@ pub fn add_facts(
     }
 }
 
-// Who takes a message at a place.
+/// Who takes a message at a place.
 fn taker(trace: &Trace, place: u32) -> Option<u32> {
     match trace.step(place) {
         Some(Step::Take { who, .. }) => Some(*who),
@@ -58,7 +58,7 @@ fn taker(trace: &Trace, place: u32) -> Option<u32> {
     }
 }
 
-// Whether one transactor's first Set stands before another's first Get.
+/// Whether one transactor's first Set stands before another's first Get.
 fn is_set_before_get(trace: &Trace, setter: u32, getter: u32) -> bool {
     let set = (0..trace.len()).find(|place| is_set(trace, *place, setter));
     let get = (0..trace.len()).find(|place| is_get(trace, *place, getter));
@@ -68,7 +68,7 @@ fn is_set_before_get(trace: &Trace, setter: u32, getter: u32) -> bool {
     }
 }
 
-// Whether a transactor's Set stands at a place.
+/// Whether a transactor's Set stands at a place.
 fn is_set(trace: &Trace, place: u32, setter: u32) -> bool {
     match trace.step(place) {
         Some(Step::Set { who, .. }) => *who == setter,
@@ -76,7 +76,7 @@ fn is_set(trace: &Trace, place: u32, setter: u32) -> bool {
     }
 }
 
-// Whether a transactor's Get stands at a place.
+/// Whether a transactor's Get stands at a place.
 fn is_get(trace: &Trace, place: u32, getter: u32) -> bool {
     match trace.step(place) {
         Some(Step::Get { who }) => *who == getter,

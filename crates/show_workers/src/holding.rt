@@ -32,7 +32,7 @@ pub struct HoldingGate {
     ran_out: AtomicBool,
 }
 
-// How often a turn has entered and left.
+/// How often a turn has entered and left.
 #[derive(Drop)]
 struct Passed {
     entered: AtomicU64,
@@ -64,12 +64,12 @@ impl HoldingGate {
         self.ran_out.load(Ordering::SeqCst)
     }
 
-    // Which counts are a turn's.
+    /// Which counts are a turn's.
     fn counts(&self, turn: u32) -> &Passed {
         if turn == 0 { &self.first } else { &self.other }
     }
 
-    // Holds until a count has come so far.
+    /// Holds until a count has come so far.
     fn hold(&self, count: &AtomicU64, least: u64) {
         for _ in 0..LOOKS {
             if count.load(Ordering::SeqCst) >= least {

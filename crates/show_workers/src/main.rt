@@ -51,7 +51,7 @@ fn main(rt: HostRuntime) -> ExitCode {
     }
 }
 
-// The text for both cases.
+/// The text for both cases.
 fn text_of<R: Threads + Wait + Sync>(rt: &R, alloc: Global) -> Result<String, AllocError> {
     let mut text = String::new(alloc);
     let Some(program) = program_from(alloc, TEXT.as_bytes()) else {
@@ -69,7 +69,7 @@ fn text_of<R: Threads + Wait + Sync>(rt: &R, alloc: Global) -> Result<String, Al
     Ok(text)
 }
 
-// The program that bytes spell.
+/// The program that bytes spell.
 fn program_from(alloc: Global, bytes: &[u8]) -> Option<Program>
     ensures { IfSome result Sound }
 {
@@ -82,7 +82,7 @@ fn program_from(alloc: Global, bytes: &[u8]) -> Option<Program>
     }
 }
 
-// Runs the program by two workers with the gate of a case, and adds what holds of the trace.
+/// Runs the program by two workers with the gate of a case, and adds what holds of the trace.
 fn add_case<R: Threads + Wait + Sync>(
     rt: &R,
     alloc: Global,

@@ -1,3 +1,8 @@
+pub mod Counts
+pub mod Chosen
+pub mod Kept
+pub mod Works
+pub mod OneRun
 pub mod JobLists
 pub mod StoreLemmas
 pub mod Choices

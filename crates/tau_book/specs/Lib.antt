@@ -1,3 +1,5 @@
+pub mod SerialRun
+pub mod Laws
 pub mod Hands
 pub mod Books
 pub mod Offers

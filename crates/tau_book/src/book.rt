@@ -102,7 +102,7 @@ impl<'p, V: View + Drop> Book<'p, V> {
         Ok(answer)
     }
 
-    // The answer of `next`.
+    /// The answer of `next`.
     fn answer(&mut self, hand: &mut Hand<'p>) -> Result<Next<'p>, AllocError>
         ensures ok { IfOk result (IsNext self.old self.new hand.old hand.new) }
         ensures room { IfOk result (LeavesRoom hand.new) }
@@ -122,14 +122,14 @@ impl<'p, V: View + Drop> Book<'p, V> {
         self.choose(hand)
     }
 
-    // Whether the trace is complete.
+    /// Whether the trace is complete.
     fn is_complete(&self) -> bool
         ensures { IsTrue result ↔ IsComplete self.now }
     {
         self.scripted.is_complete()
     }
 
-    // Whether the trace has as many steps as the limit.
+    /// Whether the trace has as many steps as the limit.
     fn is_at_limit(&self) -> bool
         ensures at { IsTrue result → IsAtLimit self.now }
         ensures below { IsFalse result → len self.now.system.run < self.now.limit }
@@ -137,7 +137,7 @@ impl<'p, V: View + Drop> Book<'p, V> {
         self.scripted.len() == self.limit
     }
 
-    // Appends the step of the script that is due, if one is.
+    /// Appends the step of the script that is due, if one is.
     fn make_due(&mut self) -> Result<bool, AllocError>
         requires { len self.old.system.run < self.old.limit }
         ensures ok { IfOk result (IsDueTried self.old self.new) }
@@ -146,7 +146,7 @@ impl<'p, V: View + Drop> Book<'p, V> {
         self.scripted.make_due()
     }
 
-    // Chooses what the hand does next.
+    /// Chooses what the hand does next.
     fn choose(&mut self, hand: &mut Hand<'p>) -> Result<Next<'p>, AllocError>
         requires goes_on { GoesOn self.old }
         requires incomplete { ¬ IsComplete self.old }
@@ -186,7 +186,7 @@ impl<'p, V: View + Drop> Book<'p, V> {
         Ok(told)
     }
 
-    // The answer of `act`.
+    /// The answer of `act`.
     fn tell(
         &mut self,
         hand: &mut Hand<'p>,
@@ -210,7 +210,7 @@ impl<'p, V: View + Drop> Book<'p, V> {
         }
     }
 
-    // Makes the step of an effect; none of the script is due.
+    /// Makes the step of an effect; none of the script is due.
     fn make(
         &mut self,
         hand: &mut Hand<'p>,
@@ -240,7 +240,7 @@ impl<'p, V: View + Drop> Book<'p, V> {
         }
     }
 
-    // Tries the effect; no step of the script is due.
+    /// Tries the effect; no step of the script is due.
     fn try_effect(&mut self, pending: &Pending<'p>) -> Result<Acted<'p>, ActError>
         requires { GoesOn self.old }
         ensures ok { IfOk result (IsTried self.old self.new pending.now) }

@@ -59,7 +59,7 @@ pub(crate) fn choose<'p, V: View + Drop>(
     }
 }
 
-// How many messages a hand with so many jobs can choose.
+/// How many messages a hand with so many jobs can choose.
 fn count_messages<'p, V: View + Drop>(
     scripted: &Scripted<'p, V>,
     hand: &Hand<'p>,
@@ -75,7 +75,7 @@ fn count_messages<'p, V: View + Drop>(
     }
 }
 
-// The number that a word chooses of so many jobs and messages.
+/// The number that a word chooses of so many jobs and messages.
 fn number_of(word: u32, jobs: usize, messages: usize) -> usize
     requires { 1 ≤ jobs + messages }
     ensures number { result ≡ word % (jobs + messages) }
@@ -84,7 +84,7 @@ fn number_of(word: u32, jobs: usize, messages: usize) -> usize
     word as usize % jobs.saturating_add(messages)
 }
 
-// There is nothing to choose from. Gives up the jobs of turns that aren't open, and tells how many are.
+/// There is nothing to choose from. Gives up the jobs of turns that aren't open, and tells how many are.
 fn idle<'p, V: View + Drop>(
     scripted: &Scripted<'p, V>,
     store: &mut Vec<Job<'p>>,
@@ -105,7 +105,7 @@ fn idle<'p, V: View + Drop>(
     scripted.open_turns()
 }
 
-// Hands out the job with a number that a word chose, and has the generator after the word.
+/// Hands out the job with a number that a word chose, and has the generator after the word.
 fn hand_out<'p, V: View + Drop>(
     scripted: &Scripted<'p, V>,
     store: &mut Vec<Job<'p>>,
@@ -131,7 +131,7 @@ fn hand_out<'p, V: View + Drop>(
     hand.hand_out(number, generator)
 }
 
-// Delivers the message with a number, where a word chose it, and has the generator after the word.
+/// Delivers the message with a number, where a word chose it, and has the generator after the word.
 fn receive<'p, V: View + Drop>(
     scripted: &mut Scripted<'p, V>,
     store: &mut Vec<Job<'p>>,

@@ -45,7 +45,7 @@ pub(crate) fn take_earliest<'p>(jobs: &mut Vec<Job<'p>>) -> Option<Job<'p>>
     Some(jobs.remove(place))
 }
 
-// Where the first job of the earliest turn is.
+/// Where the first job of the earliest turn is.
 fn place_of_earliest(jobs: &[Job<'_>]) -> Option<usize>
     ensures { IsEarliestFrom jobs.now 0 result }
 {
@@ -58,7 +58,7 @@ fn place_of_earliest(jobs: &[Job<'_>]) -> Option<usize>
     best
 }
 
-// Of a place and that of the earliest turn behind it, the one of the earlier turn.
+/// Of a place and that of the earliest turn behind it, the one of the earlier turn.
 fn earlier(jobs: &[Job<'_>], place: usize, best: Option<usize>) -> usize
     requires within { place < length jobs.now }
     requires best { IsEarliestFrom jobs.now (place + 1) best }
@@ -91,7 +91,7 @@ pub(crate) fn place_of_number(jobs: &[Job<'_>], number: usize) -> usize
     unreachable!()
 }
 
-// How many jobs stand before the one at a place by ascending turn: those of earlier turns, and those of its turn before it.
+/// How many jobs stand before the one at a place by ascending turn: those of earlier turns, and those of its turn before it.
 fn number_of(jobs: &[Job<'_>], k: usize) -> usize
     requires { k < length jobs.now }
     ensures { (d : TurnSoFar) → result ≡ count_by (is_earlier (slice_index_or jobs.now k d).place) jobs.now + count_by (is_of (slice_index_or jobs.now k d).place) (take k jobs.now) }
@@ -100,14 +100,14 @@ fn number_of(jobs: &[Job<'_>], k: usize) -> usize
     count_earlier(jobs, turn) + count_of(&jobs[..k], turn)
 }
 
-// How many jobs are of an earlier turn.
+/// How many jobs are of an earlier turn.
 fn count_earlier(jobs: &[Job<'_>], turn: u32) -> usize
     ensures { result ≡ count_by (is_earlier turn) jobs.now }
 {
     jobs.iter().filter(|job| job.turn() < turn).count()
 }
 
-// How many jobs are of this turn.
+/// How many jobs are of this turn.
 fn count_of(jobs: &[Job<'_>], turn: u32) -> usize
     ensures { result ≡ count_by (is_of turn) jobs.now }
 {

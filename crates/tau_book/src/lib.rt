@@ -6,11 +6,15 @@ mod book;
 mod choosing;
 mod hand;
 mod jobs;
+mod laws;
 mod place;
 mod returns;
+mod serial;
 mod tidying;
 
 pub use answers::{Next, Told};
 pub use book::Book;
 pub use hand::Hand;
+pub use laws::serial_run_is_unique;
 pub use place::StepPlace;
+pub use serial::{Serial, run};

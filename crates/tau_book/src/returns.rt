@@ -28,7 +28,7 @@ pub(crate) fn give_all<'p>(turns: &[u32], jobs: &mut Vec<Job<'p>>, store: &mut V
     }
 }
 
-// Puts a job of an open turn to the returned jobs, but for one of a turn of which there is one.
+/// Puts a job of an open turn to the returned jobs, but for one of a turn of which there is one.
 fn give_one<'p>(turns: &[u32], job: Job<'p>, store: &mut Vec<Job<'p>>)
     requires room { length turns.now ≤ vec_capacity store.old }
     requires differ { AreOfDifferentTurns store.old.items }
@@ -44,7 +44,7 @@ fn give_one<'p>(turns: &[u32], job: Job<'p>, store: &mut Vec<Job<'p>>)
     }
 }
 
-// Whether one of the jobs is of this turn.
+/// Whether one of the jobs is of this turn.
 fn has_of(jobs: &[Job<'_>], turn: u32) -> bool
     ensures { result ≡ list_any (is_of turn) jobs.now }
 {

@@ -38,7 +38,7 @@ pub(crate) fn tidy<'p>(turns: &[u32], hand: &mut Hand<'p>, store: &mut Vec<Job<'
     }
 }
 
-// The hand, which has room, takes up the returned job of the earliest turn, if there is one.
+/// The hand, which has room, takes up the returned job of the earliest turn, if there is one.
 fn take_up<'p>(hand: &mut Hand<'p>, store: &mut Vec<Job<'p>>)
     requires differ { AreOfDifferentTurns store.old.items }
     requires room { length hand.old.jobs < hand.old.size }

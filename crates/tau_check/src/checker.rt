@@ -75,7 +75,7 @@ impl<'p> Checker<'p> {
         nothing_left(self.system.trace())
     }
 
-    // The due step of the script.
+    /// The due step of the script.
     fn due(&mut self) -> Option<Step>
         requires { IsChecker self.old.system.program self.old.system.run self.old.cursor self.old.jobs.items }
         ensures system { self.new.system ≡ self.old.system }
@@ -93,7 +93,7 @@ impl<'p> Checker<'p> {
         )
     }
 
-    // Whether a step is legal where another one, or it, is due.
+    /// Whether a step is legal where another one, or it, is due.
     fn check_due(&mut self, due: &Step, step: &Step) -> Result<bool, AllocError>
         requires asked { HasAsked self.old.system.program self.old.system.run self.old.cursor (Some due.now) }
         requires has_jobs { HasJobs self.old.system.program self.old.system.run self.old.jobs.items }
@@ -111,7 +111,7 @@ impl<'p> Checker<'p> {
         Ok(true)
     }
 
-    // Whether a step is legal where none is due.
+    /// Whether a step is legal where none is due.
     fn check_other(&mut self, step: &Step) -> Result<bool, AllocError>
         requires asked { HasAsked self.old.system.program self.old.system.run self.old.cursor None }
         requires has_jobs { HasJobs self.old.system.program self.old.system.run self.old.jobs.items }
@@ -127,7 +127,7 @@ impl<'p> Checker<'p> {
         }
     }
 
-    // Whether a receipt is legal: it is the one by which its message is delivered.
+    /// Whether a receipt is legal: it is the one by which its message is delivered.
     fn check_receipt(&mut self, message: u32, step: &Step) -> Result<bool, AllocError>
         requires asked { HasAsked self.old.system.program self.old.system.run self.old.cursor None }
         requires has_jobs { HasJobs self.old.system.program self.old.system.run self.old.jobs.items }
@@ -151,7 +151,7 @@ impl<'p> Checker<'p> {
         }
     }
 
-    // Whether a step of a turn is legal: the turn is open, and the step is that of its next effect.
+    /// Whether a step of a turn is legal: the turn is open, and the step is that of its next effect.
     fn check_turn(&mut self, who: u32, step: &Step) -> Result<bool, AllocError>
         requires asked { HasAsked self.old.system.program self.old.system.run self.old.cursor None }
         requires has_jobs { HasJobs self.old.system.program self.old.system.run self.old.jobs.items }
@@ -168,7 +168,7 @@ impl<'p> Checker<'p> {
         }
     }
 
-    // Whether a step is that of the effect to which its turn has come.
+    /// Whether a step is that of the effect to which its turn has come.
     fn check_effect(&mut self, pending: Pending<'p>, step: &Step) -> Result<bool, AllocError>
         requires asked { HasAsked self.old.system.program self.old.system.run self.old.cursor None }
         requires follows { MayFollow self.old.system.run step.now }

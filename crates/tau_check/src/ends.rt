@@ -19,7 +19,7 @@ pub(crate) fn nothing_left(trace: &Trace) -> bool
     none_in_flight(trace)
 }
 
-// Whether no turn is open.
+/// Whether no turn is open.
 fn none_open(trace: &Trace) -> bool
     requires { WellFormed trace.now.run }
     ensures { IsTrue result ↔ ((t place m : ℕ) → ¬ Turn trace.now.run t (len trace.now.run) place m) }
@@ -33,7 +33,7 @@ fn none_open(trace: &Trace) -> bool
     true
 }
 
-// Whether no message is in flight.
+/// Whether no message is in flight.
 fn none_in_flight(trace: &Trace) -> bool
     ensures { IsTrue result ↔ ((m : ℕ) → ¬ InFlight trace.now.run m (len trace.now.run)) }
 {

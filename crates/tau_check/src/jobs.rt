@@ -30,7 +30,7 @@ pub(crate) fn keep_job<'p>(jobs: &mut Vec<Option<Job<'p>>>, job: Job<'p>) -> Res
     Ok(())
 }
 
-// Makes places for jobs, up to a number.
+/// Makes places for jobs, up to a number.
 fn make_places<'p>(jobs: &mut Vec<Option<Job<'p>>>, count: usize) -> Result<(), AllocError>
     ensures count { OnOk result (count ≤ length jobs.new.items) }
     ensures kept { (t : ℕ) (o : Option turns.TurnSoFar) → slice_get jobs.old.items t ≡ Some o → slice_get jobs.new.items t ≡ Some o }

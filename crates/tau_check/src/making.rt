@@ -33,7 +33,7 @@ pub(crate) fn make_due<'p>(
     }
 }
 
-// Lets a transactor that hasn't ended fail.
+/// Lets a transactor that hasn't ended fail.
 fn make_fail<'p>(system: &mut System<'p, PrunedView>, who: u32) -> Result<(), AllocError>
     requires few { len system.old.run < 1000000 }
     requires exists { who < born system.old.run (len system.old.run) }
@@ -47,7 +47,7 @@ fn make_fail<'p>(system: &mut System<'p, PrunedView>, who: u32) -> Result<(), Al
     }
 }
 
-// Loses a message in flight.
+/// Loses a message in flight.
 fn make_lose<'p>(system: &mut System<'p, PrunedView>, message: u32) -> Result<(), AllocError>
     requires few { len system.old.run < 1000000 }
     requires in_flight { InFlight system.old.run message (len system.old.run) }

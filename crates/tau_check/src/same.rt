@@ -105,7 +105,7 @@ pub(crate) fn same_step(one: &Step, two: &Step) -> bool
     }
 }
 
-// Whether two values are equal.
+/// Whether two values are equal.
 fn same_value(one: &Value, two: &Value) -> bool
     ensures { IsTrue result ↔ (one.now ≡ two.now) }
 {

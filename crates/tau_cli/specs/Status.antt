@@ -5,10 +5,10 @@ use Rattle.tau_io.specs.declared.reading.ReadError.{ReadError}
 use Rattle.tau_io.specs.declared.reading.ReadError.TheVariants as reads
 use Rattle.tau_command.specs.declared.commands.WordsError.{WordsError}
 use Rattle.tau_command.specs.declared.commands.WordsError.TheVariants as words
-use Rattle.tau_input.specs.FaultNumbers.{fault_number}
-use Rattle.tau_input.specs.declared.faults.InputFault.TheVariants as faults
-use Rattle.tau_input.specs.declared.errors.InputError.{InputError}
-use Rattle.tau_input.specs.declared.errors.InputError.TheVariants as inputs
+use Rattle.tau_text.specs.FaultNumbers.{fault_number}
+use Rattle.tau_text.specs.declared.faults.InputFault.TheVariants as faults
+use Rattle.tau_text.specs.declared.errors.InputError.{InputError}
+use Rattle.tau_text.specs.declared.errors.InputError.TheVariants as inputs
 use Rattle.tau_output.specs.declared.outputs.End.{End}
 use Rattle.tau_output.specs.declared.outputs.End.TheVariants as ends
 use Rattle.tau_output.specs.Faults.{input_limit}

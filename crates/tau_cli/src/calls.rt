@@ -44,7 +44,7 @@ pub fn tau_still<I: Source, O: Sink>(
     }
 }
 
-// What the words ask for, or the status with which they end before anything is written.
+/// What the words ask for, or the status with which they end before anything is written.
 fn output_for<I: Source>(alloc: Global, words: &Words, input: &mut I) -> Result<Output, Status>
     ensures { Finds WritesSerially words.now (effect_on I.left I.faults input.old input.new) result }
 {

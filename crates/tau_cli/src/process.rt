@@ -63,7 +63,7 @@ pub fn exit_code(status: &Status) -> ExitCode
     ExitCode::from(number(status))
 }
 
-// The call of `tau`, for words of which the collection may have failed.
+/// The call of `tau`, for words of which the collection may have failed.
 fn call_tau<R: Threads + Wait + Sync, I: Source, O: Sink>(
     rt: &R,
     alloc: Global,
@@ -80,7 +80,7 @@ fn call_tau<R: Threads + Wait + Sync, I: Source, O: Sink>(
     }
 }
 
-// The words of the command line, without the program's own name.
+/// The words of the command line, without the program's own name.
 fn collect_words<R: Env + Alloc>(rt: &R, alloc: Global) -> Result<Words, WordsError> {
     let mut words = Words::new(alloc);
     for word in env::args(rt).map_err(words_error)?.skip(1) {
@@ -92,7 +92,7 @@ fn collect_words<R: Env + Alloc>(rt: &R, alloc: Global) -> Result<Words, WordsEr
     Ok(words)
 }
 
-// A word that isn't UTF-8 is a faulty command line.
+/// A word that isn't UTF-8 is a faulty command line.
 fn words_error(error: io::Error) -> WordsError {
     match error.kind() {
         ErrorKind::OutOfMemory => WordsError::NoMemory,

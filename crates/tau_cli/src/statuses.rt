@@ -4,10 +4,10 @@ ghost use Rattle.tau_cli.specs.Status.{number_of};
 
 use std::fmt;
 use tau_command::WordsError;
-use tau_input::{InputError, InputFault};
 use tau_io::ReadError;
 use tau_output::{End, INPUT_LIMIT};
 use tau_points::Point;
+use tau_text::{InputError, InputFault};
 
 /// How a command ended (docs/formats.md, "Statuses"). It is displayed as its line on standard error, without the line
 /// feed; `Done` is displayed as nothing.

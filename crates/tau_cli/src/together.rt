@@ -38,7 +38,7 @@ pub fn tau<R: Threads + Wait + Sync, I: Source, O: Sink, G: Gate + Sync>(
     }
 }
 
-// What the words ask for, or the status with which they end before anything is written.
+/// What the words ask for, or the status with which they end before anything is written.
 fn output_together<R: Threads + Wait + Sync, I: Source, G: Gate + Sync>(
     rt: &R,
     alloc: Global,

@@ -78,7 +78,7 @@ pub fn read_words(alloc: Global, words: &Words) -> Result<Command, WordsError>
     command_matched(&matches).ok_or(WordsError::Words)
 }
 
-// The matches that `clap` has for the words.
+/// The matches that `clap` has for the words.
 fn match_words<'a>(alloc: Global, words: &'a Words) -> Result<ArgMatches<'a>, WordsError>
     ensures matched { IfOk result (λ m. (fault_of tau_command words.entry.now ≡ [])
         × (rows_of (found_of m) ≡ matches_of tau_command words.entry.now)) }
@@ -91,7 +91,7 @@ fn match_words<'a>(alloc: Global, words: &'a Words) -> Result<ArgMatches<'a>, Wo
     }
 }
 
-// Each failure of `clap` other than want of memory is the words' own.
+/// Each failure of `clap` other than want of memory is the words' own.
 fn error_of(kind: ErrorKind) -> WordsError
     ensures { result ≡ WordsError.Words → kind ≢ ErrorKind.OutOfMemory }
 {

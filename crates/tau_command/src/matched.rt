@@ -14,7 +14,7 @@ pub fn command_matched(matches: &ArgMatches<'_>) -> Option<Command>
     command_allowed(matches.get_str("command")?, matches)
 }
 
-// The command with this name, where what stands on the line goes with it.
+/// The command with this name, where what stands on the line goes with it.
 fn command_allowed(name: &str, matches: &ArgMatches<'_>) -> Option<Command>
     ensures { result ≡ command_allowed (rows_of (found_of matches.now)) name.now }
 {
@@ -25,21 +25,21 @@ fn command_allowed(name: &str, matches: &ArgMatches<'_>) -> Option<Command>
     }
 }
 
-// Whether an option stands with a command other than `run`, or a number with one that takes none.
+/// Whether an option stands with a command other than `run`, or a number with one that takes none.
 fn stands_amiss(name: &str, matches: &ArgMatches<'_>) -> bool
     ensures { result ≡ stands_amiss name.now (rows_of (found_of matches.now)) }
 {
     (has_option(matches) && name != "run") || (stands(matches, "number") && !takes_number(name))
 }
 
-// Whether a command has a number.
+/// Whether a command has a number.
 fn takes_number(name: &str) -> bool
     ensures { result ≡ takes_number name.now }
 {
     name == "gen" || name == "drill"
 }
 
-// The command with this name.
+/// The command with this name.
 fn command_named(name: &str, matches: &ArgMatches<'_>) -> Option<Command>
     ensures { result ≡ command_named name.now (rows_of (found_of matches.now)) }
 {
@@ -55,7 +55,7 @@ fn command_named(name: &str, matches: &ArgMatches<'_>) -> Option<Command>
     }
 }
 
-// The command `run` with its four numbers.
+/// The command `run` with its four numbers.
 fn run_of(matches: &ArgMatches<'_>) -> Option<Command>
     ensures { result ≡ run_of (rows_of (found_of matches.now)) }
 {
@@ -67,7 +67,7 @@ fn run_of(matches: &ArgMatches<'_>) -> Option<Command>
     })
 }
 
-// Whether an option stands on the line.
+/// Whether an option stands on the line.
 fn has_option(matches: &ArgMatches<'_>) -> bool
     ensures { result ≡ has_option (rows_of (found_of matches.now)) }
 {
@@ -77,7 +77,7 @@ fn has_option(matches: &ArgMatches<'_>) -> bool
         || stands(matches, "steps")
 }
 
-// Whether an argument stands on the line, so that its value is no default.
+/// Whether an argument stands on the line, so that its value is no default.
 fn stands(matches: &ArgMatches<'_>, id: &str) -> bool
     ensures { result ≡ stands id.now (rows_of (found_of matches.now)) }
 {
@@ -90,14 +90,14 @@ fn is_from_words(source: Option<ValueSource>) -> bool
     matches!(source, Some(ValueSource::CommandLine))
 }
 
-// The number of 32 bits that an argument has.
+/// The number of 32 bits that an argument has.
 fn short_number(matches: &ArgMatches<'_>, id: &str) -> Option<u32>
     ensures { result ≡ number_of 32 id.now (rows_of (found_of matches.now)) }
 {
     matches.get_one::<u32>(id)
 }
 
-// The number of 64 bits that an argument has.
+/// The number of 64 bits that an argument has.
 fn long_number(matches: &ArgMatches<'_>, id: &str) -> Option<u64>
     ensures { result ≡ number_of 64 id.now (rows_of (found_of matches.now)) }
 {

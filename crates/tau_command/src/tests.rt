@@ -11,7 +11,7 @@ fn run(workers: u32, jobs: u32, seed: u64, steps: u32) -> Command {
     }
 }
 
-// The command that these words name, which stand one space apart.
+/// The command that these words name, which stand one space apart.
 fn read(alloc: Global, line: &str) -> Result<Command, WordsError> {
     let mut words = Words::new(alloc);
     for word in line.split(' ') {

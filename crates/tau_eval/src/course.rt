@@ -37,7 +37,7 @@ pub enum State<'p> {
 }
 
 impl<'p> Course<'p> {
-    // Goes on to the next effect. Without memory it answers where the turn stands.
+    /// Goes on to the next effect. Without memory it answers where the turn stands.
     fn evaluate(&mut self, focus: Focus<'p>) -> Result<Effect, State<'p>>
         requires { GoesOn self.old (running self.old.machine (setting_by self.old) focus) }
         ensures ok { IfOk result (λ e. GoesOn self.new (reached self.new.machine (setting_by self.new) (eff_of e))) }
@@ -58,7 +58,7 @@ impl<'p> Course<'p> {
         }
     }
 
-    // Uses the next reply to an effect.
+    /// Uses the next reply to an effect.
     fn answer(&mut self, effect: Effect) -> Result<Effect, State<'p>>
         requires course { GoesOn self.old (reached self.old.machine (setting_by self.old) (eff_of effect)) }
         requires reply { has_reply_by (eff_of effect) ≡ true }
@@ -78,7 +78,7 @@ impl<'p> Course<'p> {
         }
     }
 
-    // Uses the replies that are left, as long as the effects have a reply.
+    /// Uses the replies that are left, as long as the effects have a reply.
     fn use_replies(&mut self, first: Effect) -> Result<Effect, State<'p>>
         requires { GoesOn self.old (reached self.old.machine (setting_by self.old) (eff_of first)) }
         ensures ok { IfOk result (λ e. GoesOn self.new (reached self.new.machine (setting_by self.new) (eff_of e))) }
@@ -96,7 +96,7 @@ impl<'p> Course<'p> {
         Ok(effect)
     }
 
-    // The effect that is reached first.
+    /// The effect that is reached first.
     fn arrive(&mut self, state: State<'p>) -> Result<Effect, State<'p>>
         requires { GoesOn self.old (stated self.old state) }
         ensures ok { IfOk result (λ e. GoesOn self.new (reached self.new.machine (setting_by self.new) (eff_of e))) }
@@ -126,7 +126,7 @@ impl<'p> Course<'p> {
         }
     }
 
-    // Takes the room for one more reply.
+    /// Takes the room for one more reply.
     fn settle(&mut self, effect: Effect) -> Result<Effect, State<'p>>
         requires course { GoesOn self.old (reached self.old.machine (setting_by self.old) (eff_of effect)) }
         requires settled { has_reply_by (eff_of effect) ≡ true → length self.old.replies.items ≤ self.old.used }

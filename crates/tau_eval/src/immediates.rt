@@ -28,7 +28,7 @@ pub fn integer_in(value: &Value) -> Option<i64>
     }
 }
 
-// The integer that a literal, the message or a variable is; `None` for another value and for another expression.
+/// The integer that a literal, the message or a variable is; `None` for another value and for another expression.
 #[tactic(auto, using(tau_tree::proofs::ExprLemmas::codes))]
 #[inline(always)]
 fn integer_at(expr: &Expr, setting: Setting<'_>, scope: &Scope<'_>) -> Option<i64>

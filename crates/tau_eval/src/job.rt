@@ -57,7 +57,7 @@ impl<'p> Model for Pending<'p> {
     ghost invariant = { λ p. IsPending p.course p.effect };
 }
 
-// The body of a behaviour.
+/// The body of a behaviour.
 fn body_of<'p>(program: &'p Program, behaviour: u32) -> &'p Expr
     requires { behaviour < length program.now.behaviours }
     ensures { slice_get (bodies program.entry.now) behaviour ≡ Some (code_of result.now) }

@@ -65,7 +65,7 @@ impl<'p> Machine<'p> {
         }
     }
 
-    // Goes on as an evaluation does.
+    /// Goes on as an evaluation does.
     #[inline(always)]
     fn follow(&mut self, progress: Progress<'p>) -> Move<'p>
         requires room { vec_len self.old.frames < vec_capacity self.old.frames }
@@ -85,7 +85,7 @@ impl<'p> Machine<'p> {
         }
     }
 
-    // Where the machine stands before a frame meets a value, once more.
+    /// Where the machine stands before a frame meets a value, once more.
     #[cold]
     fn put_back(&mut self, frame: Frame<'p>, value: Value) -> Focus<'p>
         requires room { vec_len self.old.frames < vec_capacity self.old.frames }
@@ -95,7 +95,7 @@ impl<'p> Machine<'p> {
         Focus::Give(value)
     }
 
-    // Begins the evaluation of an expression.
+    /// Begins the evaluation of an expression.
     fn eval(&mut self, expr: &'p Expr, setting: Setting<'_>) -> Result<Move<'p>, Focus<'p>>
         requires room { vec_len self.old.frames < vec_capacity self.old.frames }
         ensures goes { SameEffect (running self.old (setting_of setting.entry) (focus.Eval expr.entry)) (left self.new (setting_of setting.entry) result) }
@@ -123,7 +123,7 @@ impl<'p> Machine<'p> {
         }
     }
 
-    // Binds the value of a let in its body.
+    /// Binds the value of a let in its body.
     fn enter(&mut self, name: &'p Word, body: &'p Expr, value: Value) -> Result<Move<'p>, Focus<'p>>
         requires room { vec_len self.old.frames < vec_capacity self.old.frames }
         ensures goes { (s : Surrounding) → SameEffect (λ rs. and_then (meaning_of body.entry.now s (self.old.scope ++ (name.entry.now, val_of value) ∷ []) self.old.count rs) (rest_of self.old s self.old.scope)) (left self.new s result) }
@@ -139,7 +139,7 @@ impl<'p> Machine<'p> {
         }
     }
 
-    // The next round of a fold with this sum, or its end.
+    /// The next round of a fold with this sum, or its end.
     fn each(
         &mut self,
         list: Values,
@@ -188,7 +188,7 @@ impl<'p> Machine<'p> {
         }
     }
 
-    // The next rounds of a fold with this sum, or its end: first those whose value is at hand.
+    /// The next rounds of a fold with this sum, or its end: first those whose value is at hand.
     fn rounds(
         &mut self,
         setting: Setting<'_>,
@@ -211,7 +211,7 @@ impl<'p> Machine<'p> {
         self.each(list, next, sum, round)
     }
 
-    // Lets go of the variables that the last frame leaves, so that what they share can be changed in place.
+    /// Lets go of the variables that the last frame leaves, so that what they share can be changed in place.
     fn release(&mut self)
         ensures goes { (s : Surrounding) → rest_of self.new s self.new.scope ≡ rest_of self.old s self.old.scope }
         ensures frames { self.new.frames ≡ self.old.frames }
@@ -224,7 +224,7 @@ impl<'p> Machine<'p> {
         }
     }
 
-    // A list with one value more, or its end.
+    /// A list with one value more, or its end.
     fn collect(
         &mut self,
         mut values: Values,
@@ -241,7 +241,7 @@ impl<'p> Machine<'p> {
         }
     }
 
-    // An operation on two values.
+    /// An operation on two values.
     fn combine(
         &mut self,
         alloc: Global,
@@ -260,7 +260,7 @@ impl<'p> Machine<'p> {
         }
     }
 
-    // The rounds of a fold over this value, with this first sum.
+    /// The rounds of a fold over this value, with this first sum.
     fn fold(
         &mut self,
         setting: Setting<'_>,
@@ -278,7 +278,7 @@ impl<'p> Machine<'p> {
         }
     }
 
-    // Goes on with the right part of an operation, whose left value has come.
+    /// Goes on with the right part of an operation, whose left value has come.
     fn second(&mut self, setting: Setting<'_>, prim: Prim, right: &'p Expr, left: Value) -> Move<'p>
         requires room { vec_len self.old.frames < vec_capacity self.old.frames }
         ensures goes { (rs : List Val) → and_then (and_then (meaning_of right.entry.now (setting_of setting.entry) self.old.scope self.old.count rs) (λ w. finished (two_by prim (val_of left) w))) (rest_of self.old (setting_of setting.entry) self.old.scope) ≡ moved self.new (setting_of setting.entry) result rs }
@@ -293,7 +293,7 @@ impl<'p> Machine<'p> {
         self.follow(part(Frame::Right { prim, left }, right))
     }
 
-    // Gives a value to a frame.
+    /// Gives a value to a frame.
     fn meet(
         &mut self,
         setting: Setting<'_>,
@@ -349,7 +349,7 @@ impl<'p> Machine<'p> {
         }
     }
 
-    // Gives a value to the last frame; where there is none the evaluation is done.
+    /// Gives a value to the last frame; where there is none the evaluation is done.
     fn give(&mut self, setting: Setting<'_>, value: Value) -> Result<Move<'p>, Focus<'p>>
         requires room { vec_len self.old.frames < vec_capacity self.old.frames }
         ensures goes { SameEffect (running self.old (setting_of setting.entry) (focus.Give value)) (left self.new (setting_of setting.entry) result) }
@@ -361,7 +361,7 @@ impl<'p> Machine<'p> {
         }
     }
 
-    // One step. Without memory it answers where the machine stands, with the same that comes of it.
+    /// One step. Without memory it answers where the machine stands, with the same that comes of it.
     fn step(&mut self, setting: Setting<'_>, focus: Focus<'p>) -> Result<Move<'p>, Focus<'p>>
         ensures goes { SameEffect (running self.old (setting_of setting.entry) focus.entry) (left self.new (setting_of setting.entry) result) }
         ensures falls { Falls (work self.old focus.entry) self.new result }
@@ -391,7 +391,7 @@ impl<'p> Machine<'p> {
     }
 }
 
-// A copy of the value at a place of a list.
+/// A copy of the value at a place of a list.
 fn copy_of_item(list: &Values, place: usize) -> Result<Value, AllocError>
     requires { place < length list.now }
     ensures { IfOk result (λ v. slice_get list.now place ≡ Some (val_of v)) }

@@ -72,7 +72,7 @@ fn on_integers(prim: Prim, one: &Value, two: &Value) -> Answer
     }
 }
 
-// How many items or bytes there are, as a value.
+/// How many items or bytes there are, as a value.
 fn length_of(length: usize) -> Answer
     ensures { answer_of result ≡ integer (pos length) }
 {
@@ -102,7 +102,7 @@ pub fn of_one(prim: Prim, value: &Value) -> Answer
     }
 }
 
-// The item of a list at an integer.
+/// The item of a list at an integer.
 fn item_of_list(items: &Values, place: i64) -> Result<Answer, AllocError>
     ensures { IfOk result (λ a. answer_of a ≡ item_at items.now place) }
 {
@@ -136,7 +136,7 @@ pub fn bounded_or_trap(value: Value) -> Answer
     }
 }
 
-// A list with one value more.
+/// A list with one value more.
 #[tactic(auto, using(crate::proofs::ValueRules::listed))]
 fn push_to(mut items: Values, item: Value) -> Result<Answer, (Value, Value, AllocError)>
     ensures ok { IfOk result (λ a. answer_of a ≡ bounded (list (inside (items ++ val_of item ∷ [])))) }
@@ -159,7 +159,7 @@ fn push(one: Value, two: Value) -> Result<Answer, (Value, Value, AllocError)>
     }
 }
 
-// The values of two lists, one after the other.
+/// The values of two lists, one after the other.
 fn join_lists(one: &Values, two: &Values) -> Result<Answer, AllocError>
     ensures { IfOk result (λ a. answer_of a ≡ bounded (list (inside (one.now ++ two.now)))) }
 {
@@ -179,7 +179,7 @@ fn push_copy(items: &mut Values, item: &Value) -> Result<(), AllocError>
     }
 }
 
-// The bytes of two texts, one after the other.
+/// The bytes of two texts, one after the other.
 fn join_texts(alloc: Global, one: &Text, two: &Text) -> Result<Answer, AllocError>
     ensures { IfOk result (λ a. answer_of a ≡ bounded (text (one.now ++ two.now))) }
 {

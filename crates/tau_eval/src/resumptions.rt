@@ -45,7 +45,7 @@ pub fn send<'p>(to: Value, value: Value) -> Progress<'p>
     }
 }
 
-// The node of an integer, where there are so many nodes.
+/// The node of an integer, where there are so many nodes.
 fn node_of(nodes: u32, integer: i64) -> Option<u32>
     ensures { result ≡ node_at nodes integer }
 {

@@ -27,17 +27,17 @@ pub struct Rounds {
     pub count: u32,
 }
 
-// How deep a body may be whose value is at hand.
+/// How deep a body may be whose value is at hand.
 const DEPTH: u32 = 50;
 
-// An integer, and how many evaluations have given it.
+/// An integer, and how many evaluations have given it.
 #[derive(Clone, Copy)]
 struct Given {
     number: i64,
     spent: u32,
 }
 
-// The value of the nearest variable with a name in a round.
+/// The value of the nearest variable with a name in a round.
 #[inline(always)]
 fn find_in_round<'a>(
     name: &Word,
@@ -57,7 +57,7 @@ fn find_in_round<'a>(
     scope.find(name)
 }
 
-// The integer that a literal, the message or a variable is in a round; `None` for another value and another expression.
+/// The integer that a literal, the message or a variable is in a round; `None` for another value and another expression.
 #[tactic(auto, using(tau_tree::proofs::ExprLemmas::codes))]
 #[inline(always)]
 fn integer_in_round(
@@ -81,7 +81,7 @@ fn integer_in_round(
     }
 }
 
-// Whether an expression is made of integers at hand and operations that give integers alone. It evaluates nothing.
+/// Whether an expression is made of integers at hand and operations that give integers alone. It evaluates nothing.
 fn is_number(expr: &Expr, depth: u32) -> bool {
     match expr {
         Expr::Int(_) | Expr::Msg | Expr::Var(_) => true,
@@ -107,7 +107,7 @@ fn gives_integer(prim: Prim) -> bool {
     )
 }
 
-// The integer that an expression at most `depth` deep gives in a round; `None` where it isn't at hand.
+/// The integer that an expression at most `depth` deep gives in a round; `None` where it isn't at hand.
 #[cycle(number)]
 #[tactic(auto, using(tau_tree::proofs::ExprLemmas::codes))]
 fn number_in_round(
@@ -135,7 +135,7 @@ fn number_in_round(
     }
 }
 
-// The integer that an operation gives whose parts are at most `depth` deep.
+/// The integer that an operation gives whose parts are at most `depth` deep.
 #[cycle(number)]
 fn operation_in_round(
     prim: Prim,

@@ -21,7 +21,7 @@ use std::alloc::Global;
 use tau_sexpr::{Form, Forms};
 use tau_value::{Names, START_LIMIT, ValueError, value_of};
 
-// Passes a single node, unless it has a fault; after it `node` is the next.
+/// Passes a single node, unless it has a fault; after it `node` is the next.
 fn pass(fault: Option<FaultKind>, node: &mut u64) -> Result<(), ProgramError>
     requires { node.old + 1 < 2 ^ 64 }
     ensures { PassesNode fault node.old node.new result }
@@ -33,7 +33,7 @@ fn pass(fault: Option<FaultKind>, node: &mut u64) -> Result<(), ProgramError>
     Ok(())
 }
 
-// Passes a value.
+/// Passes a value.
 fn check_value(
     alloc: Global,
     form: &Form,
@@ -60,7 +60,7 @@ fn check_value(
     }
 }
 
-// A list as an expression: its keyword, and its items without the first word.
+/// A list as an expression: its keyword, and its items without the first word.
 #[derive(Clone, Copy)]
 struct Parts<'f> {
     keyword: Keyword,
@@ -81,7 +81,7 @@ fn parts_of(items: &[Form]) -> Option<Parts<'_>>
     })
 }
 
-// The forms whose words an expression binds in its last item.
+/// The forms whose words an expression binds in its last item.
 fn names_bound<'f>(parts: Parts<'f>) -> &'f [Form]
     ensures { words_of (inside (map tree_of result.now)) ≡ bound_by parts.entry.keyword (inside (map tree_of parts.entry.items.now)) }
 {
@@ -92,7 +92,7 @@ fn names_bound<'f>(parts: Parts<'f>) -> &'f [Form]
     }
 }
 
-// The first form, if there is one.
+/// The first form, if there is one.
 fn first_of(items: &[Form]) -> &[Form]
     ensures { words_of (inside (map tree_of result.now)) ≡ bound_by keywords.Let (inside (map tree_of items.now)) }
 {
@@ -102,7 +102,7 @@ fn first_of(items: &[Form]) -> &[Form]
     }
 }
 
-// The items of the third form, if it is a list.
+/// The items of the third form, if it is a list.
 fn items_of_third(items: &[Form]) -> &[Form]
     ensures { words_of (inside (map tree_of result.now)) ≡ bound_by keywords.Fold (inside (map tree_of items.now)) }
 {
@@ -144,7 +144,7 @@ pub(crate) fn check(
     }
 }
 
-// Passes a list of which something other than a value is wanted.
+/// Passes a list of which something other than a value is wanted.
 #[cycle(check)]
 fn check_list(
     alloc: Global,
@@ -170,7 +170,7 @@ fn check_list(
     check_items(alloc, items, row, tables, node)
 }
 
-// Passes a list that is wanted as an expression.
+/// Passes a list that is wanted as an expression.
 #[cycle(check)]
 fn check_expression(
     alloc: Global,

@@ -29,7 +29,7 @@ pub(crate) fn limit_of(forms: &[Form]) -> Option<u8>
     None
 }
 
-// How many lists of each kind there are.
+/// How many lists of each kind there are.
 #[derive(Clone, Copy)]
 struct Counts {
     behaviours: usize,

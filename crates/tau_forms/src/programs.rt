@@ -43,7 +43,7 @@ pub(crate) fn build_program(
     })
 }
 
-// The parts of a program up to a form.
+/// The parts of a program up to a form.
 #[derive(Drop)]
 struct Draft {
     behaviours: Behaviours,
@@ -64,7 +64,7 @@ impl Draft {
         }
     }
 
-    // Adds what forms define. The error is want of memory.
+    /// Adds what forms define. The error is want of memory.
     fn add_all(&mut self, alloc: Global, forms: &[Form], tables: &Tables) -> Result<(), AllocError>
         requires few { length tables.now.starts ≤ START_LIMIT }
         requires empty { HasBuilt tables.now [] self.old }
@@ -76,7 +76,7 @@ impl Draft {
         Ok(())
     }
 
-    // Adds what a form defines. The error is want of memory.
+    /// Adds what a form defines. The error is want of memory.
     fn add(&mut self, alloc: Global, form: &Form, tables: &Tables) -> Result<(), AllocError>
         requires few { length tables.now.starts ≤ START_LIMIT }
         ensures { OnOk result ((before : List Tree) → HasBuilt tables.now before self.old
@@ -170,7 +170,7 @@ fn add_entry(script: &mut Script, parts: EntryParts<'_>) -> Result<(), AllocErro
     }
 }
 
-// What a form at the top defines, by its parts.
+/// What a form at the top defines, by its parts.
 #[derive(Clone, Copy)]
 enum TopForm<'f> {
     Behaviour { name: &'f Word, body: &'f Form },
@@ -300,8 +300,8 @@ fn failure_form<'f>(place: &'f Word, items: &'f [Form]) -> TopForm<'f>
     }
 }
 
-// The number that a word means; 0 where it is no count. Forms without faults have none that doesn't fit, which is answered
-// as want of memory.
+/// The number that a word means; 0 where it is no count. Forms without faults have none that doesn't fit, which is answered
+/// as want of memory.
 fn number_meant(word: &Word) -> Result<u32, AllocError>
     ensures { IfOk result (λ n. n ≡ count_meant word.now) }
 {
@@ -311,7 +311,7 @@ fn number_meant(word: &Word) -> Result<u32, AllocError>
     }
 }
 
-// The value that a form means. Forms without faults mean one, so the error is want of memory.
+/// The value that a form means. Forms without faults mean one, so the error is want of memory.
 fn value_meant(alloc: Global, form: &Form, starts: &Names) -> Result<Value, AllocError>
     requires { length starts.now ≤ START_LIMIT }
     ensures { IfOk result (λ v. val_of v ≡ counted starts.now (length starts.now) (tree_of form.now)) }

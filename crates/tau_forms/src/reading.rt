@@ -39,7 +39,7 @@ pub fn program_of(alloc: Global, forms: &[Form]) -> Result<Program, ProgramError
     read(alloc, forms, &tables)
 }
 
-// How many nodes forms have: themselves and all that they hold. A greater number is answered as the last of u64.
+/// How many nodes forms have: themselves and all that they hold. A greater number is answered as the last of u64.
 fn nodes_in(forms: &[Form]) -> u64
     ensures { result ≡ min (sizes (map tree_of forms.now)) (2 ^ 64 - 1) }
 {
@@ -50,7 +50,7 @@ fn nodes_in(forms: &[Form]) -> u64
     nodes
 }
 
-// The program of forms that keep the limits, or their first fault.
+/// The program of forms that keep the limits, or their first fault.
 fn read(alloc: Global, forms: &[Form], tables: &Tables) -> Result<Program, ProgramError>
     requires tables { tables.now ≡ tables_of (map tree_of forms.now) }
     requires nodes { tables.now.nodes ≤ NODE_LIMIT }

@@ -69,7 +69,7 @@ pub(crate) fn failure_row<'s>(items: &[Form], tables: &Tables) -> Option<Row<'s>
     }
 }
 
-// A list of a word and counts below `end`.
+/// A list of a word and counts below `end`.
 fn number_row<'s>(end: u64) -> Row<'s>
     ensures { (t u : Tree) → roles_of result (more t (more u none)) ≡ first ∷ count 0 end ∷ [] }
 {
@@ -115,7 +115,7 @@ pub(crate) fn has_items(keyword: Keyword, count: usize) -> bool
     }
 }
 
-// How many arguments an operation has.
+/// How many arguments an operation has.
 fn arity(prim: Prim) -> usize
     ensures { result ≡ arity_of prim }
 {

@@ -87,7 +87,7 @@ pub(crate) fn sort_of_form(form: &Form) -> Sort
     }
 }
 
-// What one form at the top defines.
+/// What one form at the top defines.
 #[derive(Clone, Copy, Drop)]
 enum Definition<'f> {
     Behaviour(&'f Word),
@@ -122,7 +122,7 @@ fn definition_of(form: &Form) -> Definition<'_>
     }
 }
 
-// The first of these forms, if it is a name.
+/// The first of these forms, if it is a name.
 fn name_told(items: &[Form]) -> Option<&Word>
     ensures { option_map (λ w. w.now) result ≡ name_in_items (inside (map tree_of items.now)) }
 {
@@ -150,7 +150,7 @@ pub(crate) fn nodes_told(items: &[Form]) -> Option<u64>
     }
 }
 
-// Adds a name, if it isn't there.
+/// Adds a name, if it isn't there.
 fn add(names: &mut Names, name: &Word) -> Result<(), AllocError>
     ensures { OnOk result (names.new ≡ with_name names.old (Some name.now)) }
 {

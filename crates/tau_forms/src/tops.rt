@@ -36,7 +36,7 @@ pub(crate) fn check_forms(
     check_each(alloc, forms, tables, &mut earlier)
 }
 
-// Checks all forms at the top; `earlier` is what stands before the first.
+/// Checks all forms at the top; `earlier` is what stands before the first.
 fn check_each(
     alloc: Global,
     forms: &[Form],
@@ -60,7 +60,7 @@ fn check_each(
     }
 }
 
-// Passes a form at the top, after forms that define this.
+/// Passes a form at the top, after forms that define this.
 fn check_top(
     alloc: Global,
     form: &Form,
@@ -81,7 +81,7 @@ fn check_top(
     check_items(alloc, items.items(), row, tables, node)
 }
 
-// What is wanted of the items of a list at the top; `None` where no such list stands there.
+/// What is wanted of the items of a list at the top; `None` where no such list stands there.
 fn top_row<'s>(
     items: &[Form],
     tables: &'s Tables,
@@ -103,7 +103,7 @@ fn top_row<'s>(
     Some(row_of_sort(sort, first, tables, earlier, scope))
 }
 
-// Whether a list at the top has this many items, its first word aside.
+/// Whether a list at the top has this many items, its first word aside.
 fn has_top_items(sort: Sort, count: usize) -> bool
     ensures { result ≡ top_items_test sort count }
 {
@@ -115,7 +115,7 @@ fn has_top_items(sort: Sort, count: usize) -> bool
     }
 }
 
-// What is wanted of the first word of a list of nodes, from its other items: it is a mark where they tell a number of nodes.
+/// What is wanted of the first word of a list of nodes, from its other items: it is a mark where they tell a number of nodes.
 fn first_of_nodes<'s>(items: &[Form], earlier: &Defined) -> Wanted<'s>
     ensures { (before : List Tree) → IsDefined before earlier.now
         → role_of result ≡ nodes_first before (nodes_in_items (inside (map tree_of items.now))) }
@@ -128,7 +128,7 @@ fn first_of_nodes<'s>(items: &[Form], earlier: &Defined) -> Wanted<'s>
     }
 }
 
-// What is wanted of the items of a list at the top that has its number of items.
+/// What is wanted of the items of a list at the top that has its number of items.
 fn row_of_sort<'s>(
     sort: Sort,
     first: Wanted<'s>,

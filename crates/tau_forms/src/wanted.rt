@@ -89,7 +89,7 @@ pub(crate) fn fault_of_text(text: &Text, wanted: Wanted<'_>) -> Option<FaultKind
     }
 }
 
-// The fault of a word where a name is wanted of which this must hold.
+/// The fault of a word where a name is wanted of which this must hold.
 fn fault_of_name(word: &Word, holds: bool, otherwise: FaultKind) -> Option<FaultKind>
     ensures { result ≡ (if name_test word.now then (if holds then None else Some otherwise) else Some FaultKind.Shape) }
 {
@@ -105,7 +105,7 @@ fn fault_unless(holds: bool, fault: FaultKind) -> Option<FaultKind>
     if holds { None } else { Some(fault) }
 }
 
-// Whether a word is one of the expressions that are no variables.
+/// Whether a word is one of the expressions that are no variables.
 fn is_constant(word: &Word) -> bool
     ensures { result ≡ constant_test word.now }
 {
@@ -118,7 +118,7 @@ fn is_constant(word: &Word) -> bool
         || integer_of(word).is_some()
 }
 
-// Whether a word is a count, at least `low` and below `end`.
+/// Whether a word is a count, at least `low` and below `end`.
 fn is_count_in(word: &Word, low: u64, end: u64) -> bool
     requires { end < 2 ^ 64 }
     ensures { result ≡ count_test low end word.now }

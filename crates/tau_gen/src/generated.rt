@@ -34,7 +34,7 @@ pub fn generate(alloc: Global, number: u64) -> Result<Program, AllocError>
     })
 }
 
-// The next word.
+/// The next word.
 fn next_u32(words: &mut Pcg32) -> u32
     ensures { (result, words.new) ≡ pcg32 words.old }
 {
@@ -80,7 +80,7 @@ fn start(alloc: Global, number: u32) -> Result<Start, AllocError>
     })
 }
 
-// `t` and the digits of the number.
+/// `t` and the digits of the number.
 #[tactic(auto, using(tau_sexpr::proofs::Literals::word_literal), unfolding(tau_sexpr::specs::Bytes::is_word_byte, tau_sexpr::specs::Bytes::is_letter_or_digit, tau_sexpr::specs::Bytes::is_word_sign))]
 fn start_name(alloc: Global, number: u32) -> Result<Word, AllocError>
     ensures { IfOk result (λ w. w ≡ name_of number) }
@@ -95,7 +95,7 @@ fn start_name(alloc: Global, number: u32) -> Result<Word, AllocError>
     Ok(name)
 }
 
-// The posts, from 64 words.
+/// The posts, from 64 words.
 #[tactic(auto, unfolding(crate::specs::Generated::posts_of))]
 fn posts(alloc: Global, words: &mut Pcg32) -> Result<Posts, AllocError>
     ensures posts { (number : ℕ) → words.old ≡ after number 0 → IfOk result (λ p. p ≡ posts_of number) }
@@ -111,7 +111,7 @@ fn posts(alloc: Global, words: &mut Pcg32) -> Result<Posts, AllocError>
     Ok(posts)
 }
 
-// The next post, from two words.
+/// The next post, from two words.
 fn next_post(words: &mut Pcg32) -> Post
     ensures post { (number place : ℕ) → words.old ≡ after number (2 * place) → result ≡ post_at number place }
     ensures words { (number place : ℕ) → words.old ≡ after number (2 * place) → words.new ≡ after number (2 * (place + 1)) }
@@ -124,7 +124,7 @@ fn next_post(words: &mut Pcg32) -> Post
     }
 }
 
-// The script, from the two words after those of the posts.
+/// The script, from the two words after those of the posts.
 fn script(alloc: Global, words: &mut Pcg32) -> Result<Script, AllocError>
     ensures { (number : ℕ) → words.old ≡ after number 64 → IfOk result (λ s. s ≡ script_of number) }
 {

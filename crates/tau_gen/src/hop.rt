@@ -16,7 +16,7 @@ pub(crate) fn hop_body(alloc: Global) -> Result<Expr, AllocError>
     choice(alloc, none_left, last_hop(alloc)?, other_hop(alloc)?)
 }
 
-// `(seq (stabilize) (checkpoint))`.
+/// `(seq (stabilize) (checkpoint))`.
 #[tactic(auto, using(tau_tree::proofs::ExprLemmas::codes))]
 fn last_hop(alloc: Global) -> Result<Expr, AllocError>
     ensures { IfOk result (λ e. code_of e ≡ last_code) }
@@ -24,7 +24,7 @@ fn last_hop(alloc: Global) -> Result<Expr, AllocError>
     Ok(Expr::Seq(pair(alloc, Expr::Stabilize, Expr::Checkpoint)?))
 }
 
-// `(seq e e e e)`, where the message isn't below 1.
+/// `(seq e e e e)`, where the message isn't below 1.
 #[tactic(auto, using(tau_tree::proofs::ExprLemmas::codes), unfolding(crate::specs::Hop::other_hop))]
 fn other_hop(alloc: Global) -> Result<Expr, AllocError>
     ensures { IfOk result (λ e. code_of e ≡ other_code) }
@@ -38,7 +38,7 @@ fn other_hop(alloc: Global) -> Result<Expr, AllocError>
     Ok(Expr::Seq(exprs))
 }
 
-// `(if (= (% msg NUMBER) 0) e unit)`.
+/// `(if (= (% msg NUMBER) 0) e unit)`.
 #[tactic(auto, using(tau_tree::proofs::ExprLemmas::codes))]
 fn at_multiples(alloc: Global, number: i64, yes: Expr) -> Result<Expr, AllocError>
     ensures { IfOk result (λ e. code_of e ≡ multiples_code number (code_of yes)) }
@@ -48,7 +48,7 @@ fn at_multiples(alloc: Global, number: i64, yes: Expr) -> Result<Expr, AllocErro
     choice(alloc, divides, yes, Expr::Unit)
 }
 
-// `(send (at L (% (* msg 5) 16)) (- msg 1))`, where L is the list of all starts.
+/// `(send (at L (% (* msg 5) 16)) (- msg 1))`, where L is the list of all starts.
 #[tactic(auto, using(tau_tree::proofs::ExprLemmas::codes))]
 fn pass_on(alloc: Global) -> Result<Expr, AllocError>
     ensures { IfOk result (λ e. code_of e ≡ passing_code) }
@@ -60,7 +60,7 @@ fn pass_on(alloc: Global) -> Result<Expr, AllocError>
     send(alloc, to, less)
 }
 
-// `(list (name t0) .. (name t15))`, in order.
+/// `(list (name t0) .. (name t15))`, in order.
 #[tactic(auto, using(tau_tree::proofs::ExprLemmas::codes), unfolding(crate::specs::Hop::all_starts))]
 fn all_starts(alloc: Global) -> Result<Expr, AllocError>
     ensures { IfOk result (λ e. code_of e ≡ starts_code) }

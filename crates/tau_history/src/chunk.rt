@@ -45,7 +45,7 @@ impl Model for Chunk {
 }
 
 impl Drop for Chunk {
-    // A loop, so that a long chain needs no deep stack. The jump goes first: its chunks are held from `before` too.
+    /// A loop, so that a long chain needs no deep stack. The jump goes first: its chunks are held from `before` too.
     #[cycle(dropping)]
     fn drop(self) {
         let Chunk {
@@ -105,7 +105,7 @@ pub(crate) fn share(chunks: &Option<Arc<Chunk>>) -> Result<Option<Arc<Chunk>>, A
     }
 }
 
-// The jump of a chunk on these: past two jumps of equal length, or else to the top.
+/// The jump of a chunk on these: past two jumps of equal length, or else to the top.
 fn jump_over(before: &Option<Arc<Chunk>>) -> Result<Option<Arc<Chunk>>, AllocError>
     ensures { IfOk result (λ jump. IsFront (held jump) (held before.now)) }
 {

@@ -214,7 +214,7 @@ impl History {
         self.closed.continues_in(&other.closed)
     }
 
-    // All that precedence asks, but that the closed numbers of this history are a front of the later's.
+    /// All that precedence asks, but that the closed numbers of this history are a front of the later's.
     fn may_precede(&self, later: &History) -> bool
         ensures shorter { IsTrue result → timeline.interval self.now.history ≤ timeline.interval later.now.history }
         ensures needed { Precedes self.now.history later.now.history → IsTrue result }

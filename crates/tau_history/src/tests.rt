@@ -5,7 +5,7 @@ use crate::{Fate, History};
 use std::alloc::{AllocError, Global};
 use std::test::Fail;
 
-// Volatile, with the numbers 0, 2 and 1.
+/// Volatile, with the numbers 0, 2 and 1.
 fn example(alloc: Global) -> Result<History, AllocError>
     ensures { IfOk result (λ h. h.history ≡ record { stable = false; closed = 0 ∷ 2 ∷ []; last = 1 }) }
 {

@@ -33,7 +33,7 @@ impl From<AllocError> for ReadError {
     }
 }
 
-// The room of the first read, in bytes. Each further room is twice as long.
+/// The room of the first read, in bytes. Each further room is twice as long.
 const FIRST_ROOM: usize = 65536;
 
 /// Reads all that the source has left, which is at most `limit` bytes.
@@ -69,7 +69,7 @@ pub fn read_all<I: Source>(
     Ok(bytes)
 }
 
-// Reads until the source ends, into room that `bytes` has already. Returns how many bytes came.
+/// Reads until the source ends, into room that `bytes` has already. Returns how many bytes came.
 fn fill<I: Source>(source: &mut I, bytes: &mut Vec<u8>, limit: usize) -> Result<usize, ReadError>
     requires empty { bytes.old.items ≡ [] }
     requires room { limit ≤ vec_capacity bytes.old }
@@ -98,7 +98,7 @@ fn fill<I: Source>(source: &mut I, bytes: &mut Vec<u8>, limit: usize) -> Result<
     Ok(filled)
 }
 
-// One read into `bytes` after the first `filled`, which stay. It makes room, but takes no memory.
+/// One read into `bytes` after the first `filled`, which stay. It makes room, but takes no memory.
 fn read_piece<I: Source>(source: &mut I, bytes: &mut Vec<u8>, filled: usize, limit: usize) -> Got
     requires within { filled < limit }
     requires filled { filled ≤ vec_len bytes.old }
@@ -122,7 +122,7 @@ fn read_piece<I: Source>(source: &mut I, bytes: &mut Vec<u8>, filled: usize, lim
     read_after(source, bytes.as_mut_slice(), filled)
 }
 
-// Makes `bytes` `room` long, by zeros. It needs no memory, since there is room.
+/// Makes `bytes` `room` long, by zeros. It needs no memory, since there is room.
 fn lengthen(bytes: &mut Vec<u8>, room: usize)
     requires length { vec_len bytes.old ≤ room }
     requires room { room ≤ vec_capacity bytes.old }
@@ -133,7 +133,7 @@ fn lengthen(bytes: &mut Vec<u8>, room: usize)
     let _ = bytes.resize(room, 0);
 }
 
-// One read into `into` after the first `filled` bytes, which stay.
+/// One read into `into` after the first `filled` bytes, which stay.
 fn read_after<I: Source>(source: &mut I, into: &mut [u8], filled: usize) -> Got
     requires { filled < length into.old }
     ensures front { take filled into.new ≡ take filled into.old }
@@ -147,7 +147,7 @@ fn read_after<I: Source>(source: &mut I, into: &mut [u8], filled: usize) -> Got
     source.read(&mut into[filled..])
 }
 
-// Reads one byte more, which tells an end from a text that is too long.
+/// Reads one byte more, which tells an end from a text that is too long.
 fn end_of<I: Source>(source: &mut I) -> Result<(), ReadError>
     ensures ok { OnOk result (Keeps (I.left source.old) (I.left source.new)) }
     ensures end { OnOk result (IsAtEnd (I.left source.new)) }

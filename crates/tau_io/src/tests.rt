@@ -10,7 +10,7 @@ fn text(alloc: Global) -> Result<Vec<u8>, AllocError> {
     Vec::from_slice(alloc, TEXT.as_bytes())
 }
 
-// Reads all that is left, which is at most 1,000 bytes, and writes it.
+/// Reads all that is left, which is at most 1,000 bytes, and writes it.
 fn copy<I: Source, O: Sink>(
     alloc: Global,
     source: &mut I,

@@ -1,3 +1,10 @@
+pub mod Absence
+pub mod Dependence
+pub mod VolatileSource
+pub mod ForgedCheckpoint
+pub mod CellRun
+pub mod RolledBackSource
+pub mod ChoiceLemmas
 pub mod SafetyLemmas
 pub mod LocalLemmas
 pub mod TraceLemmas

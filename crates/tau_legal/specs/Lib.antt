@@ -1,3 +1,8 @@
+pub mod VolatileSource
+pub mod ForgedCheckpoint
+pub mod Cell
+pub mod RolledBackSource
+pub mod Choices
 pub mod Turns
 pub mod Fits
 pub mod Traces

@@ -77,7 +77,7 @@ impl Log {
         Ok(log)
     }
 
-    // A log with one version.
+    /// A log with one version.
     fn with_version(
         alloc: Global,
         version: Version,
@@ -170,7 +170,7 @@ impl Log {
     }
 }
 
-// The incarnation number of an interval by a version: that at which it was closed, or the present one.
+/// The incarnation number of an interval by a version: that at which it was closed, or the present one.
 fn number_in(version: &Version, closed: &[u32], interval: u32) -> Option<u32>
     ensures { (h : Timeline) → IsVersionOf version.now h → IsFront h.closed closed.now → result ≡ slice_get (numbers h) interval }
 {
@@ -183,7 +183,7 @@ fn number_in(version: &Version, closed: &[u32], interval: u32) -> Option<u32>
     None
 }
 
-// The fate of a point by a version and by the closed incarnations.
+/// The fate of a point by a version and by the closed incarnations.
 fn fate_in(version: &Version, closed: &[u32], interval: u32, incarnation: u32) -> Fate
     ensures { (h : Timeline) → IsVersionOf version.now h → IsFront h.closed closed.now → result ≡ fate h interval incarnation }
 {
@@ -197,7 +197,7 @@ fn fate_in(version: &Version, closed: &[u32], interval: u32, incarnation: u32) -
     }
 }
 
-// Appends points, for which there is room.
+/// Appends points, for which there is room.
 fn put_all(takes: &mut Vec<Point>, points: &[Point])
     requires room { length takes.old.items + length points.now ≤ vec_capacity takes.old }
     ensures { takes.new.items ≡ takes.old.items ++ points.now }

@@ -16,7 +16,7 @@ pub struct Numbers {
     list: List,
 }
 
-// The list.
+/// The list.
 #[derive(Drop)]
 enum List {
     Own(Vec<u32>),
@@ -128,7 +128,7 @@ impl Numbers {
         }
     }
 
-    // The allocator of the list.
+    /// The allocator of the list.
     fn allocator(&self) -> Global {
         match &self.list {
             List::Own(own) => *own.allocator(),
@@ -136,7 +136,7 @@ impl Numbers {
         }
     }
 
-    // Keeps an own list, with room where there is memory.
+    /// Keeps an own list, with room where there is memory.
     fn keep(&mut self, own: Vec<u32>, count: usize) -> Result<(), AllocError>
         ensures numbers { self.new.numbers ≡ own.items }
         ensures ok { OnOk result (count ≤ self.new.room) }
@@ -148,7 +148,7 @@ impl Numbers {
         made
     }
 
-    // Makes the numbers those of a shared list, and the list its owner's alone where there is memory.
+    /// Makes the numbers those of a shared list, and the list its owner's alone where there is memory.
     fn unshare(&mut self, shared: Arc<Vec<u32>>, count: usize) -> Result<(), AllocError>
         ensures numbers { self.new.numbers ≡ shared.value.items }
         ensures ok { OnOk result (count ≤ self.new.room) }
@@ -168,7 +168,7 @@ impl Numbers {
         }
     }
 
-    // Keeps a shared list, and gives another owner of it.
+    /// Keeps a shared list, and gives another owner of it.
     fn keep_shared(&mut self, shared: Arc<Vec<u32>>) -> Result<Arc<Vec<u32>>, AllocError>
         ensures numbers { self.new.numbers ≡ shared.value.items }
         ensures ok { IfOk result (λ a. a.value.items ≡ shared.value.items) }

@@ -8,7 +8,7 @@ use Rattle.tau_trace.specs.Known.{WellFormed}
 use Rattle.tau_legal.specs.Traces.{Legal, Complete}
 use Rattle.tau_legal.proofs.TraceLemmas.{legal_safe}
 use Rattle.tau_report.specs.Report.{counts_form}
-use Rattle.tau_serial.specs.SerialRun.{IsSerialRun}
+use Rattle.tau_book.specs.SerialRun.{IsSerialRun}
 use Rattle.tau_gen.specs.Generated.{generated}
 use Rattle.tau_output.specs.Inner.Ends.{end_of_run}
 use Rattle.tau_output.specs.Drills.{steps_form, drill_lines, DrillsAs}

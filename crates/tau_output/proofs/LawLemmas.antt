@@ -13,10 +13,10 @@ use Rattle.tau_report.specs.Report.{IsReportText}
 use Rattle.tau_report.proofs.Uniqueness.{report_once}
 use Rattle.tau_command.specs.declared.commands.Command.{Command}
 use Rattle.tau_command.specs.declared.commands.Command.TheVariants.{Run as RunCommand, Check, Audit, Report, Print, Gen, Drill}
-use Rattle.tau_input.specs.declared.errors.InputError.{InputError}
-use Rattle.tau_input.specs.declared.errors.InputError.TheVariants.{Fault, NoMemory}
-use Rattle.tau_input.specs.Errors.{TellsInputFault}
-use Rattle.tau_input.proofs.FaultLemmas.{program_unique, run_unique, print_unique}
+use Rattle.tau_text.specs.declared.errors.InputError.{InputError}
+use Rattle.tau_text.specs.declared.errors.InputError.TheVariants.{Fault, NoMemory}
+use Rattle.tau_text.specs.Errors.{TellsInputFault}
+use Rattle.tau_text.proofs.FaultLemmas.{program_unique, run_unique, print_unique}
 use Rattle.tau_output.specs.declared.outputs.End.{End}
 use Rattle.tau_output.specs.declared.outputs.Output.{Output}
 use Rattle.tau_output.specs.declared.outputs.End.TheVariants.{Done, Stopped, Bad, Broken}

@@ -13,9 +13,9 @@ use Rattle.tau_text.specs.RunText.{IsRunText, IsReadBack}
 use Rattle.tau_text.specs.Laws.{TellsRun}
 use Rattle.tau_text.proofs.Telling.{texts_tell}
 use Rattle.tau_past.specs.Safety.{Safe}
-use Rattle.tau_serial.specs.SerialRun.{IsSerialRun}
-use Rattle.tau_input.specs.Meaning.{IsProgram}
-use Rattle.tau_input.proofs.ReadBack.{run_texts_read_back}
+use Rattle.tau_book.specs.SerialRun.{IsSerialRun}
+use Rattle.tau_text.specs.Meaning.{IsProgram}
+use Rattle.tau_text.proofs.ReadBack.{run_texts_read_back}
 use Rattle.tau_output.specs.declared.outputs.End.{End}
 use Rattle.tau_output.specs.declared.outputs.End.TheVariants.{Done, Stopped}
 use Rattle.tau_output.specs.Inner.Ends.{end_of_run}

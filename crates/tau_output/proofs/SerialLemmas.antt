@@ -9,10 +9,10 @@ use Rattle.tau_trace.specs.Run.{Run}
 use Rattle.tau_trace.proofs.Lists.{same_some}
 use Rattle.tau_report.proofs.Uniqueness.{report_once}
 use Rattle.tau_text.specs.RunText.{trace_mark, report_mark, AreStepForms, AreRunForms, IsRunText}
-use Rattle.tau_serial.specs.SerialRun.{IsSerialRun}
-use Rattle.tau_serial.proofs.OneRun.{one_serial_run}
+use Rattle.tau_book.specs.SerialRun.{IsSerialRun}
+use Rattle.tau_book.proofs.OneRun.{one_serial_run}
 use Rattle.tau_gen.specs.Generated.{generated}
-use Rattle.tau_input.proofs.FaultLemmas.{program_unique}
+use Rattle.tau_text.proofs.FaultLemmas.{program_unique}
 use Rattle.tau_output.specs.declared.outputs.End.{End}
 use Rattle.tau_output.specs.Runs.{EndsAs, RunsAs, RunsBy}
 use Rattle.tau_output.specs.Drills.{drill_lines, DrillsAs}

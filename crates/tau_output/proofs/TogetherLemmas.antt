@@ -2,11 +2,11 @@
 use Rattle.std.proofs.Common.{◌≡◌, ◌⊎◌, inl, inr, ℕ, ◌≤◌, List, length, Result, Ok, Err, IfOk, IfErr, ap, subst, arith}
 use Rattle.tau_command.specs.declared.commands.Command.{Command}
 use Rattle.tau_command.specs.declared.commands.Command.TheVariants.{Run as RunCommand}
-use Rattle.tau_input.specs.declared.errors.InputError.{InputError}
-use Rattle.tau_input.specs.declared.errors.InputError.TheVariants.{Fault, NoMemory}
-use Rattle.tau_input.specs.Errors.{TellsInputFault}
-use Rattle.tau_input.specs.Faults.{IsProgramFault}
-use Rattle.tau_input.proofs.FaultLemmas.{program_unique}
+use Rattle.tau_text.specs.declared.errors.InputError.{InputError}
+use Rattle.tau_text.specs.declared.errors.InputError.TheVariants.{Fault, NoMemory}
+use Rattle.tau_text.specs.Errors.{TellsInputFault}
+use Rattle.tau_text.specs.Faults.{IsProgramFault}
+use Rattle.tau_text.proofs.FaultLemmas.{program_unique}
 use Rattle.tau_output.specs.declared.outputs.End.{End}
 use Rattle.tau_output.specs.declared.outputs.Output.{Output}
 use Rattle.tau_output.specs.Faults.{input_limit, IsInputFault, too_long, within}

@@ -7,7 +7,7 @@ use Rattle.tau_tree.specs.declared.programs.Program.{Program}
 use Rattle.tau_trace.specs.Run.{Run}
 use Rattle.tau_past.specs.Safety.{Safe}
 use Rattle.tau_past.specs.Audits.{IsBroken}
-use Rattle.tau_input.specs.Meaning.{IsRunInput}
+use Rattle.tau_text.specs.Meaning.{IsRunInput}
 use Rattle.tau_output.specs.declared.outputs.End.{End}
 use Rattle.tau_output.specs.declared.outputs.End.TheVariants.{Done, Broken}
 

@@ -6,7 +6,7 @@ use Rattle.tau_trace.specs.Run.{Run}
 use Rattle.tau_past.specs.Safety.{Safe}
 use Rattle.tau_legal.specs.Traces.{Legal, Complete}
 use Rattle.tau_check.specs.Legality.{IsFirstIllegal}
-use Rattle.tau_input.specs.Meaning.{IsRunInput}
+use Rattle.tau_text.specs.Meaning.{IsRunInput}
 use Rattle.tau_output.specs.declared.outputs.End.{End}
 use Rattle.tau_output.specs.declared.outputs.End.TheVariants.{Done, Bad}
 

@@ -7,7 +7,7 @@ use Rattle.tau_trace.specs.Known.{WellFormed}
 use Rattle.tau_past.specs.Safety.{Safe}
 use Rattle.tau_legal.specs.Traces.{Legal}
 use Rattle.tau_report.specs.Report.{count_of, counts_form}
-use Rattle.tau_serial.specs.SerialRun.{IsSerialRun}
+use Rattle.tau_book.specs.SerialRun.{IsSerialRun}
 use Rattle.tau_gen.specs.Generated.{generated}
 use Rattle.tau_output.specs.declared.outputs.End.{End}
 use Rattle.tau_output.specs.Runs.{EndsAs}

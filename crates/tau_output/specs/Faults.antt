@@ -2,9 +2,9 @@
 use Rattle.std.specs.Prelude.{◌≡◌, ℕ, ◌<◌, ◌≤◌, Bool, true, false, IsTrue, List, length}
 use Rattle.tau_command.specs.declared.commands.Command.{Command}
 use Rattle.tau_command.specs.declared.commands.Command.TheVariants.{Run, Check, Audit, Report, Print, Gen, Drill}
-use Rattle.tau_input.specs.FaultNumbers.{fault_number}
-use Rattle.tau_input.specs.declared.faults.InputFault.TheVariants.{TooLong}
-use Rattle.tau_input.specs.Faults.{IsProgramFault, IsRunFault, IsPrintFault}
+use Rattle.tau_text.specs.FaultNumbers.{fault_number}
+use Rattle.tau_text.specs.declared.faults.InputFault.TheVariants.{TooLong}
+use Rattle.tau_text.specs.Faults.{IsProgramFault, IsRunFault, IsPrintFault}
 
 -- how many bytes an input may have: 16 MiB
 abbrev pub input_limit : ℕ

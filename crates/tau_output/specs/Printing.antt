@@ -4,7 +4,7 @@ use Rattle.tau_sexpr.specs.Printing.{printed}
 use Rattle.tau_tree.specs.declared.programs.Program.{Program}
 use Rattle.tau_forms.specs.Printed as forms
 use Rattle.tau_gen.specs.Generated.{generated}
-use Rattle.tau_input.specs.Meaning.{IsProgram, IsPrintInput}
+use Rattle.tau_text.specs.Meaning.{IsProgram, IsPrintInput}
 
 -- for an input of these bytes `print` writes this text: the printed forms of its program
 pub record PrintsAs (bytes text : List ℕ) : Type 0 where

@@ -3,7 +3,7 @@ use Rattle.std.specs.Prelude.{ℕ, List}
 use Rattle.tau_tree.specs.declared.programs.Program.{Program}
 use Rattle.tau_trace.specs.Run.{Run}
 use Rattle.tau_report.specs.Report.{IsReportText}
-use Rattle.tau_input.specs.Meaning.{IsRunInput}
+use Rattle.tau_text.specs.Meaning.{IsRunInput}
 
 -- for an input of these bytes `report` writes this text: that of the report of its program and its run
 pub record ReportsAs (bytes text : List ℕ) : Type 0 where

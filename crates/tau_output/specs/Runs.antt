@@ -10,8 +10,8 @@ use Rattle.tau_past.specs.Safety.{Safe}
 use Rattle.tau_legal.specs.Traces.{Legal, Complete}
 use Rattle.tau_report.specs.Report.{IsSavedForm, counts_form}
 use Rattle.tau_text.specs.RunText.{IsRunText, IsReadBack}
-use Rattle.tau_serial.specs.SerialRun.{IsSerialRun}
-use Rattle.tau_input.specs.Meaning.{IsProgram}
+use Rattle.tau_book.specs.SerialRun.{IsSerialRun}
+use Rattle.tau_text.specs.Meaning.{IsProgram}
 use Rattle.tau_output.specs.declared.outputs.End.{End}
 use Rattle.tau_output.specs.declared.outputs.End.TheVariants.{Done, Stopped}
 

@@ -1,16 +1,16 @@
 //! The command `audit`.
 ghost use Rattle.std.specs.Prelude.{◌≡◌, ◌++◌, IfOk, IfErr, OnOk};
-ghost use Rattle.tau_input.specs.Errors.{TellsInputFault};
-ghost use Rattle.tau_input.specs.Faults.{IsRunFault};
+ghost use Rattle.tau_text.specs.Errors.{TellsInputFault};
+ghost use Rattle.tau_text.specs.Faults.{IsRunFault};
 ghost use Rattle.tau_value.specs.Written.{name_written};
 ghost use Rattle.tau_output.specs.Audits.{AuditsAs, broken_line as line_of_broken};
 ghost use Rattle.tau_output.specs.Inner.Ends.{end_of_audit, line_of_audit};
 
 use crate::{End, Output};
 use std::alloc::{AllocError, Global};
-use tau_input::{InputError, read_run_text};
 use tau_past::{Audit, audit};
 use tau_points::Point;
+use tau_text::{InputError, read_run_text};
 use tau_value::Names;
 
 /// The line that tells whether each checkpoint of the run of a run text is safe, and otherwise what breaks the first that
@@ -27,7 +27,7 @@ pub(crate) fn audit_run(alloc: Global, bytes: &[u8]) -> Result<Output, InputErro
     })
 }
 
-// How an audit ends.
+/// How an audit ends.
 fn end_of(found: Audit) -> End
     ensures { result ≡ end_of_audit found }
 {
@@ -45,7 +45,7 @@ fn end_of(found: Audit) -> End
     }
 }
 
-// The line of an audit, where the starts have these names.
+/// The line of an audit, where the starts have these names.
 fn line_of(alloc: Global, names: &Names, found: Audit) -> Result<Vec<u8>, AllocError>
     ensures { IfOk result (λ v. v.items ≡ line_of_audit names.now found) }
 {
@@ -59,7 +59,7 @@ fn line_of(alloc: Global, names: &Names, found: Audit) -> Result<Vec<u8>, AllocE
     }
 }
 
-// The line for a checkpoint that isn't safe.
+/// The line for a checkpoint that isn't safe.
 fn broken_line(
     alloc: Global,
     names: &Names,
@@ -81,7 +81,7 @@ fn broken_line(
     Ok(line)
 }
 
-// Adds the name of a start, or the number of another transactor.
+/// Adds the name of a start, or the number of another transactor.
 fn add_name(alloc: Global, line: &mut Vec<u8>, names: &Names, who: u32) -> Result<(), AllocError>
     ensures { OnOk result (line.new.items ≡ line.old.items ++ name_written names.now who) }
 {

@@ -1,14 +1,14 @@
 //! The command `check`.
 ghost use Rattle.std.specs.Prelude.{◌≡◌, IfOk, IfErr};
-ghost use Rattle.tau_input.specs.Errors.{TellsInputFault};
-ghost use Rattle.tau_input.specs.Faults.{IsRunFault};
+ghost use Rattle.tau_text.specs.Errors.{TellsInputFault};
+ghost use Rattle.tau_text.specs.Faults.{IsRunFault};
 ghost use Rattle.tau_output.specs.Checks.{ChecksAs};
 ghost use Rattle.tau_output.specs.Inner.Ends.{end_of_check, line_of_check};
 
 use crate::{End, Output};
 use std::alloc::{AllocError, Global};
 use tau_check::{Legality, check};
-use tau_input::{InputError, read_run_text};
+use tau_text::{InputError, read_run_text};
 
 /// The line that tells whether the run of a run text is legal, and complete (docs/formats.md, "Command line").
 pub(crate) fn check_run(alloc: Global, bytes: &[u8]) -> Result<Output, InputError>
@@ -24,7 +24,7 @@ pub(crate) fn check_run(alloc: Global, bytes: &[u8]) -> Result<Output, InputErro
     })
 }
 
-// How a check ends.
+/// How a check ends.
 fn end_of(legality: Legality) -> End
     ensures { result ≡ end_of_check legality }
 {
@@ -34,7 +34,7 @@ fn end_of(legality: Legality) -> End
     }
 }
 
-// The line of a check.
+/// The line of a check.
 fn line_of(alloc: Global, legality: Legality) -> Result<Vec<u8>, AllocError>
     ensures { IfOk result (λ v. v.items ≡ line_of_check legality) }
 {

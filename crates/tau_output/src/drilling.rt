@@ -18,7 +18,7 @@ use tau_trace::Trace;
 use tau_tree::Program;
 use tau_value::word_of_count;
 
-// The most steps that a drill does (docs/limits.md).
+/// The most steps that a drill does (docs/limits.md).
 const STEP_LIMIT: u32 = 4_000;
 
 /// The number of steps and the counts of the serial run of the generated program of a number, by one worker with room for
@@ -27,14 +27,14 @@ pub(crate) fn drill_program(alloc: Global, number: u64) -> Result<Output, AllocE
     ensures { IfOk result (λ o. DrillsAs number o.end o.text.items) }
 {
     let program = generate(alloc, number)?;
-    let made = tau_serial::run(alloc, &program, 1, number, STEP_LIMIT)?;
+    let made = tau_book::run(alloc, &program, 1, number, STEP_LIMIT)?;
     Ok(Output {
         text: lines_of(alloc, &program, &made.trace)?,
         end: end_of(made.is_complete),
     })
 }
 
-// The two lines for a trace.
+/// The two lines for a trace.
 fn lines_of(alloc: Global, program: &Program, trace: &Trace) -> Result<Vec<u8>, AllocError>
     requires opening { trace.now.run.opening ≡ program_opening program.now }
     requires sound { Sound program.now }
@@ -46,7 +46,7 @@ fn lines_of(alloc: Global, program: &Program, trace: &Trace) -> Result<Vec<u8>, 
     print_forms(alloc, &lines)
 }
 
-// The form with a number of steps.
+/// The form with a number of steps.
 #[tactic(auto, using(tau_sexpr::proofs::Literals::word_literal), unfolding(tau_sexpr::specs::Bytes::is_word_byte, tau_sexpr::specs::Bytes::is_letter_or_digit, tau_sexpr::specs::Bytes::is_word_sign))]
 fn steps_form(alloc: Global, steps: u32) -> Result<Form, AllocError>
     ensures form { IfOk result (λ f. tree_of f ≡ form_of_steps steps) }
@@ -58,7 +58,7 @@ fn steps_form(alloc: Global, steps: u32) -> Result<Form, AllocError>
     Ok(Form::List(items))
 }
 
-// The counts of a trace, which are the last form of its report.
+/// The counts of a trace, which are the last form of its report.
 fn counts_form(alloc: Global, program: &Program, trace: &Trace) -> Result<Form, AllocError>
     requires opening { trace.now.run.opening ≡ program_opening program.now }
     requires sound { Sound program.now }

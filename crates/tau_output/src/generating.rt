@@ -5,7 +5,7 @@ ghost use Rattle.tau_output.specs.Printing.{GeneratesAs};
 use crate::{End, Output};
 use std::alloc::{AllocError, Global};
 use tau_gen::generate;
-use tau_input::program_text;
+use tau_text::program_text;
 
 /// The forms of the generated program of a number, printed (docs/formats.md, "Generated programs").
 pub(crate) fn generate_program(alloc: Global, number: u64) -> Result<Output, AllocError>

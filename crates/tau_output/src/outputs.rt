@@ -1,6 +1,6 @@
 //! What commands write.
 ghost use Rattle.std.specs.Prelude.{◌≡◌, ◌⊎◌, ℕ, ◌≤◌, length, IfOk, IfErr, Err};
-ghost use Rattle.tau_input.specs.Errors.{TellsInputFault};
+ghost use Rattle.tau_text.specs.Errors.{TellsInputFault};
 ghost use Rattle.tau_output.specs.Faults.{input_limit, reads_input as reads, IsInputFault};
 ghost use Rattle.tau_output.specs.Writing.{WritesSerially, HasLimit};
 
@@ -13,8 +13,8 @@ use crate::reporting::report_run;
 use crate::running::run_program;
 use std::alloc::Global;
 use tau_command::Command;
-use tau_input::InputError;
 use tau_points::Point;
+use tau_text::InputError;
 
 /// How many bytes an input may have (docs/limits.md).
 pub const INPUT_LIMIT: usize = 16_777_216;

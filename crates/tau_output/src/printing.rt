@@ -1,12 +1,12 @@
 //! The command `print`.
 ghost use Rattle.std.specs.Prelude.{◌≡◌, IfOk, IfErr};
-ghost use Rattle.tau_input.specs.Errors.{TellsInputFault};
-ghost use Rattle.tau_input.specs.Faults.{IsPrintFault};
+ghost use Rattle.tau_text.specs.Errors.{TellsInputFault};
+ghost use Rattle.tau_text.specs.Faults.{IsPrintFault};
 ghost use Rattle.tau_output.specs.Printing.{PrintsAs};
 
 use crate::{End, Output};
 use std::alloc::Global;
-use tau_input::{InputError, program_text, read_printed};
+use tau_text::{InputError, program_text, read_printed};
 
 /// The forms of the program of a program's or a run's text, printed (docs/formats.md, "Programs").
 pub(crate) fn print_program(alloc: Global, bytes: &[u8]) -> Result<Output, InputError>

@@ -1,13 +1,13 @@
 //! The command `report`.
 ghost use Rattle.std.specs.Prelude.{◌≡◌, IfOk, IfErr};
-ghost use Rattle.tau_input.specs.Errors.{TellsInputFault};
-ghost use Rattle.tau_input.specs.Faults.{IsRunFault};
+ghost use Rattle.tau_text.specs.Errors.{TellsInputFault};
+ghost use Rattle.tau_text.specs.Faults.{IsRunFault};
 ghost use Rattle.tau_output.specs.Reports.{ReportsAs};
 
 use crate::{End, Output};
 use std::alloc::Global;
-use tau_input::{InputError, read_run_text};
 use tau_report::report;
+use tau_text::{InputError, read_run_text};
 
 /// The report of the program and the run of a run text (docs/formats.md, "Report").
 pub(crate) fn report_run(alloc: Global, bytes: &[u8]) -> Result<Output, InputError>

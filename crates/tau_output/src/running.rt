@@ -1,14 +1,13 @@
 //! The command `run`.
 ghost use Rattle.std.specs.Prelude.{◌≡◌, ◌≤◌, IfOk, IfErr};
-ghost use Rattle.tau_input.specs.Errors.{TellsInputFault};
-ghost use Rattle.tau_input.specs.Faults.{IsProgramFault};
+ghost use Rattle.tau_text.specs.Errors.{TellsInputFault};
+ghost use Rattle.tau_text.specs.Faults.{IsProgramFault};
 ghost use Rattle.tau_output.specs.Runs.{RunsBy};
 ghost use Rattle.tau_output.specs.Inner.Ends.{end_of_run};
 
 use crate::{End, Output};
 use std::alloc::Global;
-use tau_input::{InputError, read_program};
-use tau_text::run_text;
+use tau_text::{InputError, read_program, run_text};
 
 /// The run text of the serial run of the program that the bytes spell, by one worker with room for 1 to 16 jobs and this
 /// seed, with at most so many steps (docs/formats.md, "Run text"; docs/definitions.md, "Serial run").
@@ -26,7 +25,7 @@ pub(crate) fn run_program(
     ensures fault { IfErr result (TellsInputFault (IsProgramFault bytes.now)) }
 {
     let program = read_program(alloc, bytes)?;
-    let made = tau_serial::run(alloc, &program, jobs, seed, steps)?;
+    let made = tau_book::run(alloc, &program, jobs, seed, steps)?;
     Ok(Output {
         text: run_text(alloc, &program, &made.trace)?,
         end: end_of(made.is_complete),

@@ -1,7 +1,7 @@
 //! What commands write where `run` starts several workers.
 ghost use Rattle.std.specs.Prelude.{◌≡◌, ◌⊎◌, ℕ, ◌<◌, ◌≤◌, length, IfOk, IfErr, Err};
-ghost use Rattle.tau_input.specs.Errors.{TellsInputFault};
-ghost use Rattle.tau_input.specs.Faults.{IsProgramFault};
+ghost use Rattle.tau_text.specs.Errors.{TellsInputFault};
+ghost use Rattle.tau_text.specs.Faults.{IsProgramFault};
 ghost use Rattle.tau_output.specs.Faults.{input_limit, IsInputFault};
 ghost use Rattle.tau_output.specs.Runs.{RunsAs};
 ghost use Rattle.tau_output.specs.Writing.{Writes, HasLimit};
@@ -12,8 +12,7 @@ use std::alloc::Global;
 use std::sync::Wait;
 use std::thread::Threads;
 use tau_command::Command;
-use tau_input::{InputError, read_program};
-use tau_text::run_text;
+use tau_text::{InputError, read_program, run_text};
 use tau_workers::{Gate, Settings, run_workers};
 
 /// What a command writes for the bytes of its input, as [`output_of`] says, but `run` with two workers or more starts a thread for
@@ -52,7 +51,7 @@ pub fn output_by_workers<R: Threads + Wait + Sync, G: Gate + Sync>(
     }
 }
 
-// The run text of the program that the bytes spell and of a run that several workers made.
+/// The run text of the program that the bytes spell and of a run that several workers made.
 fn run_together<R: Threads + Wait + Sync, G: Gate + Sync>(
     rt: &R,
     alloc: Global,

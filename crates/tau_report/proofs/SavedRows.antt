@@ -14,7 +14,7 @@ use Rattle.tau_trace.specs.Run.{Run, len, starts}
 use Rattle.tau_trace.specs.Numbering.{born}
 use Rattle.tau_trace.specs.Histories.{history, move_at, is_close}
 use Rattle.tau_trace.specs.Known.{WellFormed}
-use Rattle.tau_trace.specs.StepForms.{IsWritten}
+use Rattle.tau_steps.specs.StepForms.{IsWritten}
 use Rattle.tau_trace.proofs.Counts.{count-le}
 use Rattle.tau_trace.proofs.Counted.{counted}
 use Rattle.tau_trace.proofs.Indexing.{born-le}

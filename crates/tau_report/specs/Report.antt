@@ -14,7 +14,7 @@ use Rattle.tau_trace.specs.Places.{count_below}
 use Rattle.tau_trace.specs.Run.{Run, len, step_at}
 use Rattle.tau_trace.specs.Numbering.{born}
 use Rattle.tau_trace.specs.Histories.{history, IsLiving, move_at, is_fall}
-use Rattle.tau_trace.specs.StepForms.{who_form, value_form}
+use Rattle.tau_steps.specs.StepForms.{who_form, value_form}
 use Rattle.tau_past.specs.States.{SavedWith}
 use Rattle.tau_states.specs.Opening.{opening_states}
 

@@ -3,7 +3,7 @@ ghost use Rattle.std.specs.Prelude.{◌≡◌, ◌∷◌, [], All, IfOk};
 ghost use Rattle.tau_sexpr.specs.Bytes.{IsWordByte};
 ghost use Rattle.tau_sexpr.specs.Form.{tree_of};
 ghost use Rattle.tau_sexpr.specs.Tree as tree;
-ghost use Rattle.tau_trace.specs.StepForms.{who_form};
+ghost use Rattle.tau_steps.specs.StepForms.{who_form};
 ghost use Rattle.tau_report.specs.Report.{count_of};
 ghost use Rattle.tau_value.specs.Written.{count_form};
 

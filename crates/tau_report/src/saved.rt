@@ -2,7 +2,7 @@
 ghost use Rattle.std.specs.Prelude.{◌≡◌, ◌<◌, ◌^◌, ◌++◌, length, IfOk, OnOk};
 ghost use Rattle.tau_sexpr.specs.Form.{tree_of};
 ghost use Rattle.tau_value.specs.Names.{AreNames};
-ghost use Rattle.tau_trace.specs.StepForms.{IsWritten};
+ghost use Rattle.tau_steps.specs.StepForms.{IsWritten};
 ghost use Rattle.tau_report.specs.Inner.Rows as rows;
 ghost use Rattle.tau_report.specs.Inner.Rows.{saved_form, saved_row, IsRowWritten, AreRows};
 

@@ -12,9 +12,9 @@ use Rattle.tau_eval.specs.Turn.{next_in, with_reply}
 use Rattle.tau_legal.specs.Turns.{TurnHas}
 use Rattle.tau_legal.specs.Traces.{Fitting}
 use Rattle.tau_legal.specs.Fits.{IsStepOfTurn}
-use Rattle.tau_choice.specs.Choices.{IsChoice}
-use Rattle.tau_choice.specs.declared.choices.Choice.{Choice}
-use Rattle.tau_choice.specs.declared.choices.Choice.TheVariants.{GoesOn, Ends}
+use Rattle.tau_legal.specs.Choices.{IsChoice}
+use Rattle.tau_legal.specs.declared.choices.Choice.{Choice}
+use Rattle.tau_legal.specs.declared.choices.Choice.TheVariants.{GoesOn, Ends}
 use Rattle.tau_rules.specs.declared.answers.Acted.{Acted}
 use Rattle.tau_rules.specs.declared.answers.Acted.TheVariants.{Reply, TurnOver, Redo}
 use Rattle.tau_rules.specs.System.{Core}

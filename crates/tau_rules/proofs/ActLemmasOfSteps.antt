@@ -26,7 +26,7 @@ use Rattle.tau_legal.specs.Turns.{Replies, RepliesOf, reply, TurnHas}
 use Rattle.tau_legal.proofs.LocalLemmas.{replies-same, replies_of-same, body-same, value-same}
 use Rattle.tau_legal.proofs.TraceLemmas.{known_at_end}
 use Rattle.tau_legal.proofs.ValueLemmas.{turn_effect_known}
-use Rattle.tau_choice.specs.Choices.{goes_on}
+use Rattle.tau_legal.specs.Choices.{goes_on}
 use Rattle.tau_rules.specs.Answers.{IsOpenJob}
 use Rattle.tau_legal.specs.Fits.{Fits, is_of_turn, IsStepOfTurn}
 use Rattle.tau_rules.proofs.ActLemmasOfJobs.{turn_exists, behaviours_counted}

@@ -10,7 +10,7 @@ use Rattle.tau_trace.specs.Numbering.{born, sent, InFlight}
 use Rattle.tau_trace.specs.Histories.{history}
 use Rattle.tau_trace.specs.Known.{WellFormed}
 use Rattle.tau_trace.proofs.Lists.{same_some}
-use Rattle.tau_heard.proofs.HeardLaws.{views_have_the_own_history}
+use Rattle.tau_views.proofs.HeardLaws.{views_have_the_own_history}
 use Rattle.tau_legal.proofs.TraceLemmas.{below_length}
 use Rattle.tau_views.specs.Kept.{AreViews}
 

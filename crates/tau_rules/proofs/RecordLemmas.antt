@@ -18,7 +18,7 @@ use Rattle.tau_trace.proofs.Indexing.{len-appended, born-next}
 use Rattle.tau_past.specs.Carried.{touches}
 use Rattle.tau_past.specs.KnownLaws.{KeepsTurns, keeps_pending}
 use Rattle.tau_past.proofs.PendingLemmas.{turns_after_step}
-use Rattle.tau_choice.specs.Choices.{goes_on}
+use Rattle.tau_legal.specs.Choices.{goes_on}
 use Rattle.tau_legal.specs.Turns.{HasValue}
 use Rattle.tau_legal.specs.Fits.{Fits}
 use Rattle.tau_legal.specs.Traces.{Fitting}

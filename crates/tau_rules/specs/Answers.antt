@@ -15,7 +15,7 @@ use Rattle.tau_eval.specs.Turn.{with_reply}
 use Rattle.tau_eval.specs.Turn as jobs
 use Rattle.tau_legal.specs.Turns.{HasBody, HasValue, Replies, RepliesOf}
 use Rattle.tau_legal.specs.Fits.{IsStepOfTurn}
-use Rattle.tau_choice.specs.Choices.{goes_on}
+use Rattle.tau_legal.specs.Choices.{goes_on}
 use Rattle.tau_rules.specs.declared.answers.Standing.{Standing}
 use Rattle.tau_rules.specs.declared.answers.Standing.TheVariants as standings
 use Rattle.tau_rules.specs.declared.answers.Delivered.{Delivered}

@@ -12,7 +12,7 @@ use Rattle.tau_states.specs.Opening.{opening_states}
 use Rattle.tau_trace.specs.declared.step.Step.{Step}
 use Rattle.tau_trace.specs.declared.step.Step.TheVariants.{Take, Drop, Void, Send, New, Lose}
 use Rattle.tau_trace.specs.Steps.{ends_turn}
-use Rattle.tau_choice.specs.Choices.{goes_on}
+use Rattle.tau_legal.specs.Choices.{goes_on}
 use Rattle.tau_rules.specs.declared.records.Record.{Record}
 use Rattle.tau_rules.specs.declared.records.RecordChange.{RecordChange}
 use Rattle.tau_rules.specs.declared.records.RecordChange.TheVariants as changes

@@ -8,8 +8,8 @@ use Rattle.tau_trace.specs.Run.{Run}
 use Rattle.tau_trace.specs.Numbering.{born, sent}
 use Rattle.tau_trace.specs.Known.{WellFormed}
 use Rattle.tau_legal.specs.Traces.{Fitting}
-use Rattle.tau_heard.specs.Views.{IsViewOf, IsMessageView}
-use Rattle.tau_judgement.specs.Laws.{AreViewsOf}
+use Rattle.tau_views.specs.Views.{IsViewOf, IsMessageView}
+use Rattle.tau_views.specs.DecisionLaws.{AreViewsOf}
 
 -- the view of what a transactor has heard is settled
 abbrev pub FittingViewsAreSettled : Type 0

@@ -9,7 +9,7 @@ ghost use Rattle.tau_past.specs.Decisions.{Free};
 ghost use Rattle.tau_eval.specs.Effect.{eff_of};
 ghost use Rattle.tau_eval.specs.Turn.{IsTurnOf};
 ghost use Rattle.tau_legal.specs.Turns.{TurnHas};
-ghost use Rattle.tau_choice.specs.Choices.{asks_freedom as asks_freedom_by, IsChoice};
+ghost use Rattle.tau_legal.specs.Choices.{asks_freedom as asks_freedom_by, IsChoice};
 ghost use Rattle.tau_rules.specs.Answers.{IsActed, IsUnacted};
 ghost use Rattle.tau_rules.specs.Inner.Acting.{IsMade, step_of};
 
@@ -17,8 +17,8 @@ use crate::records::{Record, RecordChange};
 use crate::turns::{is_open, taker, turn_end};
 use crate::{ActError, Acted, System};
 use std::alloc::{AllocError, Global};
-use tau_choice::{Choice, asks_freedom, chosen};
 use tau_eval::{Effect, Job, Pending, again};
+use tau_legal::{Choice, asks_freedom, chosen};
 use tau_tree::{Expr, Program};
 use tau_view::View;
 
@@ -52,7 +52,7 @@ impl<'p, V: View + Drop> System<'p, V> {
         self.make_step(who, pending.effect())
     }
 
-    // Makes the step of the next effect of the open turn of a transactor.
+    /// Makes the step of the next effect of the open turn of a transactor.
     fn make_step(&mut self, who: u32, effect: &Effect) -> Result<Acted<'p>, ActError>
         requires few { len self.old.run < 1000000 }
         requires effect { TurnHas self.old.program self.old.run who (len self.old.run) (eff_of effect.now) }
@@ -73,7 +73,7 @@ impl<'p, V: View + Drop> System<'p, V> {
         }
     }
 
-    // The step of the next effect of the open turn of a transactor, and its reply.
+    /// The step of the next effect of the open turn of a transactor, and its reply.
     fn choice(&self, who: u32, effect: &Effect) -> Result<Choice, AllocError>
         requires { TurnHas self.now.program self.now.run who (len self.now.run) (eff_of effect.now) }
         ensures choice { IfOk result (IsChoice self.now.program self.now.run who) }
@@ -83,7 +83,7 @@ impl<'p, V: View + Drop> System<'p, V> {
         chosen(effect, who, &self.trace, &self.states, is_free)
     }
 
-    // Whether the transactor of an open turn is free, where the step of its effect depends on it.
+    /// Whether the transactor of an open turn is free, where the step of its effect depends on it.
     fn freedom(&self, who: u32, effect: &Effect) -> Result<bool, AllocError>
         requires { TurnHas self.now.program self.now.run who (len self.now.run) (eff_of effect.now) }
         ensures { IfOk result (λ b. IsTrue (asks_freedom_by (eff_of effect.now)) → (IsTrue b ↔ Free self.now.run who (len self.now.run))) }
@@ -95,7 +95,7 @@ impl<'p, V: View + Drop> System<'p, V> {
     }
 }
 
-// Whether the job is that of the record of its transactor, which is `who`.
+/// Whether the job is that of the record of its transactor, which is `who`.
 fn is_record<'p>(program: &'p Program, own: &Record, who: u32, pending: &Pending<'p>) -> bool
     requires { own.now.behaviour < length program.now.behaviours }
     ensures { IsTrue result ↔ IsTurnOf program.entry.now who own.now.behaviour pending.now.place (val_of own.now.message) own.now.replies pending.now }
@@ -104,7 +104,7 @@ fn is_record<'p>(program: &'p Program, own: &Record, who: u32, pending: &Pending
     who == pending.who() && pending.agrees(body, program.nodes, &own.message, &own.replies)
 }
 
-// The job of the record of a transactor, whose turn began at this place.
+/// The job of the record of a transactor, whose turn began at this place.
 fn job_of<'p>(
     alloc: Global,
     program: &'p Program,
@@ -120,7 +120,7 @@ fn job_of<'p>(
     again(alloc, program, who, own.behaviour, turn, message, replies)
 }
 
-// The body of a behaviour.
+/// The body of a behaviour.
 fn body_of<'p>(program: &'p Program, behaviour: u32) -> &'p Expr
     requires { behaviour < length program.now.behaviours }
     ensures { slice_get (bodies program.entry.now) behaviour ≡ Some (code_of result.now) }

@@ -15,8 +15,8 @@ use tau_value::Value;
 use tau_view::View;
 
 impl<'p, V: View + Drop> System<'p, V> {
-    // Appends a step, with what it changes in the record of the transactor that makes it. All memory is taken before the
-    // first change.
+    /// Appends a step, with what it changes in the record of the transactor that makes it. All memory is taken before the
+    /// first change.
     pub(crate) fn append(&mut self, step: Step, change: RecordChange) -> Result<(), AllocError>
         requires known { MayFollow self.old.run step }
         requires fits { FitsAt self.old.program self.old.run (len self.old.run) step }
@@ -43,7 +43,7 @@ impl<'p, V: View + Drop> System<'p, V> {
     }
 }
 
-// Adds the record of a transactor that the step makes, in the room that there is.
+/// Adds the record of a transactor that the step makes, in the room that there is.
 fn keep_newborn(records: &mut Vec<Record>, newborn: Option<Record>)
     requires { vec_len records.old < vec_capacity records.old }
     ensures { records.new.items ≡ with_newborn records.old.items newborn }
@@ -53,7 +53,7 @@ fn keep_newborn(records: &mut Vec<Record>, newborn: Option<Record>)
     }
 }
 
-// Adds the value that a step sends, in the room that there is.
+/// Adds the value that a step sends, in the room that there is.
 fn keep_sent(values: &mut Vec<Value>, sent: Option<Value>)
     requires { vec_len values.old < vec_capacity values.old }
     ensures { values.new.items ≡ with_sent values.old.items sent }
@@ -63,7 +63,7 @@ fn keep_sent(values: &mut Vec<Value>, sent: Option<Value>)
     }
 }
 
-// The value that a step sends.
+/// The value that a step sends.
 fn sent_copy(step: &Step) -> Result<Option<Value>, AllocError>
     ensures { IfOk result (λ v. v ≡ sent_value step.now) }
 {

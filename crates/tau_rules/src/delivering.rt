@@ -52,7 +52,7 @@ impl<'p, V: View + Drop> System<'p, V> {
         }
     }
 
-    // Appends the Take of a message that its receiver can take, and gives the job of its turn.
+    /// Appends the Take of a message that its receiver can take, and gives the job of its turn.
     fn begin_turn(&mut self, who: u32, message: u32) -> Result<Job<'p>, AllocError>
         requires few { len self.old.run < 1000000 }
         requires arrives { Arrives self.old.run who message (len self.old.run) }

@@ -3,7 +3,7 @@ ghost use Rattle.std.specs.Prelude.{◌≡◌, ◌↔◌, ◌<◌, IsSome, IfSom
 ghost use Rattle.tau_trace.specs.Run.{len};
 ghost use Rattle.tau_trace.specs.Numbering.{born, InFlight};
 ghost use Rattle.tau_trace.specs.Histories.{history};
-ghost use Rattle.tau_heard.specs.Views.{IsViewOf, IsMessageView};
+ghost use Rattle.tau_views.specs.Views.{IsViewOf, IsMessageView};
 ghost use Rattle.tau_views.specs.Kept.{IsTrimmed};
 ghost use Rattle.tau_rules.specs.Answers.{IsStanding};
 

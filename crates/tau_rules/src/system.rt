@@ -113,7 +113,7 @@ impl<'p, V: View + Drop> System<'p, V> {
     }
 }
 
-// The records of the starts before the first step.
+/// The records of the starts before the first step.
 fn opening_records(alloc: Global, starts: &[Start]) -> Result<Vec<Record>, AllocError>
     ensures { IfOk result (λ v. HasStarts starts.now v.items) }
 {
@@ -124,7 +124,7 @@ fn opening_records(alloc: Global, starts: &[Start]) -> Result<Vec<Record>, Alloc
     Ok(records)
 }
 
-// The values of the posts.
+/// The values of the posts.
 fn posted_values(alloc: Global, posts: &[Post]) -> Result<Vec<Value>, AllocError>
     ensures { IfOk result (λ v. HasPosts posts.now v.items) }
 {

@@ -44,7 +44,7 @@ pub(crate) fn turn_end(trace: &Trace, who: u32, turn: u32) -> u32
     unreachable!()
 }
 
-// Whether the transactor makes the step at a place, and begins or ends a turn by it.
+/// Whether the transactor makes the step at a place, and begins or ends a turn by it.
 fn bounds_turn_of(trace: &Trace, who: u32, place: u32) -> bool
     ensures { IsTrue result ↔ Does (λ s. ends_turn s || is_take s) trace.now.run who place }
 {
@@ -54,7 +54,7 @@ fn bounds_turn_of(trace: &Trace, who: u32, place: u32) -> bool
     }
 }
 
-// Whether a step begins or ends a turn.
+/// Whether a step begins or ends a turn.
 fn bounds_turn(step: &Step) -> bool
     ensures { result ≡ (ends_turn step.now || is_take step.now) }
 {

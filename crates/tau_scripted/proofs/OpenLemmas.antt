@@ -17,7 +17,7 @@ use Rattle.tau_past.specs.Carried.{touches}
 use Rattle.tau_past.specs.KnownLaws.{KeepsTurns, keeps_pending}
 use Rattle.tau_past.proofs.PendingLemmas.{turns_after_step}
 use Rattle.tau_rules.proofs.ActLemmas.{one_open_turn}
-use Rattle.tau_choice.specs.Choices.{goes_on}
+use Rattle.tau_legal.specs.Choices.{goes_on}
 use Rattle.tau_check.proofs.Once.{same_taker, same_taken}
 use Rattle.tau_check.proofs.Turns.{BeginsNone, earlier, ended, stays_open}
 use Rattle.tau_scripted.specs.OpenTurns.{IsOpenFrom, AreOpenTurns}

@@ -29,7 +29,7 @@ use Rattle.tau_eval.specs.Effect.{eff_of}
 use Rattle.tau_eval.specs.Meaning.{next}
 use Rattle.tau_eval.specs.declared.effects.Effect.{Effect}
 use Rattle.tau_eval.specs.declared.effects.Effect.TheVariants as effects
-use Rattle.tau_choice.specs.Choices.{goes_on}
+use Rattle.tau_legal.specs.Choices.{goes_on}
 use Rattle.tau_rules.specs.System.{Core, with_step}
 use Rattle.tau_rules.specs.declared.answers.Delivered.{Delivered}
 use Rattle.tau_rules.specs.declared.answers.Delivered.TheVariants.{Began, Dropped, Fell, Voided}

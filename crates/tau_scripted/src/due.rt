@@ -33,7 +33,7 @@ impl<'p, V: View + Drop> Scripted<'p, V> {
         Ok(true)
     }
 
-    // Lets a transactor fail.
+    /// Lets a transactor fail.
     fn fail(&mut self, who: u32) -> Result<(), AllocError>
         requires few { len self.old.system.run < 1000000 }
         requires asked { HasAsked self.old.system.program self.old.system.run self.old.cursor (Some (steps.Fail who)) }
@@ -51,7 +51,7 @@ impl<'p, V: View + Drop> Scripted<'p, V> {
         Ok(())
     }
 
-    // Loses a message in flight.
+    /// Loses a message in flight.
     fn lose(&mut self, message: u32) -> Result<(), AllocError>
         requires few { len self.old.system.run < 1000000 }
         requires asked { HasAsked self.old.system.program self.old.system.run self.old.cursor (Some (steps.Lose message)) }

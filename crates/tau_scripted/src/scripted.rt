@@ -121,7 +121,7 @@ impl<'p, V: View + Drop> Scripted<'p, V> {
         self.has_nothing_left()
     }
 
-    // Whether no turn is open and no message is in flight.
+    /// Whether no turn is open and no message is in flight.
     fn has_nothing_left(&self) -> bool
         ensures { IsTrue result ↔ NothingLeft self.now.system.run }
     {
@@ -131,7 +131,7 @@ impl<'p, V: View + Drop> Scripted<'p, V> {
         self.index.mailboxes.is_empty()
     }
 
-    // The due step of the script.
+    /// The due step of the script.
     pub(crate) fn due(&self) -> Option<Step>
         ensures asked { HasAsked self.now.system.program self.now.system.run self.now.cursor result }
         ensures entries { length self.now.system.program.script ≤ 4096 }

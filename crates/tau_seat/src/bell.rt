@@ -1,14 +1,14 @@
 //! How a seat that found nothing to do waits until another's call has changed the book.
 use std::sync::{Condvar, Mutex, Wait};
 
-// A count of the changes, at which seats wait.
+/// A count of the changes, at which seats wait.
 #[derive(Drop)]
 pub struct Bell {
     idlers: Mutex<Idlers>,
     changed: Condvar,
 }
 
-// What lies under the lock.
+/// What lies under the lock.
 #[derive(Drop)]
 struct Idlers {
     // How often the book was changed, and one more.
@@ -31,8 +31,8 @@ impl Bell {
         }
     }
 
-    // Waits unless there were changes since this count, and tells the count then. A seat asks the book between two such calls, so that no
-    // change falls between its question and its sleep.
+    /// Waits unless there were changes since this count, and tells the count then. A seat asks the book between two such calls, so that no
+    /// change falls between its question and its sleep.
     pub fn wait<R: Wait>(&self, rt: &R, changes: u64) -> u64 {
         let mut idlers = self.idlers.lock(rt);
         if idlers.changes == changes {
@@ -44,8 +44,8 @@ impl Bell {
         idlers.changes
     }
 
-    // Counts a change and wakes a seat that waits, unless one was woken that hasn't asked again yet: that one sees this change too, and
-    // where it finds something to do, it wakes another.
+    /// Counts a change and wakes a seat that waits, unless one was woken that hasn't asked again yet: that one sees this change too, and
+    /// where it finds something to do, it wakes another.
     pub fn ring<R: Wait>(&self, rt: &R) {
         let mut idlers = self.idlers.lock(rt);
         idlers.changes = idlers.changes.wrapping_add(1);
@@ -55,7 +55,7 @@ impl Bell {
         }
     }
 
-    // Counts a change and wakes all seats.
+    /// Counts a change and wakes all seats.
     pub fn ring_all<R: Wait>(&self, rt: &R) {
         let mut idlers = self.idlers.lock(rt);
         idlers.changes = idlers.changes.wrapping_add(1);

@@ -29,7 +29,7 @@ impl<'p> Model for BookKey<'p> {
 }
 
 impl<'p> BookKey<'p> {
-    // The same key.
+    /// The same key.
     pub(crate) fn again(&self) -> BookKey<'p>
         ensures { result ≡ self.now }
     {

@@ -100,7 +100,7 @@ impl<'a, 'p, V: View + Drop> StepPlace<'p> for SeatPlace<'a, 'p, V> {
     }
 }
 
-// `next` of the book in a turn of the seat. Where the book is `Idle`, the seat waits for a change of it and asks again.
+/// `next` of the book in a turn of the seat. Where the book is `Idle`, the seat waits for a change of it and asks again.
 fn ask<'p, V: View + Drop, R: Wait>(
     rt: &R,
     table: &SeatBook<'p, V>,
@@ -126,7 +126,7 @@ fn ask<'p, V: View + Drop, R: Wait>(
     unreachable!()
 }
 
-// Whether the trace is complete, where the answer tells the end.
+/// Whether the trace is complete, where the answer tells the end.
 fn end_told(answer: &Next<'_>) -> Option<bool>
     ensures { result ≡ completeness_told answer.now }
 {

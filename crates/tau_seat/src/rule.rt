@@ -77,7 +77,7 @@ impl Cutting for Brand {
     ghost keep = { 0 };
 }
 
-// A seat keeps the first numbers, and the other one gets the rest.
+/// A seat keeps the first numbers, and the other one gets the rest.
 pub struct Cut<C> {
     marker: PhantomData<C>,
 }

@@ -210,7 +210,7 @@ impl<'p, V: View + Drop> SeatBook<'p, V> {
         self.bell.ring(rt);
     }
 
-    // Wakes seats that wait for a change of the book, as the answer asks for.
+    /// Wakes seats that wait for a change of the book, as the answer asks for.
     fn tell<R: Wait>(&self, rt: &R, answer: &Result<Next<'p>, AllocError>) {
         match answer {
             Ok(Next::Complete | Next::Stopped) => self.bell.ring_all(rt),
@@ -219,7 +219,7 @@ impl<'p, V: View + Drop> SeatBook<'p, V> {
         }
     }
 
-    // Waits for a change of the book, unless there were changes since this count, and tells the count then. 0 comes before each count.
+    /// Waits for a change of the book, unless there were changes since this count, and tells the count then. 0 comes before each count.
     pub(crate) fn wait_for_change<R: Wait>(&self, rt: &R, changes: u64) -> u64 {
         self.bell.wait(rt, changes)
     }
@@ -241,7 +241,7 @@ impl<'p, V: View + Drop> SeatBook<'p, V> {
     }
 }
 
-// Whether a step was appended.
+/// Whether a step was appended.
 fn has_stepped(answer: &Result<Next<'_>, AllocError>) -> bool
     ensures { result ≡ has_stepped answer.now }
 {

@@ -15,7 +15,7 @@ use std::marker::Brand;
 use std::sync::Wait;
 use std::thread::yield_now;
 
-// How often a seat looks before it sleeps.
+/// How often a seat looks before it sleeps.
 const LOOKS: u32 = 16;
 
 /// A seat of a table.
@@ -55,7 +55,7 @@ impl<B: Kept + Drop> SeatTable<B> {
         }
     }
 
-    // It has the turn if its ticket is the one served.
+    /// It has the turn if its ticket is the one served.
     fn look(&self, seat: &mut Pass<B>) -> u64
         requires table { seat.old.table_id ≡ self.now.table.shared.table_id }
         requires waits { (0 < seat.old.me.0.tickets) × (seat.old.me.0.turn ≡ false) }
@@ -103,7 +103,7 @@ impl<B: Kept + Drop> SeatTable<B> {
         self.table.shared.load::<Learn<B>>(seat, 1);
     }
 
-    // It holds the next ticket.
+    /// It holds the next ticket.
     fn draw(&self, seat: &mut Pass<B>) -> u64
         requires table { seat.old.table_id ≡ self.now.table.shared.table_id }
         requires idle { (0 < length seat.old.me.0.numbers) × (seat.old.me.0.tickets ≡ 0) × (seat.old.me.0.turn ≡ false) }
@@ -113,7 +113,7 @@ impl<B: Kept + Drop> SeatTable<B> {
         self.table.shared.fetch_add::<Draw<B>>(seat, 0, 1)
     }
 
-    // One entry more is in the slot than the seat has seen, and now it has seen that too.
+    /// One entry more is in the slot than the seat has seen, and now it has seen that too.
     fn count(&self, seat: &mut Pass<B>)
         requires table { seat.old.table_id ≡ self.now.table.shared.table_id }
         requires turn { (seat.old.me.0.turn ≡ true) × (0 < length seat.old.me.0.numbers) }
@@ -124,7 +124,7 @@ impl<B: Kept + Drop> SeatTable<B> {
         self.table.shared.fetch_add::<Count<B>>(seat, 2, 1);
     }
 
-    // Gives up the turn, with the kept value in the slot.
+    /// Gives up the turn, with the kept value in the slot.
     fn serve(&self, seat: &mut Pass<B>)
         requires table { seat.old.table_id ≡ self.now.table.shared.table_id }
         requires turn { (seat.old.me.0.turn ≡ true) × (0 < length seat.old.me.0.numbers) }
@@ -139,7 +139,7 @@ impl<B: Kept + Drop> SeatTable<B> {
         }
     }
 
-    // Looks a few times, and then sleeps until another is served.
+    /// Looks a few times, and then sleeps until another is served.
     fn wait<R: Wait>(&self, rt: &R, seat: &mut Pass<B>, ticket: u64)
         requires table { seat.old.table_id ≡ self.now.table.shared.table_id }
         requires waits { (0 < seat.old.me.0.tickets) × (seat.old.me.0.turn ≡ false) × (ticket ≡ seat.old.me.0.ticket % turn_of_word) }

@@ -66,7 +66,7 @@ fn put_items(out: &mut Vec<u8>, forms: &Forms) -> Result<(), AllocError>
     Ok(())
 }
 
-// What stands before the item at `k`.
+/// What stands before the item at `k`.
 fn put_gap(out: &mut Vec<u8>, k: usize) -> Result<(), AllocError>
     ensures { OnOk result (out.new.items ≡ out.old.items ++ (if k == 0 then [] else 32 ∷ [])) }
 {

@@ -36,7 +36,7 @@ pub fn read_forms(alloc: Global, bytes: &[u8]) -> Result<Forms, FormError>
 /// How many lists may be open.
 const DEPTH: usize = 200;
 
-// The lists that are open, outermost first, and the forms of the innermost one, or of the text where none is open.
+/// The lists that are open, outermost first, and the forms of the innermost one, or of the text where none is open.
 #[derive(Drop)]
 pub struct OpenLists {
     outer: Vec<Forms>,
@@ -61,7 +61,7 @@ impl OpenLists {
         self.forms.add(form)
     }
 
-    // A `(` at this place.
+    /// A `(` at this place.
     fn open(&mut self, at: usize) -> Result<(), FormError>
         ensures { Steps result at (stack_of self.new) (step_outside ByteKind.Opening 40 at (stack_of self.old)) }
     {
@@ -73,7 +73,7 @@ impl OpenLists {
         Ok(())
     }
 
-    // A `)` at this place.
+    /// A `)` at this place.
     fn close(&mut self, at: usize) -> Result<(), FormError>
         ensures { Steps result at (stack_of self.new) (step_outside ByteKind.Closing 41 at (stack_of self.old)) }
     {
@@ -87,7 +87,7 @@ impl OpenLists {
         }
     }
 
-    // The end of the text, at its length.
+    /// The end of the text, at its length.
     fn finish(self, at: usize) -> Result<Forms, FormError>
         ensures { Gives result (ended at (stack_of self).lists (stack_of self).forms) }
     {
@@ -99,7 +99,7 @@ impl OpenLists {
     }
 }
 
-// The end of the word that goes on at this place.
+/// The end of the word that goes on at this place.
 fn word_end(bytes: &[u8], start: usize) -> usize
     requires { start ≤ length bytes.now }
     ensures least { start ≤ result }
@@ -115,7 +115,7 @@ fn word_end(bytes: &[u8], start: usize) -> usize
     bytes.len()
 }
 
-// The end of the comment that goes on at this place.
+/// The end of the comment that goes on at this place.
 fn line_end(bytes: &[u8], start: usize) -> usize
     requires { start ≤ length bytes.now }
     ensures least { start ≤ result }
@@ -131,7 +131,7 @@ fn line_end(bytes: &[u8], start: usize) -> usize
     bytes.len()
 }
 
-// The end of the bytes in quotes that stand for themselves.
+/// The end of the bytes in quotes that stand for themselves.
 fn plain_end(bytes: &[u8], start: usize) -> usize
     requires { start ≤ length bytes.now }
     ensures least { start ≤ result }
@@ -147,7 +147,7 @@ fn plain_end(bytes: &[u8], start: usize) -> usize
     bytes.len()
 }
 
-// What a backslash and the byte at this place mean.
+/// What a backslash and the byte at this place mean.
 fn read_pair(bytes: &[u8], at: usize) -> Result<u8, FormError>
     requires { at ≤ length bytes.now }
     ensures ok { IfOk result (IsPairRest bytes.now at) }
@@ -162,7 +162,7 @@ fn read_pair(bytes: &[u8], at: usize) -> Result<u8, FormError>
     }
 }
 
-// What stands at this place in quotes, where no byte stands for itself: a pair, or `None` for the closing quote.
+/// What stands at this place in quotes, where no byte stands for itself: a pair, or `None` for the closing quote.
 fn read_mark(bytes: &[u8], at: usize) -> Result<Option<u8>, FormError>
     requires within { at ≤ length bytes.now }
     requires mark { EndsPlain (drop at bytes.now) }
@@ -186,7 +186,7 @@ fn read_mark(bytes: &[u8], at: usize) -> Result<Option<u8>, FormError>
     Err(FormError::BadText { at: at as u64 })
 }
 
-// Adds the bytes at this place that stand for themselves, and gives the place after them.
+/// Adds the bytes at this place that stand for themselves, and gives the place after them.
 fn put_plain(text: &mut Vec<u8>, bytes: &[u8], at: usize) -> Result<usize, AllocError>
     requires { at ≤ length bytes.now }
     ensures bounds { IfOk result (λ end. (at ≤ end) × (end ≤ length bytes.now)) }
@@ -199,7 +199,7 @@ fn put_plain(text: &mut Vec<u8>, bytes: &[u8], at: usize) -> Result<usize, Alloc
     Ok(end)
 }
 
-// The text whose first byte in quotes is at this place, and the place after its closing quote.
+/// The text whose first byte in quotes is at this place, and the place after its closing quote.
 fn read_text(alloc: Global, bytes: &[u8], start: usize) -> Result<(Text, usize), FormError>
     requires { start ≤ length bytes.now }
     ensures ok { IfOk result (λ r. IsText bytes.now start r.1 r.0) }
@@ -220,7 +220,7 @@ fn read_text(alloc: Global, bytes: &[u8], start: usize) -> Result<(Text, usize),
     }
 }
 
-// The word that begins at this place, and the place after it.
+/// The word that begins at this place, and the place after it.
 fn read_word(alloc: Global, bytes: &[u8], at: usize) -> Result<(Word, usize), AllocError>
     requires within { at < length bytes.now }
     requires begins { kind_of (slice_index bytes.now at) ≡ ByteKind.OfWord }
@@ -231,7 +231,7 @@ fn read_word(alloc: Global, bytes: &[u8], at: usize) -> Result<(Word, usize), Al
     Ok((word, end))
 }
 
-// Takes the token, the comment or the blank at this place, and gives the place after it.
+/// Takes the token, the comment or the blank at this place, and gives the place after it.
 fn read_token(
     alloc: Global,
     held: &mut OpenLists,
@@ -269,7 +269,7 @@ fn read_token(
     }
 }
 
-// All forms of the bytes.
+/// All forms of the bytes.
 fn read_whole(alloc: Global, bytes: &[u8]) -> Result<Forms, FormError>
     ensures { Gives result (read_all bytes.now) }
 {

@@ -127,7 +127,7 @@ impl Text {
     }
 }
 
-// Adds a byte to bytes that others may share.
+/// Adds a byte to bytes that others may share.
 fn put(bytes: &mut Option<Arc<Vec<u8>>>, alloc: Global, byte: u8) -> Result<(), AllocError>
     ensures ok { OnOk result (option_map_or (λ a. a.value.items) bytes.new [] ≡ option_map_or (λ a. a.value.items) bytes.old [] ++ byte ∷ []) }
     ensures err { OnErr result (option_map_or (λ a. a.value.items) bytes.new [] ≡ option_map_or (λ a. a.value.items) bytes.old []) }

@@ -68,7 +68,7 @@ impl States {
         self.change_of(step)
     }
 
-    // The change that leads to the records after the step.
+    /// The change that leads to the records after the step.
     fn change_of(&self, step: &Step) -> Result<Change, AllocError>
         ensures { IfOk result (λ c. changed c self.now.records ≡ records_after step.now self.now.records) }
     {
@@ -81,7 +81,7 @@ impl States {
         }
     }
 
-    // The change of the record of the transactor that makes the step.
+    /// The change of the record of the transactor that makes the step.
     fn own_change(&self, step: &Step) -> Result<Change, AllocError>
         ensures { IfOk result (λ c. changed c self.now.records ≡ noted_of step.now self.now.records (actor step.now)) }
     {
@@ -185,7 +185,7 @@ impl States {
     }
 }
 
-// The records of start transactors before the first step.
+/// The records of start transactors before the first step.
 fn started_records(alloc: Global, starts: &[Start]) -> Result<Vec<StateRecord>, AllocError>
     ensures { IfOk result (λ v. v.items ≡ map (λ s. started s.state) starts.now) }
 {

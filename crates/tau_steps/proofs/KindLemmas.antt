@@ -4,7 +4,7 @@ use Rattle.std.specs.Str.{bytes_eq}
 use Rattle.std.proofs.lemmas.Slice.Eq.{bytes_eq-Decides}
 use Rattle.tau_trace.specs.declared.step.Step.{Step}
 use Rattle.tau_trace.specs.declared.step.Step.TheVariants.{Take}
-use Rattle.tau_trace.specs.StepForms.{kind_word}
+use Rattle.tau_steps.specs.StepForms.{kind_word}
 use Rattle.tau_steps.specs.declared.kinds.Kind.{Kind}
 use Rattle.tau_steps.specs.declared.kinds.Kind.TheVariants as kinds
 use Rattle.tau_steps.specs.declared.kinds.MessageKind.TheVariants as messages

@@ -23,11 +23,11 @@ use Rattle.tau_trace.specs.declared.step.Step.TheVariants.{Take, Drop, Fall, Voi
 use Rattle.tau_trace.specs.Run.{Run, len, step_at}
 use Rattle.tau_trace.specs.Numbering.{born, sent, number_made}
 use Rattle.tau_trace.specs.Known.{IsSound, IsKnown, IsKnownValue, WellFormed}
-use Rattle.tau_trace.specs.StepForms.{who_form, truth_form, value_form, step_form, step_form_at, IsWritten, ValueIsWritten, IsWrittenAt}
+use Rattle.tau_steps.specs.StepForms.{who_form, truth_form, value_form, step_form, step_form_at, IsWritten, ValueIsWritten, IsWrittenAt}
 use Rattle.tau_trace.proofs.Indexing.{born-le, sent-le}
 use Rattle.tau_trace.proofs.Lists.{same_some}
 use Rattle.tau_trace.proofs.Reading.{element}
-use Rattle.tau_trace.proofs.StepFormLemmas.{same_elements}
+use Rattle.tau_steps.proofs.StepFormLemmas.{same_elements}
 use Rattle.tau_steps.specs.declared.kinds.Kind.{Kind}
 use Rattle.tau_steps.specs.declared.kinds.Kind.TheVariants as kinds
 use Rattle.tau_steps.specs.Kinds.{kind_of, kind_in, message_step, alone_step}

@@ -1,3 +1,4 @@
+pub mod StepFormLemmas
 pub mod TellsLemmas
 pub mod RowLemmas
 pub mod KindLemmas

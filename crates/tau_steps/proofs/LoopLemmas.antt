@@ -15,7 +15,7 @@ use Rattle.tau_trace.specs.declared.step.Step.TheVariants.{Take}
 use Rattle.tau_trace.specs.Steps.{is_new, is_send, makes_message}
 use Rattle.tau_trace.specs.Run.{Run, len, step_at, appended}
 use Rattle.tau_trace.specs.Numbering.{born, sent}
-use Rattle.tau_trace.specs.StepForms.{kind_word}
+use Rattle.tau_steps.specs.StepForms.{kind_word}
 use Rattle.tau_trace.proofs.Lists.{same_some, slice_get-push_cases}
 use Rattle.tau_trace.proofs.Counts.{count-same}
 use Rattle.tau_trace.proofs.Agreement.{agree_appended, agree_below, born-same, sent-same}

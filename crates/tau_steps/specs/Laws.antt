@@ -6,7 +6,7 @@ use Rattle.tau_trace.specs.declared.step.Step.{Step}
 use Rattle.tau_trace.specs.Run.{Run, step_at}
 use Rattle.tau_trace.specs.Numbering.{born, sent}
 use Rattle.tau_trace.specs.Known.{WellFormed}
-use Rattle.tau_trace.specs.StepForms.{step_form_at, IsWrittenAt}
+use Rattle.tau_steps.specs.StepForms.{step_form_at, IsWrittenAt}
 use Rattle.tau_steps.specs.Meaning.{MeansStep, MeansSteps}
 
 -- the form that a step of a trace is printed as means this step at its place

@@ -1,3 +1,5 @@
+pub mod StepForms
+pub mod FormLaws
 pub mod Kinds
 pub mod Meaning
 pub mod Faults

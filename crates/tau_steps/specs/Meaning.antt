@@ -13,7 +13,7 @@ use Rattle.tau_trace.specs.declared.step.Step.{Step}
 use Rattle.tau_trace.specs.declared.step.Step.TheVariants.{Take, Drop, Fall, Void, Get, Set, Skip, Send, New, Stabilize, Ask, Checkpoint, Hold, Rollback, Stay, Done, Trap, Fail, Lose}
 use Rattle.tau_trace.specs.Run.{Run, len, step_at}
 use Rattle.tau_trace.specs.Numbering.{born, sent}
-use Rattle.tau_trace.specs.StepForms.{kind_word}
+use Rattle.tau_steps.specs.StepForms.{kind_word}
 
 -- what an item of the form of a step means
 pub data Item : Type 0 where

@@ -1,4 +1,4 @@
-//! The steps of a trace, read from forms (docs/formats.md, "Steps").
+//! The steps of a trace, written as forms and read from them (docs/formats.md, "Steps").
 #![tactic(auto)]
 
 mod errors;
@@ -7,6 +7,8 @@ mod kinds;
 pub mod laws;
 mod reading;
 mod rows;
+mod writing;
 
 pub use errors::StepError;
 pub use reading::steps_of;
+pub use writing::form_of_step;

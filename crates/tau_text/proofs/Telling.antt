@@ -5,11 +5,11 @@ use Rattle.tau_sexpr.proofs.LawLemmas.{once}
 use Rattle.tau_forms.specs.Printed as program_forms
 use Rattle.tau_forms.specs.Meaning.{Means}
 use Rattle.tau_forms.proofs.ReadBackUnique.{one_program}
-use Rattle.tau_trace.proofs.StepFormLemmas.{forms_tell}
+use Rattle.tau_steps.proofs.StepFormLemmas.{forms_tell}
 use Rattle.tau_script.specs.Openings.{program_opening}
 use Rattle.tau_text.specs.RunText.{trace_mark, report_mark}
 use Rattle.tau_text.specs.Laws.{RunTextsTell}
-use Rattle.tau_text.proofs.Marks.{cut_once, program_unmarked, steps_unmarked}
+use Rattle.tau_text.proofs.MarkedForms.{cut_once, program_unmarked, steps_unmarked}
 
 pub texts_tell : RunTextsTell
 texts_tell P Q T U text a b =

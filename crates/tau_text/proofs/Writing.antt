@@ -10,7 +10,7 @@ use Rattle.tau_forms.specs.Printed as program_forms
 use Rattle.tau_forms.specs.Meaning.{Means}
 use Rattle.tau_trace.specs.Run.{Run, len, step_at}
 use Rattle.tau_trace.specs.Numbering.{born, sent, number_made}
-use Rattle.tau_trace.specs.StepForms.{step_form, step_form_at, IsWrittenAt}
+use Rattle.tau_steps.specs.StepForms.{step_form, step_form_at, IsWrittenAt}
 use Rattle.tau_trace.proofs.Sequences.{cases_last}
 use Rattle.tau_trace.proofs.Lists.{slice_get-front, slice_get-last}
 use Rattle.tau_report.specs.Report.{IsReport}

@@ -1,3 +1,9 @@
+pub mod FaultNumbers
+pub mod Errors
+pub mod Parts
+pub mod Meaning
+pub mod Faults
+pub mod InputLaws
 pub mod RunText
 pub mod Laws
 pub mod Inner

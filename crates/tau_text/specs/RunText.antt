@@ -7,7 +7,7 @@ use Rattle.tau_tree.specs.declared.programs.Program.{Program}
 use Rattle.tau_forms.specs.Printed as program_forms
 use Rattle.tau_forms.specs.Meaning.{Means}
 use Rattle.tau_trace.specs.Run.{Run}
-use Rattle.tau_trace.specs.StepForms.{step_form_at, IsWrittenAt}
+use Rattle.tau_steps.specs.StepForms.{step_form_at, IsWrittenAt}
 use Rattle.tau_report.specs.Report.{IsReport}
 
 -- a mark: a list of this one word

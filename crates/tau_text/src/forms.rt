@@ -11,7 +11,8 @@ use std::alloc::{AllocError, Global};
 use tau_forms::forms_of;
 use tau_report::report_forms;
 use tau_sexpr::{Form, Forms, Word, print_forms};
-use tau_trace::{Trace, form_of_step};
+use tau_steps::form_of_step;
+use tau_trace::Trace;
 use tau_tree::Program;
 
 /// The run text of a program and a trace (docs/formats.md, "Run text"), from which both can be read back. It passes over the

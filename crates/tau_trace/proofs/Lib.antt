@@ -14,5 +14,4 @@ pub mod Indexing
 pub mod Once
 pub mod Reading
 pub mod Prefix
-pub mod StepFormLemmas
 pub mod NamePlaces

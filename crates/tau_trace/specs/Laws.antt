@@ -1,6 +1,5 @@
 -- Laws of runs, each the contract of a function of the crate.
 use Rattle.std.specs.Prelude.{◌≡◌, ◌≢◌, ◌⊎◌, ◌↔◌, ℕ, suc, ◌<◌, ◌≤◌, IsTrue, IsFalse, List}
-use Rattle.tau_sexpr.specs.Tree.{word, list, none, more}
 use Rattle.tau_history.specs.Timeline.{interval}
 use Rattle.tau_history.specs.Order.{Precedes}
 use Rattle.tau_history.specs.Fates.{IsClosed, IsFallen, IsStable, IsAhead}
@@ -9,7 +8,6 @@ use Rattle.tau_trace.specs.declared.opening.Opening.{Opening}
 use Rattle.tau_trace.specs.declared.step.Step.{Step}
 use Rattle.tau_trace.specs.Run.{Run, Agree, ActsAt}
 use Rattle.tau_trace.specs.Known.{WellFormed}
-use Rattle.tau_trace.specs.StepForms.{step_form, step_form_at, IsWrittenAt}
 use Rattle.tau_trace.specs.Numbering.{born, sent, IsOrigin, Receives, IsHome, InFlight}
 use Rattle.tau_trace.specs.Histories.{history, IsCounted, Falls, Closes, EndsAt, Ended}
 use Rattle.tau_trace.specs.Points.{point_at, Stabilizes, Leaves, MadeAt, IsOpeningPoint, IsUpTo, IsEarlier}
@@ -70,15 +68,6 @@ StableAtAPoint = (T : Run) (t k : ℕ) → IsTrue (history T t k).stable ↔ Mad
 -- no Stabilize of the whole run is made at a point from which a volatile transactor falls
 abbrev pub VolatileFallsWereNeverStable : Type 0
 VolatileFallsWereNeverStable = (T : Run) (t j k : ℕ) → Falls T t j → IsFalse (history T t j).stable → Stabilizes T t k → ¬ (point_at T t k ≡ point_at T t j)
-
--- runs of one opening whose steps are written as the same forms are the same run
-abbrev pub StepFormsTellRuns : Type 0
-StepFormsTellRuns = (T U : Run) → WellFormed T → WellFormed U → ((k : ℕ) → IsWrittenAt T k) → ((k : ℕ) → IsWrittenAt U k)
-    → T.opening ≡ U.opening → ((k : ℕ) → step_form_at T k ≡ step_form_at U k) → T ≡ U
-
--- no step is written as a list of one word, as the marks of a run text are
-abbrev pub NoStepFormIsAMark : Type 0
-NoStepFormIsAMark = (o : Opening) (made : ℕ) (s : Step) (w : List ℕ) → step_form o made s ≢ list (more (word w) none)
 
 -- a transactor has one node, and a message one receiver
 pub record NumbersAreMadeOnce (T : Run) : Type 0 where

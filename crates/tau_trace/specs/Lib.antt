@@ -13,5 +13,4 @@ pub mod Tracking
 pub mod Living
 pub mod Stored
 pub mod Nodes
-pub mod StepForms
 pub mod Inner

@@ -1,5 +1,5 @@
 //! Laws of runs, each the contract of a function that does nothing.
-ghost use Rattle.tau_trace.specs.Laws.{HistoriesAreCounted, LocalByAgreement, HistoriesLieOnAChain, PointsGrow, PointsDoNotReturn, FatesAreLocal, StableAtAPoint, VolatileFallsWereNeverStable, StepFormsTellRuns, NoStepFormIsAMark, EachNumberIsMadeOnce};
+ghost use Rattle.tau_trace.specs.Laws.{HistoriesAreCounted, LocalByAgreement, HistoriesLieOnAChain, PointsGrow, PointsDoNotReturn, FatesAreLocal, StableAtAPoint, VolatileFallsWereNeverStable, EachNumberIsMadeOnce};
 ghost use Rattle.tau_trace.specs.MessageLaws.{EachMessageHasOneOrigin};
 
 /// Histories are what counting steps gives (docs/rules.md, "Histories", "Steps").
@@ -40,16 +40,6 @@ pub fn stable_at_a_point()
 /// A point from which a volatile transactor falls was never stable, and never will be (docs/rules.md, "Fates").
 pub fn volatile_falls_were_never_stable()
     ensures { VolatileFallsWereNeverStable }
-{}
-
-/// Runs of one opening whose steps are written as the same forms are the same (docs/formats.md, "Steps").
-pub fn step_forms_tell_runs()
-    ensures { StepFormsTellRuns }
-{}
-
-/// No step is written as a mark of a run text (docs/formats.md, "Run text").
-pub fn no_step_form_is_a_mark()
-    ensures { NoStepFormIsAMark }
 {}
 
 /// Each transactor has one node, and each message one receiver (docs/rules.md, "Numbers").

@@ -144,8 +144,9 @@ impl Trace {
         self.steps.get(place as usize)
     }
 
-    /// The number that the Send or the New at a place made, 0 for other steps; `None` from the length on.
-    pub(crate) fn made_at(&self, place: u32) -> Option<u32>
+    /// The number that the step at a place made (docs/rules.md, "Numbers"): a message's for a Send, a transactor's for a New, 0 for
+    /// other steps; `None` from the length on.
+    pub fn made_at(&self, place: u32) -> Option<u32>
         ensures exists { IsSome result ↔ (place < len self.now.run) }
         ensures made { IfSome result (IsMadeAt self.now.run place) }
     {

@@ -240,8 +240,8 @@ fn are_regular(exprs: &Exprs, starts: u32, behaviours: u32) -> bool
     true
 }
 
-// Whether an expression, its parts aside, names starts and behaviours that exist, gives variables names, gives an operation
-// its number of arguments and a seq an item, has two names in a fold, and has a text in bounds.
+/// Whether an expression, its parts aside, names starts and behaviours that exist, gives variables names, gives an operation
+/// its number of arguments and a seq an item, has two names in a fold, and has a text in bounds.
 #[tactic(auto, using(crate::proofs::ExprLemmas::codes))]
 fn keeps_rules(expr: &Expr, starts: u32, behaviours: u32) -> bool
     ensures { IsTrue result ↔ KeepsRules starts behaviours (code_of expr.now) }
@@ -271,7 +271,7 @@ fn keeps_rules(expr: &Expr, starts: u32, behaviours: u32) -> bool
     }
 }
 
-// How many arguments an operation has.
+/// How many arguments an operation has.
 fn arity(prim: Operation) -> usize
     ensures { result ≡ arity_of prim }
 {

@@ -130,7 +130,7 @@ fn is_sound_behaviour(
     is_bound(&behaviour.body, &mut scope)
 }
 
-// Whether a word isn't among the names yet. It is put there.
+/// Whether a word isn't among the names yet. It is put there.
 fn is_new(names: &mut Names, word: &Word) -> Result<bool, AllocError>
     ensures value { IfOk result (λ b. IsTrue b ↔ (Contains names.old word.now → ⊥)) }
     ensures names { OnOk result (names.new ≡ names.old ++ word.now ∷ []) }

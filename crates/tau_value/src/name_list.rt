@@ -162,7 +162,7 @@ impl Names {
     }
 }
 
-// Notes the place of a word that has none.
+/// Notes the place of a word that has none.
 fn note(
     places: &mut IndexMap<Vec<u8>, usize>,
     alloc: Global,

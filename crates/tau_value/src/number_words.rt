@@ -37,7 +37,7 @@ fn count_of_bytes(bytes: &[u8]) -> Option<u64>
     }
 }
 
-// The number that digits mean; `None` where a byte is no digit.
+/// The number that digits mean; `None` where a byte is no digit.
 fn number_of_digits(bytes: &[u8]) -> Option<u64>
     ensures { result ≡ (if all_ascii_digits bytes.now
         then Some (capped (number_after 0 bytes.now))

@@ -57,7 +57,7 @@ fn write_all(alloc: Global, items: &Values, names: &Names) -> Result<Form, Alloc
     Ok(Form::List(forms))
 }
 
-// `(name X)` of a transactor.
+/// `(name X)` of a transactor.
 fn form_of_name(alloc: Global, number: u32, names: &Names) -> Result<Form, AllocError>
     ensures { IfOk result (λ f. tree_of f ≡ written names.now (val.name number)) }
 {

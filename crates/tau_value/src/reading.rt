@@ -35,7 +35,7 @@ pub fn value_of(alloc: Global, form: &Form, names: &Names, bound: u32) -> Result
     read(alloc, form, names, bound, &mut node)
 }
 
-// How the items of a list begin: after the word `list` come items, after the word `name` one form.
+/// How the items of a list begin: after the word `list` come items, after the word `name` one form.
 #[derive(Clone, Copy)]
 enum Head<'f> {
     List(&'f [Form]),
@@ -80,7 +80,7 @@ fn value_of_word(word: &Word) -> Option<Value>
     Some(Value::Int(integer_of(word)?))
 }
 
-// The number that a word means in `(name X)`.
+/// The number that a word means in `(name X)`.
 fn number_of(word: &Word, names: &Names, bound: u32) -> Option<u32>
     requires { length names.now ≤ bound }
     ensures { result ≡ number_named names.now bound word.now }
@@ -95,7 +95,7 @@ fn number_of(word: &Word, names: &Names, bound: u32) -> Option<u32>
     Some(count as u32)
 }
 
-// How large the value is that a form counts as.
+/// How large the value is that a form counts as.
 #[derive(Clone, Copy)]
 struct Extent {
     parts: u64,
@@ -155,7 +155,7 @@ fn extent_of_all(items: &[Form], names: &Names, bound: u32) -> Extent
     Extent { parts, levels }
 }
 
-// The levels of `(name X)`: 1 where X means a number.
+/// The levels of `(name X)`: 1 where X means a number.
 fn levels_of_name(name: &Form, names: &Names, bound: u32) -> u64
     requires { length names.now ≤ bound }
     ensures { result ≡ levels_of (named names.now bound (more (tree_of name.now) none)) }
@@ -169,7 +169,7 @@ fn levels_of_name(name: &Form, names: &Names, bound: u32) -> u64
     }
 }
 
-// Reads a form that is in bounds, whose own node is `node`; after it `node` is the next.
+/// Reads a form that is in bounds, whose own node is `node`; after it `node` is the next.
 #[cycle(read)]
 fn read(
     alloc: Global,
@@ -236,7 +236,7 @@ fn read_word(word: &Word, node: &mut u64) -> Result<Value, ValueError>
     }
 }
 
-// Reads `(name X)`.
+/// Reads `(name X)`.
 fn read_name(name: &Form, names: &Names, bound: u32, node: &mut u64) -> Result<Value, ValueError>
     requires { length names.now ≤ bound }
     ensures { let form = tree.list (more (tree.word name_word) (more (tree_of name.now) none)) in

@@ -86,7 +86,7 @@ pub fn levels(value: &Value) -> u64
     }
 }
 
-// The least number that each name in the value is below.
+/// The least number that each name in the value is below.
 fn names_end(value: &Value) -> u64
     ensures { result ≡ capped (names_end_of (val_of value.now)) }
 {
@@ -244,7 +244,7 @@ impl Values {
     }
 }
 
-// Adds a value to a list that others may share.
+/// Adds a value to a list that others may share.
 fn put(
     items: &mut Option<Arc<Vec<Value>>>,
     alloc: Global,
@@ -287,7 +287,7 @@ fn put_shared(
     }
 }
 
-// Copies of the values, with room for one more.
+/// Copies of the values, with room for one more.
 fn copies(items: &[Value], alloc: Global) -> Result<Vec<Value>, AllocError>
     ensures { IfOk result (λ v. v.items ≡ items.now) }
 {
@@ -298,7 +298,7 @@ fn copies(items: &[Value], alloc: Global) -> Result<Vec<Value>, AllocError>
     Ok(own)
 }
 
-// A list of its own of these values and one more.
+/// A list of its own of these values and one more.
 fn with_one(
     mut items: Vec<Value>,
     alloc: Global,

@@ -45,7 +45,7 @@ impl Seen {
         })
     }
 
-    // Whether the search came to this point of its transactor last.
+    /// Whether the search came to this point of its transactor last.
     fn is_recent(&self, point: Point) -> bool
         ensures { OnTrue result (Contains self.now point) }
     {
@@ -82,7 +82,7 @@ impl Seen {
     }
 }
 
-// Puts the point in its transactor's place, if there is one.
+/// Puts the point in its transactor's place, if there is one.
 fn remember(recent: &mut Vec<Option<Point>>, point: Point)
     ensures { (p : Point) → Contains recent.new.items (Some p) → Contains recent.old.items (Some p) ⊎ (p ≡ point) }
 {

@@ -12,9 +12,9 @@ use Rattle.tau_trace.proofs.Indexing.{len-appended, born-next, sent-next, well_f
 use Rattle.tau_trace.proofs.Sequences.{cases_last}
 use Rattle.tau_trace.proofs.Quiet.{acts, removes_sent}
 use Rattle.tau_trace.proofs.Lists.{same_some}
-use Rattle.tau_heard.specs.Views.{IsViewOf, IsMessageView}
-use Rattle.tau_heard.specs.Laws.{ViewAfterStep}
-use Rattle.tau_heard.proofs.HeardLaws.{views_step_by_step, views_are_local}
+use Rattle.tau_views.specs.Views.{IsViewOf, IsMessageView}
+use Rattle.tau_views.specs.Laws.{ViewAfterStep}
+use Rattle.tau_views.proofs.HeardLaws.{views_step_by_step, views_are_local}
 
 abbrev pub one_if : Bool → ℕ
 one_if b = cond b 1 0

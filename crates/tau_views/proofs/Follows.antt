@@ -12,7 +12,7 @@ use Rattle.tau_trace.specs.Numbering.{born, sent, InFlight}
 use Rattle.tau_trace.specs.Known.{MayFollow, WellFormed}
 use Rattle.tau_trace.proofs.Indexing.{len-appended}
 use Rattle.tau_trace.proofs.Lists.{same_some, slice_get-set_same, slice_get-set_other, slice_get-front, slice_get-last, slice_get-push_cases}
-use Rattle.tau_heard.specs.Views.{IsViewOf, IsMessageView}
+use Rattle.tau_views.specs.Views.{IsViewOf, IsMessageView}
 use Rattle.tau_views.specs.declared.views.ViewChange.{ViewChange}
 use Rattle.tau_views.specs.Kept.{IsTrimmed, AreViews}
 use Rattle.tau_views.specs.Changes.{with_item, with_last, without_item, with_letter, own_after, letters_after}

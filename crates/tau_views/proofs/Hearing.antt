@@ -16,13 +16,13 @@ use Rattle.tau_trace.specs.Known.{MayFollow, WellFormed}
 use Rattle.tau_trace.proofs.Agreement.{agree_appended, history-same}
 use Rattle.tau_trace.proofs.Counted.{history-suc, move_at-own}
 use Rattle.tau_past.specs.Heard.{heard_by}
-use Rattle.tau_heard.specs.Views.{IsViewOf, IsMessageView}
+use Rattle.tau_views.specs.Views.{IsViewOf, IsMessageView}
 use Rattle.tau_views.specs.declared.views.Views.{Views}
 use Rattle.tau_views.specs.declared.views.ViewChange.{ViewChange}
 use Rattle.tau_views.specs.Kept.{AreViews, held_of, letters_of}
 use Rattle.tau_views.specs.Inner.Trims.{IsAfter, IsAfterBoth}
 use Rattle.tau_views.specs.Inner.Next.{IsNext, AreNext}
-use Rattle.tau_heard.proofs.HeardLaws.{views_have_the_own_history}
+use Rattle.tau_views.proofs.HeardLaws.{views_have_the_own_history}
 use Rattle.tau_views.proofs.Trimmed.{same_history}
 use Rattle.tau_views.proofs.Appended.{here, born_then, well_formed_then, message_stays, after_step}
 use Rattle.tau_views.proofs.Next.{own_change, actor_exists, may_move, history_then, next_own}

@@ -16,12 +16,12 @@ use Rattle.tau_trace.specs.Points.{point_at}
 use Rattle.tau_trace.specs.Known.{WellFormed}
 use Rattle.tau_past.specs.Decisions.{Verdict as VerdictAt, Free}
 use Rattle.tau_past.specs.Safety.{KeepsRules}
-use Rattle.tau_judgement.specs.Laws.{judged, AreViewsOf, IsFreedomOf}
-use Rattle.tau_judgement.specs.NamedPoints.{NamesKnownFallen}
+use Rattle.tau_views.specs.DecisionLaws.{judged, AreViewsOf, IsFreedomOf}
+use Rattle.tau_views.specs.NamedPoints.{NamesKnownFallen}
 use Rattle.tau_views.specs.Kept.{AreViews}
 use Rattle.tau_views.specs.Inner.Trims.{IsAfterBoth}
-use Rattle.tau_judgement.proofs.JudgementLaws.{views_are_settled, merged_views_are_settled, verdicts_agree, freedom_agrees}
-use Rattle.tau_judgement.proofs.NamedPoints.{verdicts_name_fallen}
+use Rattle.tau_views.proofs.JudgementLaws.{views_are_settled, merged_views_are_settled, verdicts_agree, freedom_agrees}
+use Rattle.tau_views.proofs.NamedPoints.{verdicts_name_fallen}
 
 module _ (de : EdgeTest) (dr : RootTest) (T : Run) (own : List Held) (letters : List (Option Held)) (views : AreViews de dr T own letters) (w : WellFormed T) (rules : KeepsRules T) (t : ℕ) (h : Held) (exists : t < born T (len T)) (e : slice_get own t ≡ Some h) where
   pub own_settled : Settled h

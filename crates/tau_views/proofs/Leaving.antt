@@ -13,7 +13,7 @@ use Rattle.tau_trace.specs.Run.{Run, len, appended}
 use Rattle.tau_trace.specs.Histories.{history, move_of, move_at}
 use Rattle.tau_trace.proofs.Counted.{move_at-own}
 use Rattle.tau_past.specs.Heard.{heard_by}
-use Rattle.tau_heard.specs.Views.{IsViewOf}
+use Rattle.tau_views.specs.Views.{IsViewOf}
 use Rattle.tau_views.specs.declared.views.Views.{Views}
 use Rattle.tau_views.specs.declared.views.ViewChange.{ViewChange}
 use Rattle.tau_views.specs.Kept.{held_of}

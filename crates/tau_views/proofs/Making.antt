@@ -12,8 +12,8 @@ use Rattle.tau_trace.specs.Steps.{actor, removed_by, is_new, is_send}
 use Rattle.tau_trace.specs.Run.{Run, len, step_at, appended}
 use Rattle.tau_trace.specs.Numbering.{born, sent, IsNew, IsSent}
 use Rattle.tau_trace.proofs.Lists.{same_some}
-use Rattle.tau_heard.specs.Views.{IsViewOf, IsMessageView}
-use Rattle.tau_heard.specs.Laws.{ViewAfterStep, with_newborn}
+use Rattle.tau_views.specs.Views.{IsViewOf, IsMessageView}
+use Rattle.tau_views.specs.Laws.{ViewAfterStep, with_newborn}
 use Rattle.tau_views.specs.declared.views.Views.{Views}
 use Rattle.tau_views.specs.declared.views.ViewChange.{ViewChange}
 use Rattle.tau_views.specs.Kept.{AreViews, held_of, letters_of}

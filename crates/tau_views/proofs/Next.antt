@@ -20,13 +20,13 @@ use Rattle.tau_trace.proofs.Counted.{counted}
 use Rattle.tau_trace.proofs.Lists.{same_some}
 use Rattle.tau_trace.proofs.Quiet.{known_actor}
 use Rattle.tau_trace.specs.Turns.{HasOpenTurn}
-use Rattle.tau_heard.specs.Views.{IsViewOf, IsMessageView}
+use Rattle.tau_views.specs.Views.{IsViewOf, IsMessageView}
 use Rattle.tau_views.specs.declared.views.Views.{Views}
 use Rattle.tau_views.specs.declared.views.ViewChange.{ViewChange}
 use Rattle.tau_views.specs.Kept.{IsTrimmed, AreViews, held_of, letters_of}
 use Rattle.tau_views.specs.Changes.{own_after, letters_after, with_last, with_item, without_item, with_letter}
 use Rattle.tau_views.specs.Inner.Next.{IsNext, AreNext}
-use Rattle.tau_heard.proofs.HeardLaws.{views_have_the_own_history, views_lack_the_unborn, views_are_comparable}
+use Rattle.tau_views.proofs.HeardLaws.{views_have_the_own_history, views_lack_the_unborn, views_are_comparable}
 use Rattle.tau_views.proofs.Trimmed.{same_history, comparable_trimmed}
 use Rattle.tau_views.proofs.Lists.{numbered, map-with_item, map-with_last, map-without_item, map-with_letter}
 use Rattle.tau_views.proofs.Follows.{Follows, views_follow}

@@ -15,7 +15,7 @@ use Rattle.tau_trace.proofs.Counts.{count-zero}
 use Rattle.tau_trace.proofs.Lists.{same_some, slice_get-push_cases}
 use Rattle.tau_views.specs.Kept.{AreViews}
 use Rattle.tau_views.specs.Inner.Opened.{AreStarts, ArePosts}
-use Rattle.tau_heard.proofs.HeardLaws.{starts_open_alone, posts_have_heard_nothing}
+use Rattle.tau_views.proofs.HeardLaws.{starts_open_alone, posts_have_heard_nothing}
 use Rattle.tau_views.proofs.Lists.{element}
 
 -- the run without steps

@@ -15,8 +15,8 @@ use Rattle.tau_trace.specs.Points.{point_at}
 use Rattle.tau_trace.proofs.Agreement.{agree_appended}
 use Rattle.tau_past.specs.Carried.{touches, is_set}
 use Rattle.tau_past.proofs.Agreement.{point-same}
-use Rattle.tau_heard.specs.Views.{IsViewOf}
-use Rattle.tau_heard.specs.Laws.{only_touches}
+use Rattle.tau_views.specs.Views.{IsViewOf}
+use Rattle.tau_views.specs.Laws.{only_touches}
 use Rattle.tau_views.specs.declared.views.Views.{Views}
 use Rattle.tau_views.specs.declared.views.ViewChange.{ViewChange}
 use Rattle.tau_views.specs.Kept.{held_of}

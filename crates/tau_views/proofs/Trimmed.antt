@@ -10,7 +10,7 @@ use Rattle.tau_view.specs.Laws.{MayNote}
 use Rattle.tau_view.proofs.Later.{right_precedes}
 use Rattle.tau_view.proofs.Trimming.{note_ignores_trim, touch_ignores_trim, depend_ignores_trim, merge_ignores_trim, taking_roots_ignores_trim, clearing_roots_ignores_trim}
 use Rattle.tau_past.specs.Carried.{first_point}
-use Rattle.tau_heard.specs.Laws.{with_newborn}
+use Rattle.tau_views.specs.Laws.{with_newborn}
 
 module _ (de : EdgeTest) (dr : RootTest) where
   -- a trimmed view has the histories of the whole one

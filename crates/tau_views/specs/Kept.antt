@@ -12,7 +12,7 @@ use Rattle.tau_trace.specs.Histories.{history}
 use Rattle.tau_trace.specs.Turns.{HasOpenTurn}
 use Rattle.tau_past.specs.Carried.{touches}
 use Rattle.tau_past.specs.Heard.{heard_by}
-use Rattle.tau_heard.specs.Views.{IsViewOf, IsMessageView}
+use Rattle.tau_views.specs.Views.{IsViewOf, IsMessageView}
 
 -- what is held is, trimmed, what was heard
 pub record IsTrimmed (de : EdgeTest) (dr : RootTest) (IsWhole : Held → Type 0) (h : Held) : Type 0 where

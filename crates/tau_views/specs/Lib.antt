@@ -1,3 +1,7 @@
+pub mod DecisionLaws
+pub mod NamedPoints
+pub mod Views
+pub mod Laws
 pub mod Kept
 pub mod Changes
 pub mod Inner

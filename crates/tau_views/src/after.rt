@@ -4,7 +4,7 @@ ghost use Rattle.tau_history.specs.Timeline as timeline;
 ghost use Rattle.tau_view.specs.Held.{AllComparable};
 ghost use Rattle.tau_view.specs.Rules.{noted, touched, depended, merged, with_roots, with_no_roots};
 ghost use Rattle.tau_view.specs.Laws.{MayNote};
-ghost use Rattle.tau_heard.specs.Laws.{with_newborn};
+ghost use Rattle.tau_views.specs.Laws.{with_newborn};
 ghost use Rattle.tau_views.specs.Inner.Trims.{IsAfter, IsAfterBoth};
 
 use std::alloc::{AllocError, Global};

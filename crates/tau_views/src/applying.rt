@@ -37,7 +37,7 @@ impl<V: View + Drop> Views<V> {
     }
 }
 
-// Puts a view in the place of that of the transactor with this number.
+/// Puts a view in the place of that of the transactor with this number.
 fn set_view<V: View + Drop>(views: &mut Vec<V>, view: Option<(u32, V)>)
     ensures capacity { vec_capacity views.new ≡ vec_capacity views.old }
     ensures items { views.new.items ≡ with_item view views.old.items }
@@ -49,7 +49,7 @@ fn set_view<V: View + Drop>(views: &mut Vec<V>, view: Option<(u32, V)>)
     }
 }
 
-// Adds a view, in the room that there is.
+/// Adds a view, in the room that there is.
 fn add_view<V: View + Drop>(views: &mut Vec<V>, view: Option<V>)
     requires { vec_len views.old < vec_capacity views.old }
     ensures { views.new.items ≡ with_last view views.old.items }
@@ -59,7 +59,7 @@ fn add_view<V: View + Drop>(views: &mut Vec<V>, view: Option<V>)
     }
 }
 
-// Takes out the view of the message with this number.
+/// Takes out the view of the message with this number.
 fn take_letter<V: View + Drop>(letters: &mut Vec<Option<V>>, message: Option<u32>)
     ensures capacity { vec_capacity letters.new ≡ vec_capacity letters.old }
     ensures items { letters.new.items ≡ without_item message letters.old.items }
@@ -71,7 +71,7 @@ fn take_letter<V: View + Drop>(letters: &mut Vec<Option<V>>, message: Option<u32
     }
 }
 
-// Adds the view of a message, in the room that there is.
+/// Adds the view of a message, in the room that there is.
 fn add_letter<V: View + Drop>(letters: &mut Vec<Option<V>>, view: Option<V>)
     requires { vec_len letters.old < vec_capacity letters.old }
     ensures { letters.new.items ≡ with_letter view letters.old.items }

@@ -5,8 +5,8 @@ ghost use Rattle.tau_trace.specs.Run.{len};
 ghost use Rattle.tau_trace.specs.Numbering.{born, InFlight};
 ghost use Rattle.tau_past.specs.Decisions.{Verdict as VerdictAt, Free};
 ghost use Rattle.tau_past.specs.Safety.{KeepsRules};
-ghost use Rattle.tau_judgement.specs.Laws.{judged};
-ghost use Rattle.tau_judgement.specs.NamedPoints.{NamesKnownFallen};
+ghost use Rattle.tau_views.specs.DecisionLaws.{judged};
+ghost use Rattle.tau_views.specs.NamedPoints.{NamesKnownFallen};
 ghost use Rattle.tau_views.specs.Kept.{AreViews, held_of, letters_of};
 
 use crate::after::after_merge;

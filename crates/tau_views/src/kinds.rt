@@ -7,7 +7,7 @@ ghost use Rattle.tau_trace.specs.Run.{len};
 ghost use Rattle.tau_trace.specs.Histories as histories;
 ghost use Rattle.tau_past.specs.Carried.{is_set};
 ghost use Rattle.tau_past.specs.Heard.{heard_by};
-ghost use Rattle.tau_heard.specs.Laws.{only_touches};
+ghost use Rattle.tau_views.specs.Laws.{only_touches};
 ghost use Rattle.tau_views.specs.Inner.Next.{IsNext, AreNext, only_ends, falls_if_volatile, only_removes};
 
 use crate::after::{
@@ -20,7 +20,7 @@ use tau_trace::{Step, Trace};
 use tau_view::View;
 
 impl<V: View + Drop> Views<V> {
-    // A Take: the message's facts are merged in, and its roots become the transactor's.
+    /// A Take: the message's facts are merged in, and its roots become the transactor's.
     pub(crate) fn by_take(
         &self,
         trace: &Trace,
@@ -38,7 +38,7 @@ impl<V: View + Drop> Views<V> {
         Ok(ViewChange::own(who, next, Some(message)))
     }
 
-    // A Drop: the message's facts are merged in.
+    /// A Drop: the message's facts are merged in.
     pub(crate) fn by_drop(
         &self,
         trace: &Trace,
@@ -56,7 +56,7 @@ impl<V: View + Drop> Views<V> {
         Ok(ViewChange::own(who, next, Some(message)))
     }
 
-    // A Fall: the message's facts are merged in, and the transactor falls. The message stays in flight.
+    /// A Fall: the message's facts are merged in, and the transactor falls. The message stays in flight.
     pub(crate) fn by_fall(
         &self,
         trace: &Trace,
@@ -77,7 +77,7 @@ impl<V: View + Drop> Views<V> {
         Ok(ViewChange::own(who, next, None))
     }
 
-    // A Void or a Lose: the message is gone, and nobody has heard of it.
+    /// A Void or a Lose: the message is gone, and nobody has heard of it.
     pub(crate) fn by_removal(&self, _trace: &Trace, _step: &Step, message: u32) -> ViewChange<V>
         requires next { IsNext V.drops_edge V.drops_root V.held self.now _trace.now.run _step.now }
         requires kind { IsTrue (only_removes _step.now) }
@@ -92,7 +92,7 @@ impl<V: View + Drop> Views<V> {
         }
     }
 
-    // A Get, a Skip or an Ask: the own point is touched.
+    /// A Get, a Skip or an Ask: the own point is touched.
     pub(crate) fn by_touch(
         &self,
         trace: &Trace,
@@ -109,7 +109,7 @@ impl<V: View + Drop> Views<V> {
         Ok(ViewChange::own(who, next, None))
     }
 
-    // A Set: the own point depends on the roots, and is touched.
+    /// A Set: the own point depends on the roots, and is touched.
     pub(crate) fn by_set(
         &self,
         trace: &Trace,
@@ -126,7 +126,7 @@ impl<V: View + Drop> Views<V> {
         Ok(ViewChange::own(who, next, None))
     }
 
-    // A Stabilize: the history is stable, and the own point is touched.
+    /// A Stabilize: the history is stable, and the own point is touched.
     pub(crate) fn by_stabilize(
         &self,
         trace: &Trace,
@@ -144,7 +144,7 @@ impl<V: View + Drop> Views<V> {
         Ok(ViewChange::own(who, next, None))
     }
 
-    // A Send: the message has heard what its sender had heard.
+    /// A Send: the message has heard what its sender had heard.
     pub(crate) fn by_send(
         &self,
         trace: &Trace,
@@ -165,7 +165,7 @@ impl<V: View + Drop> Views<V> {
         })
     }
 
-    // A New: the new transactor depends on the roots, and has heard what its creator had heard.
+    /// A New: the new transactor depends on the roots, and has heard what its creator had heard.
     pub(crate) fn by_new(
         &self,
         alloc: Global,
@@ -188,7 +188,7 @@ impl<V: View + Drop> Views<V> {
         })
     }
 
-    // A Checkpoint: the interval is closed, and the turn ends.
+    /// A Checkpoint: the interval is closed, and the turn ends.
     pub(crate) fn by_close(
         &self,
         trace: &Trace,
@@ -206,7 +206,7 @@ impl<V: View + Drop> Views<V> {
         Ok(ViewChange::own(who, next, None))
     }
 
-    // A step by which the transactor falls and hears of no message.
+    /// A step by which the transactor falls and hears of no message.
     pub(crate) fn by_leaving(
         &self,
         trace: &Trace,
@@ -226,7 +226,7 @@ impl<V: View + Drop> Views<V> {
         Ok(ViewChange::own(who, next, None))
     }
 
-    // A Trap or a Fail: a volatile transactor falls, and the turn of a stable one ends.
+    /// A Trap or a Fail: a volatile transactor falls, and the turn of a stable one ends.
     pub(crate) fn by_failure(
         &self,
         trace: &Trace,
@@ -245,7 +245,7 @@ impl<V: View + Drop> Views<V> {
         }
     }
 
-    // A step by which the turn ends and the history stays.
+    /// A step by which the turn ends and the history stays.
     pub(crate) fn by_end(
         &self,
         trace: &Trace,

@@ -6,9 +6,15 @@ mod after;
 mod applying;
 mod judging;
 mod kinds;
+mod laws;
 mod opening;
 mod preparing;
 mod reading;
 mod views;
 
+pub use laws::{
+    decisions_agree, falls_and_drops_agree, freedom_agrees, named_points_are_known,
+    posts_have_heard_nothing, starts_open_alone, views_are_comparable, views_are_local,
+    views_are_settled, views_have_the_own_history, views_step_by_step,
+};
 pub use views::{ViewChange, Views};

@@ -26,7 +26,7 @@ impl<V: View + Drop> Views<V> {
     }
 }
 
-// The views of so many starts. More than a u32 counts have no room.
+/// The views of so many starts. More than a u32 counts have no room.
 fn start_views<V: View + Drop>(alloc: Global, starts: usize) -> Result<Vec<V>, AllocError>
     ensures { IfOk result (λ v. AreStarts V.drops_edge V.drops_root (held_of V.held v.items) starts) }
 {
@@ -40,7 +40,7 @@ fn start_views<V: View + Drop>(alloc: Global, starts: usize) -> Result<Vec<V>, A
     Ok(views)
 }
 
-// The view of a start: it has heard of itself alone.
+/// The view of a start: it has heard of itself alone.
 fn start_view<V: View + Drop>(alloc: Global, who: u32) -> Result<V, AllocError>
     ensures { IfOk result (λ v. V.held v ≡ trim V.drops_edge V.drops_root (noted who timeline.opening nothing)) }
 {
@@ -50,7 +50,7 @@ fn start_view<V: View + Drop>(alloc: Global, who: u32) -> Result<V, AllocError>
     Ok(view)
 }
 
-// The views of so many posts. They have heard of nothing.
+/// The views of so many posts. They have heard of nothing.
 fn post_views<V: View + Drop>(alloc: Global, posts: usize) -> Result<Vec<Option<V>>, AllocError>
     ensures { IfOk result (λ v. ArePosts V.drops_edge V.drops_root (letters_of V.held v.items) posts) }
 {

@@ -30,7 +30,7 @@ impl<V: View + Drop> Views<V> {
         self.change_by(alloc, trace, step)
     }
 
-    // The change by the kind of the step.
+    /// The change by the kind of the step.
     fn change_by(
         &self,
         alloc: Global,

@@ -31,7 +31,7 @@ impl<V: View + Drop> Views<V> {
         }
     }
 
-    // The view of a transactor that exists.
+    /// The view of a transactor that exists.
     pub(crate) fn own_view(&self, trace: &Trace, who: u32) -> &V
         requires views { AreViews V.drops_edge V.drops_root trace.now.run (held_of V.held self.now.own.items) (letters_of V.held self.now.letters.items) }
         requires exists { who < born trace.now.run (len trace.now.run) }
@@ -43,7 +43,7 @@ impl<V: View + Drop> Views<V> {
         }
     }
 
-    // The view of a message in flight.
+    /// The view of a message in flight.
     pub(crate) fn letter_view(&self, trace: &Trace, message: u32) -> &V
         requires views { AreViews V.drops_edge V.drops_root trace.now.run (held_of V.held self.now.own.items) (letters_of V.held self.now.letters.items) }
         requires in_flight { InFlight trace.now.run message (len trace.now.run) }
@@ -55,7 +55,7 @@ impl<V: View + Drop> Views<V> {
         }
     }
 
-    // The history of a transactor that exists.
+    /// The history of a transactor that exists.
     pub(crate) fn own_history(&self, trace: &Trace, who: u32) -> &History
         requires views { AreViews V.drops_edge V.drops_root trace.now.run (held_of V.held self.now.own.items) (letters_of V.held self.now.letters.items) }
         requires exists { who < born trace.now.run (len trace.now.run) }
@@ -69,7 +69,7 @@ impl<V: View + Drop> Views<V> {
         }
     }
 
-    // The point of a transactor that exists.
+    /// The point of a transactor that exists.
     pub(crate) fn own_point(&self, trace: &Trace, who: u32) -> Point
         requires views { AreViews V.drops_edge V.drops_root trace.now.run (held_of V.held self.now.own.items) (letters_of V.held self.now.letters.items) }
         requires exists { who < born trace.now.run (len trace.now.run) }

@@ -37,13 +37,14 @@ ones_back t old lent new n at is same parts all =
 pub one_more : (t : Tabled) (xs ys : List (Worker Placed)) (w : Worker Placed) → ys ≡ xs ++ w ∷ [] → All (λ w. HasOne t w.place) xs → HasOne t w.place → All (λ w. HasOne t w.place) ys
 one_more t xs ys w items all one =
     subst (All (λ (v : Worker Placed). HasOne t v.place)) (sym items) (All-append (λ (v : Worker Placed). HasOne t v.place) xs (w ∷ []) all (only one)) where
-  only : HasOne t w.place → All (λ (v : Worker Placed). HasOne t v.place) (w ∷ [])
-  only h zero d l = h
-  only h (suc k) d l = absurd (omega (arith, l))
+      only : HasOne t w.place → All (λ (v : Worker Placed). HasOne t v.place) (w ∷ [])
+      only h zero d l = h
+      only h (suc k) d l = absurd (omega (arith, l))
 
 -- of a list of those that have one, with a last one, the others have one, and so has the last
 pub with_last : (t : Tabled) (xs ys : List (Worker Placed)) (w : Worker Placed) → xs ≡ ys ++ w ∷ [] → All (λ w. HasOne t w.place) xs → All (λ w. HasOne t w.place) ys × HasOne t w.place
 with_last t xs ys w items all =
-    let both : All (λ (v : Worker Placed). HasOne t v.place) (ys ++ w ∷ []) = subst (All (λ (v : Worker Placed). HasOne t v.place)) items all in
-    ( subst (All (λ (v : Worker Placed). HasOne t v.place)) (take_at ys (w ∷ []) (length ys) refl) (All-take (λ (v : Worker Placed). HasOne t v.place) (length ys) (ys ++ w ∷ []) both)
-    , (subst (All (λ (v : Worker Placed). HasOne t v.place)) (drop_at ys (w ∷ []) (length ys) refl) (All-drop (λ (v : Worker Placed). HasOne t v.place) (length ys) (ys ++ w ∷ []) both)) zero w (omega arith) )
+    let both : All (λ (v : Worker Placed). HasOne t v.place) (ys ++ w ∷ []) = subst (All (λ (v : Worker Placed). HasOne t v.place)) items all in (
+      subst (All (λ (v : Worker Placed). HasOne t v.place)) (take_at ys (w ∷ []) (length ys) refl) (All-take (λ (v : Worker Placed). HasOne t v.place) (length ys) (ys ++ w ∷ []) both),
+      (subst (All (λ (v : Worker Placed). HasOne t v.place)) (drop_at ys (w ∷ []) (length ys) refl) (All-drop (λ (v : Worker Placed). HasOne t v.place) (length ys) (ys ++ w ∷ []) both)) zero w (omega arith),
+    )

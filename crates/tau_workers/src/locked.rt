@@ -30,14 +30,14 @@ impl<'p, V: View + Drop + Send> LockedBook<'p, V> {
     }
 }
 
-// The lock, and what is told where the book changes.
+/// The lock, and what is told where the book changes.
 #[derive(Drop)]
 struct Desk<'p, V: View + Drop> {
     shared: Mutex<Shared<'p, V>>,
     changed: Condvar,
 }
 
-// What lies under the lock.
+/// What lies under the lock.
 #[derive(Drop)]
 struct Shared<'p, V: View + Drop> {
     book: Book<'p, V>,
@@ -48,7 +48,7 @@ struct Shared<'p, V: View + Drop> {
 }
 
 impl<'p, V: View + Drop> Desk<'p, V> {
-    // Puts a book under a lock.
+    /// Puts a book under a lock.
     fn new(book: Book<'p, V>) -> Desk<'p, V> {
         Desk {
             shared: Mutex::new(Shared {
@@ -60,7 +60,7 @@ impl<'p, V: View + Drop> Desk<'p, V> {
         }
     }
 
-    // Takes the book out of the lock.
+    /// Takes the book out of the lock.
     fn into_book(self) -> Book<'p, V> {
         let Desk {
             shared,
@@ -69,7 +69,7 @@ impl<'p, V: View + Drop> Desk<'p, V> {
         shared.into_inner().book
     }
 
-    // `next` of the book. Where the book is `Idle`, the worker waits for a change of it and asks again.
+    /// `next` of the book. Where the book is `Idle`, the worker waits for a change of it and asks again.
     fn next<R: Wait>(&self, rt: &R, hand: &mut Hand<'p>) -> Result<Next<'p>, AllocError>
         ensures never_idle { IfOk result IsNotIdle }
         ensures room { IfOk result (LeavesRoom hand.new) }
@@ -97,7 +97,7 @@ impl<'p, V: View + Drop> Desk<'p, V> {
         unreachable!()
     }
 
-    // `act` of the book.
+    /// `act` of the book.
     fn act<R: Wait>(
         &self,
         rt: &R,
@@ -116,7 +116,7 @@ impl<'p, V: View + Drop> Desk<'p, V> {
         Ok(told)
     }
 
-    // `give_back` of the book.
+    /// `give_back` of the book.
     fn give_back<R: Wait>(&self, rt: &R, hand: &mut Hand<'p>)
         ensures empty { hand.new.jobs ≡ [] }
         ensures size { hand.new.size ≡ hand.old.size }
@@ -126,8 +126,8 @@ impl<'p, V: View + Drop> Desk<'p, V> {
         self.wake(&mut shared);
     }
 
-    // Waits for a change of the book. The lock is free only inside the wait, so that no change falls between the look at the book and
-    // the wait.
+    /// Waits for a change of the book. The lock is free only inside the wait, so that no change falls between the look at the book and
+    /// the wait.
     fn wait<'b, R: Wait>(
         &self,
         rt: &R,
@@ -140,8 +140,8 @@ impl<'p, V: View + Drop> Desk<'p, V> {
         shared
     }
 
-    // Wakes a worker that waits, unless one was woken that hasn't asked again yet: that one looks at the book after this change too,
-    // and where it finds something to do, it wakes another.
+    /// Wakes a worker that waits, unless one was woken that hasn't asked again yet: that one looks at the book after this change too,
+    /// and where it finds something to do, it wakes another.
     fn wake(&self, shared: &mut Shared<'p, V>) {
         if shared.waiting > 0 && !shared.is_waking {
             shared.is_waking = true;

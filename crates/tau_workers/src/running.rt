@@ -71,7 +71,7 @@ pub fn run_workers<R: Threads + Wait + Sync, G: Gate + Sync>(
     }
 }
 
-// What was made, where the book is finished.
+/// What was made, where the book is finished.
 fn made(book: Book<'_, PrunedView>) -> Option<Ran>
     ensures well_formed { IfSome result (λ r. WellFormed r.trace.run) }
     ensures legal { IfSome result (λ r. Legal book.entry.system.program r.trace.run) }

@@ -13,7 +13,7 @@ use tau_book::Hand;
 use tau_compact::PrunedView;
 use tau_seat::{BookSeat, SeatBook, SeatPlace};
 
-// Lets workers work on a book, each with one number of the seat, and joins their seats.
+/// Lets workers work on a book, each with one number of the seat, and joins their seats.
 pub fn work<'b, 'p, R: Threads + Wait + Sync, G: Gate + Sync>(
     rt: &R,
     alloc: Global,
@@ -35,7 +35,7 @@ pub fn work<'b, 'p, R: Threads + Wait + Sync, G: Gate + Sync>(
     Ok(join_all(table, workers))
 }
 
-// The workers, by number, before their first step.
+/// The workers, by number, before their first step.
 fn make_workers<'b, 'p>(
     alloc: Global,
     table: &'b SeatBook<'p, PrunedView>,
@@ -63,7 +63,7 @@ fn make_workers<'b, 'p>(
     Ok(workers)
 }
 
-// A worker with a seat before its first step.
+/// A worker with a seat before its first step.
 fn make_worker<'b, 'p>(
     alloc: Global,
     table: &'b SeatBook<'p, PrunedView>,
@@ -86,7 +86,7 @@ fn make_worker<'b, 'p>(
     })
 }
 
-// The hand of a worker before its first step.
+/// The hand of a worker before its first step.
 fn make_hand<'p>(alloc: Global, settings: Settings, number: u32) -> Result<Hand<'p>, AllocError>
     requires jobs { 1 ≤ settings.jobs }
     requires few { settings.jobs ≤ 16 }
@@ -99,7 +99,7 @@ fn make_hand<'p>(alloc: Global, settings: Settings, number: u32) -> Result<Hand<
     )
 }
 
-// The seat of all numbers of the workers' seats, in the workers' order.
+/// The seat of all numbers of the workers' seats, in the workers' order.
 fn join_all<'b, 'p>(
     table: &'b SeatBook<'p, PrunedView>,
     mut workers: Vec<Worker<'p, SeatPlace<'b, 'p, PrunedView>>>,
@@ -118,7 +118,7 @@ fn join_all<'b, 'p>(
     seat
 }
 
-// The seat of a worker, which is given up.
+/// The seat of a worker, which is given up.
 fn seat_of<'b, 'p>(worker: Worker<'p, SeatPlace<'b, 'p, PrunedView>>) -> BookSeat<'p, PrunedView>
     ensures { result ≡ worker.entry.place.seat }
 {

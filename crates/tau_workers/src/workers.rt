@@ -65,7 +65,7 @@ impl<'p, P: StepPlace<'p>> Task for Worker<'p, P> {
 }
 
 impl<'p, P: StepPlace<'p>> Worker<'p, P> {
-    // Works until the book answers `Complete` or `Stopped`, or memory is short. Then it gives its jobs back.
+    /// Works until the book answers `Complete` or `Stopped`, or memory is short. Then it gives its jobs back.
     fn work_on<R: Wait, G: Gate>(&mut self, rt: &R, gate: &G)
         ensures number { self.new.number ≡ self.old.number }
         ensures key { P.key self.new.place ≡ P.key self.old.place }
@@ -84,7 +84,7 @@ impl<'p, P: StepPlace<'p>> Worker<'p, P> {
         unreachable!()
     }
 
-    // Asks for something to do, and does it. `false` where the run has ended. The error is want of memory.
+    /// Asks for something to do, and does it. `false` where the run has ended. The error is want of memory.
     fn ask<R: Wait, G: Gate>(&mut self, rt: &R, gate: &G) -> Result<bool, AllocError>
         ensures number { self.new.number ≡ self.old.number }
         ensures key { P.key self.new.place ≡ P.key self.old.place }
@@ -101,7 +101,7 @@ impl<'p, P: StepPlace<'p>> Worker<'p, P> {
         }
     }
 
-    // Evaluates a job up to its next effect, and brings that. Where memory is short, the hand keeps the job.
+    /// Evaluates a job up to its next effect, and brings that. Where memory is short, the hand keeps the job.
     fn evaluate<R: Wait, G: Gate>(
         &mut self,
         rt: &R,
@@ -126,8 +126,8 @@ impl<'p, P: StepPlace<'p>> Worker<'p, P> {
         }
     }
 
-    // Brings an effect, and brings it again for as long as a step of the script comes first. Where memory is short, the hand keeps the
-    // job that came to it.
+    /// Brings an effect, and brings it again for as long as a step of the script comes first. Where memory is short, the hand keeps the
+    /// job that came to it.
     fn bring<R: Wait>(&mut self, rt: &R, pending: Pending<'p>) -> Result<(), AllocError>
         requires room { length self.old.hand.jobs < self.old.hand.size }
         ensures number { self.new.number ≡ self.old.number }
@@ -148,7 +148,7 @@ impl<'p, P: StepPlace<'p>> Worker<'p, P> {
         unreachable!()
     }
 
-    // Gives the jobs back, and has ended as short of memory.
+    /// Gives the jobs back, and has ended as short of memory.
     fn end_short<R: Wait>(&mut self, rt: &R)
         ensures number { self.new.number ≡ self.old.number }
         ensures key { P.key self.new.place ≡ P.key self.old.place }

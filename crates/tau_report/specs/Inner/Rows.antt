@@ -9,7 +9,7 @@ use Rattle.tau_tree.specs.declared.programs.Program.{Program}
 use Rattle.tau_trace.specs.Run.{Run}
 use Rattle.tau_trace.specs.Known.{WellFormed}
 use Rattle.tau_trace.specs.declared.opening.Opening.{Opening}
-use Rattle.tau_trace.specs.StepForms.{who_form, value_form, IsWritten}
+use Rattle.tau_steps.specs.StepForms.{who_form, value_form, IsWritten}
 use Rattle.tau_states.specs.declared.state_record.StateRecord.{StateRecord}
 use Rattle.tau_report.specs.declared.counts.Counts.{Counts}
 use Rattle.tau_states.specs.Opening.{opening_states}

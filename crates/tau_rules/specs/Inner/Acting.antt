@@ -8,9 +8,9 @@ use Rattle.tau_trace.specs.Run.{Run, len, step_at}
 use Rattle.tau_states.specs.Opening.{opening_states}
 use Rattle.tau_legal.specs.Turns.{Replies}
 use Rattle.tau_legal.specs.Fits.{IsStepOfTurn}
-use Rattle.tau_choice.specs.Choices.{goes_on}
-use Rattle.tau_choice.specs.declared.choices.Choice.{Choice}
-use Rattle.tau_choice.specs.declared.choices.Choice.TheVariants.{GoesOn, Ends}
+use Rattle.tau_legal.specs.Choices.{goes_on}
+use Rattle.tau_legal.specs.declared.choices.Choice.{Choice}
+use Rattle.tau_legal.specs.declared.choices.Choice.TheVariants.{GoesOn, Ends}
 use Rattle.tau_rules.specs.declared.answers.Acted.{Acted}
 use Rattle.tau_rules.specs.declared.answers.Acted.TheVariants.{Reply, TurnOver, Redo}
 use Rattle.tau_rules.specs.System.{Core, with_step}

@@ -3,7 +3,7 @@ use Rattle.tau_view.specs.Held.{Held, AllComparable}
 use Rattle.tau_trace.specs.Run.{Run, len}
 use Rattle.tau_trace.specs.Numbering.{born, sent}
 use Rattle.tau_trace.specs.Known.{WellFormed}
-use Rattle.tau_heard.proofs.HeardLaws.{views_are_comparable}
+use Rattle.tau_views.proofs.HeardLaws.{views_are_comparable}
 use Rattle.tau_views.proofs.Trimmed.{comparable_trimmed}
 use Rattle.show_system.proofs.showing.merged_view.Goals as goal
 

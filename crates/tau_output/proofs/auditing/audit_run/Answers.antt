@@ -1,6 +1,6 @@
 use Rattle.std.proofs.Common.{ap}
 use Rattle.tau_trace.specs.declared.opening.Opening.{Opening}
-use Rattle.tau_input.proofs.AnswerLemmas.{from_no_memory}
+use Rattle.tau_text.proofs.AnswerLemmas.{from_no_memory}
 use Rattle.tau_output.proofs.AuditLemmas.{is_audited}
 use Rattle.tau_output.proofs.auditing.audit_run.Goals as goal
 

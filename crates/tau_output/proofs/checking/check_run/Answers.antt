@@ -1,4 +1,4 @@
-use Rattle.tau_input.proofs.AnswerLemmas.{from_no_memory}
+use Rattle.tau_text.proofs.AnswerLemmas.{from_no_memory}
 use Rattle.tau_output.proofs.CheckLemmas.{is_checked}
 use Rattle.tau_output.proofs.checking.check_run.Goals as goal
 

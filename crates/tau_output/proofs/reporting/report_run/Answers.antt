@@ -1,4 +1,4 @@
-use Rattle.tau_input.proofs.AnswerLemmas.{from_no_memory}
+use Rattle.tau_text.proofs.AnswerLemmas.{from_no_memory}
 use Rattle.tau_output.proofs.reporting.report_run.Goals as goal
 
 pub returns-in_err-report-clause-fault : goal.returns-in_err-report-clause-fault

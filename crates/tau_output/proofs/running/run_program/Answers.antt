@@ -1,4 +1,4 @@
-use Rattle.tau_input.proofs.AnswerLemmas.{from_no_memory}
+use Rattle.tau_text.proofs.AnswerLemmas.{from_no_memory}
 use Rattle.tau_output.proofs.RunLemmas.{runs_serially}
 use Rattle.tau_output.proofs.running.run_program.Goals as goal
 

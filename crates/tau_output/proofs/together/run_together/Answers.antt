@@ -1,4 +1,4 @@
-use Rattle.tau_input.proofs.AnswerLemmas.{from_no_memory}
+use Rattle.tau_text.proofs.AnswerLemmas.{from_no_memory}
 use Rattle.tau_output.proofs.RunLemmas.{runs_as}
 use Rattle.tau_output.proofs.together.run_together.Goals as goal
 

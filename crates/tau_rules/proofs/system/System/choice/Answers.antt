@@ -5,8 +5,8 @@ use Rattle.tau_trace.specs.Run.{Run, len}
 use Rattle.tau_trace.specs.Known.{IsKnownAt}
 use Rattle.tau_eval.specs.Effect.{eff_of}
 use Rattle.tau_legal.specs.Turns.{TurnHas}
-use Rattle.tau_choice.specs.Choices.{IsChoiceOf}
-use Rattle.tau_choice.specs.declared.choices.Choice.{Choice}
+use Rattle.tau_legal.specs.Choices.{IsChoiceOf}
+use Rattle.tau_legal.specs.declared.choices.Choice.{Choice}
 use Rattle.tau_rules.specs.System.{Core}
 use Rattle.tau_rules.specs.Inner.Acting.{step_of}
 use Rattle.tau_rules.proofs.ActLemmasOfJobs.{turn_exists}

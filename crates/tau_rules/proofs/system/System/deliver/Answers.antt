@@ -6,7 +6,7 @@ use Rattle.tau_trace.specs.Numbering.{sent, Receives, InFlight}
 use Rattle.tau_trace.specs.Known.{MayFollow}
 use Rattle.tau_trace.specs.Turns.{IsOpenTurn}
 use Rattle.tau_past.specs.Decisions.{drops, falls, Verdict}
-use Rattle.tau_judgement.specs.Laws.{judged}
+use Rattle.tau_views.specs.DecisionLaws.{judged}
 use Rattle.tau_legal.specs.Fits.{Arrives, ArrivesLate}
 use Rattle.tau_legal.proofs.SafetyLemmas.{keeps_rules}
 use Rattle.tau_legal.proofs.ReceiverLemmas.{receivers_of_fitting}

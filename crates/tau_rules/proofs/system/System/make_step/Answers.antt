@@ -1,7 +1,7 @@
 use Rattle.std.proofs.Common.{subst}
 use Rattle.tau_trace.specs.Run.{len}
 use Rattle.tau_trace.specs.Known.{IsKnownAt}
-use Rattle.tau_choice.specs.declared.choices.Choice.{Choice}
+use Rattle.tau_legal.specs.declared.choices.Choice.{Choice}
 use Rattle.tau_rules.specs.Inner.Acting.{step_of}
 use Rattle.tau_rules.proofs.system.System.make_step.Goals as goal
 

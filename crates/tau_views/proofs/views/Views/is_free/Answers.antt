@@ -1,7 +1,7 @@
 use Rattle.std.proofs.Common.{refl, subst}
 use Rattle.tau_fate.specs.declared.freedom.Freedom.{Freedom}
 use Rattle.tau_trace.specs.Run.{len}
-use Rattle.tau_judgement.specs.Laws.{IsFreedomOf}
+use Rattle.tau_views.specs.DecisionLaws.{IsFreedomOf}
 use Rattle.tau_views.specs.Kept.{held_of, letters_of}
 use Rattle.tau_views.proofs.Judges.{own_settled, freedom_is}
 use Rattle.tau_views.proofs.views.Views.is_free.Goals as goal

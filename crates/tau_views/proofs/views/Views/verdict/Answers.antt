@@ -3,8 +3,8 @@ use Rattle.std.specs.Prelude.{Result, Ok, Err, IfOk}
 use Rattle.tau_fate.specs.Decisions.{IsVerdict}
 use Rattle.tau_past.specs.Decisions.{Verdict}
 use Rattle.tau_trace.specs.Run.{len}
-use Rattle.tau_judgement.specs.Laws.{judged}
-use Rattle.tau_judgement.specs.NamedPoints.{NamesKnownFallen}
+use Rattle.tau_views.specs.DecisionLaws.{judged}
+use Rattle.tau_views.specs.NamedPoints.{NamesKnownFallen}
 use Rattle.tau_views.specs.Kept.{held_of, letters_of}
 use Rattle.tau_views.proofs.Next.{comparable}
 use Rattle.tau_views.proofs.Judges.{merged_settled, verdict_is, point_is}

@@ -1,9 +1,0 @@
-pub mod Facts
-pub mod Unions
-pub mod OwnSteps
-pub mod StepKinds
-pub mod ViewSteps
-pub mod Openings
-pub mod Comparisons
-pub mod Locality
-pub mod HeardLaws

@@ -1,5 +1,0 @@
-use Rattle.tau_heard.proofs.HeardLaws.{starts_open_alone as the_law}
-use Rattle.tau_heard.proofs.laws.starts_open_alone.Goals as goal
-
-pub returns : goal.returns
-returns c = the_law

@@ -1,8 +1,0 @@
-use Rattle.tau_heard.proofs.HeardLaws.{views_are_comparable as comparable, merged_views_are_later as later}
-use Rattle.tau_heard.proofs.laws.views_are_comparable.Goals as goal
-
-pub returns-clause-comparable : goal.returns-clause-comparable
-returns-clause-comparable c = comparable
-
-pub returns-clause-merged : goal.returns-clause-merged
-returns-clause-merged c = later

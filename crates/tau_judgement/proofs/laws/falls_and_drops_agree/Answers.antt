@@ -1,8 +1,0 @@
-use Rattle.tau_judgement.proofs.JudgementLaws.{falls_alike, drops_alike}
-use Rattle.tau_judgement.proofs.laws.falls_and_drops_agree.Goals as goal
-
-pub returns-clause-falls : goal.returns-clause-falls
-returns-clause-falls c = falls_alike
-
-pub returns-clause-drops : goal.returns-clause-drops
-returns-clause-drops c = drops_alike

@@ -1,5 +1,0 @@
-use Rattle.tau_judgement.proofs.JudgementLaws.{free_alike}
-use Rattle.tau_judgement.proofs.laws.freedom_agrees.Goals as goal
-
-pub returns : goal.returns
-returns c = free_alike

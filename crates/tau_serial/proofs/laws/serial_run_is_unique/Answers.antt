@@ -1,5 +1,0 @@
-use Rattle.tau_serial.proofs.OneRun.{one_serial_run}
-use Rattle.tau_serial.proofs.laws.serial_run_is_unique.Goals as goal
-
-pub returns : goal.returns
-returns c = one_serial_run

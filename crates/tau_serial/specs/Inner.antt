@@ -1,2 +1,0 @@
--- What contracts of inner functions say; no clause of a public call rests on these.
-pub mod Working

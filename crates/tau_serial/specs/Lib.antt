@@ -1,3 +1,0 @@
-pub mod SerialRun
-pub mod Laws
-pub mod Inner

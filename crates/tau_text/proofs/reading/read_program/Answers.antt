@@ -1,0 +1,36 @@
+use Rattle.std.proofs.lemmas.Result.{IfOk-weaker}
+use Rattle.tau_forms.specs.Meaning.{Means}
+use Rattle.tau_text.specs.Faults.{ProgramFault, IsProgramFault}
+use Rattle.tau_text.specs.Meaning.{IsProgram}
+use Rattle.tau_text.proofs.AnswerLemmas.{from_bytes, from_forms, none_answered, fault_answered, no_answer}
+use Rattle.tau_text.proofs.FaultLemmas.{program_unique}
+use Rattle.tau_text.proofs.reading.read_program.Goals as goal
+
+pub returns-in_err-forms-clause-fault : goal.returns-in_err-forms-clause-fault
+returns-in_err-forms-clause-fault c =
+    from_bytes ProgramFault c.from_residual.result c.args.bytes.now c.in_err-forms.field-0.0 c.from_residual.ensures.1 c.in_err-forms.ensures.faulty
+
+pub returns-in_err-forms-clause-faulty : goal.returns-in_err-forms-clause-faulty
+returns-in_err-forms-clause-faulty c fault at h =
+    let bytes = c.args.bytes.now in
+    let told = from_bytes ProgramFault c.from_residual.result bytes c.in_err-forms.field-0.0 c.from_residual.ensures.1 c.in_err-forms.ensures.faulty in
+    let none = no_answer (λ r. IsProgram bytes r) _ c.from_residual.result c.from_residual.ensures.1 in
+    fault_answered (IsProgram bytes) (IsProgramFault bytes) (λ p. p) c.from_residual.result (program_unique bytes) none told fault at h
+
+pub returns-clause-read : goal.returns-clause-read
+returns-clause-read c p m =
+    let bytes = c.args.bytes.now in
+    let told = from_forms ProgramFault c.whole_program.result bytes c.in_ok-forms.forms c.in_ok-forms.ensures.spelled c.whole_program.ensures.fault in
+    none_answered (IsProgram bytes) (IsProgramFault bytes) c.whole_program.result (program_unique bytes) told p m
+
+pub returns-clause-fault : goal.returns-clause-fault
+returns-clause-fault c = from_forms ProgramFault c.whole_program.result c.args.bytes.now c.in_ok-forms.forms c.in_ok-forms.ensures.spelled c.whole_program.ensures.fault
+
+pub returns-clause-faulty : goal.returns-clause-faulty
+returns-clause-faulty c fault at h =
+    let bytes = c.args.bytes.now in
+    let forms = c.in_ok-forms.forms in
+    let spelled = c.in_ok-forms.ensures.spelled in
+    let told = from_forms ProgramFault c.whole_program.result bytes forms spelled c.whole_program.ensures.fault in
+    let meant = IfOk-weaker c.whole_program.result (λ r. Means forms r) (λ r. IsProgram bytes r) (λ r m. record { forms = forms; spelled = spelled; means = m }) c.whole_program.ensures.program in
+    fault_answered (IsProgram bytes) (IsProgramFault bytes) (λ p. p) c.whole_program.result (program_unique bytes) meant told fault at h

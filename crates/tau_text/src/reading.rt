@@ -1,0 +1,67 @@
+//! The meaning of an input.
+ghost use Rattle.std.specs.Prelude.{◌≡◌, ◌⊎◌, ℕ, IfOk, IfErr, Err};
+ghost use Rattle.tau_tree.specs.Sound.{Sound};
+ghost use Rattle.tau_tree.specs.declared.programs.Program.{Program};
+ghost use Rattle.tau_trace.specs.Run.{Run};
+ghost use Rattle.tau_script.specs.Openings.{program_opening};
+ghost use Rattle.tau_text.specs.Errors.{TellsInputFault};
+ghost use Rattle.tau_text.specs.Faults.{IsProgramFault, IsRunFault, IsPrintFault};
+ghost use Rattle.tau_text.specs.Meaning.{IsProgram, IsRunInput, IsPrintInput};
+
+use crate::parts::{marked_text, printed_program, whole_program};
+use crate::{InputError, RunText};
+use std::alloc::Global;
+use tau_sexpr::read_forms;
+use tau_tree::Program;
+
+/// The program that all the forms of an input mean (docs/formats.md, "Programs"), as `run` takes it. It is sound.
+/// `Fault` comes exactly where they mean none, with the first of the faults 1 to 9 in the order of docs/formats.md,
+/// "Input faults".
+pub fn read_program(alloc: Global, bytes: &[u8]) -> Result<Program, InputError>
+    ensures program { IfOk result (IsProgram bytes.now) }
+    ensures sound { IfOk result Sound }
+    ensures read { (p : Program) → IsProgram bytes.now p → IfErr result (λ e. e ≡ InputError.NoMemory) }
+
+    ensures fault { IfErr result (TellsInputFault (IsProgramFault bytes.now)) }
+    ensures faulty { (fault at : ℕ) → IsProgramFault bytes.now fault at
+        → (result ≡ Err (InputError.Fault fault at)) ⊎ (result ≡ Err InputError.NoMemory) }
+{
+    let forms = read_forms(alloc, bytes)?;
+    whole_program(alloc, &forms)
+}
+
+/// The program and the trace that the forms of an input mean (docs/formats.md, "Run text"), as `check`, `audit` and `report`
+/// take them: the forms before the first `(trace)` and those behind it, up to the first `(report)` or the end. The program
+/// is sound, and the trace begins as it says.
+/// `Fault` comes exactly where they mean none, with the first of the faults 1 to 9 and 11 to 13 in the order of
+/// docs/formats.md, "Input faults".
+pub fn read_run_text(alloc: Global, bytes: &[u8]) -> Result<RunText, InputError>
+    ensures text { IfOk result (λ r. IsRunInput bytes.now r.program r.trace.run) }
+    ensures sound { IfOk result (λ r. Sound r.program) }
+    ensures opening { IfOk result (λ r. r.trace.run.opening ≡ program_opening r.program) }
+    ensures read { (p : Program) (T : Run) → IsRunInput bytes.now p T → IfErr result (λ e. e ≡ InputError.NoMemory) }
+
+    ensures fault { IfErr result (TellsInputFault (IsRunFault bytes.now)) }
+    ensures faulty { (fault at : ℕ) → IsRunFault bytes.now fault at
+        → (result ≡ Err (InputError.Fault fault at)) ⊎ (result ≡ Err InputError.NoMemory) }
+{
+    let forms = read_forms(alloc, bytes)?;
+    marked_text(alloc, &forms)
+}
+
+/// The program of an input, as `print` takes it: that of all forms where there is no `(trace)`, and otherwise that of a run
+/// text, whose steps are read too (docs/formats.md, "Run text"). It is sound.
+/// `Fault` comes exactly where they mean none, with the first of the faults 1 to 9, 12 and 13 in the order of
+/// docs/formats.md, "Input faults".
+pub fn read_printed(alloc: Global, bytes: &[u8]) -> Result<Program, InputError>
+    ensures program { IfOk result (IsPrintInput bytes.now) }
+    ensures sound { IfOk result Sound }
+    ensures read { (p : Program) → IsPrintInput bytes.now p → IfErr result (λ e. e ≡ InputError.NoMemory) }
+
+    ensures fault { IfErr result (TellsInputFault (IsPrintFault bytes.now)) }
+    ensures faulty { (fault at : ℕ) → IsPrintFault bytes.now fault at
+        → (result ≡ Err (InputError.Fault fault at)) ⊎ (result ≡ Err InputError.NoMemory) }
+{
+    let forms = read_forms(alloc, bytes)?;
+    printed_program(alloc, &forms)
+}

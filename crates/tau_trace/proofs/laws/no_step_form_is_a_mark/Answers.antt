@@ -1,5 +1,0 @@
-use Rattle.tau_trace.proofs.StepFormLemmas.{no_mark}
-use Rattle.tau_trace.proofs.laws.no_step_form_is_a_mark.Goals as goal
-
-pub returns : goal.returns
-returns c = no_mark

@@ -1,5 +1,0 @@
-use Rattle.tau_worked.proofs.ForgedCheckpoint.{forged_broken, forged_unsafe}
-use Rattle.tau_worked.proofs.forged_checkpoint.forged_checkpoint_is_unsafe.Goals as goal
-
-pub returns : goal.returns
-returns c = record { broken = forged_broken; is_unsafe = forged_unsafe }

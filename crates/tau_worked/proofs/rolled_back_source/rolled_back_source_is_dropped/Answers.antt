@@ -1,5 +1,0 @@
-use Rattle.tau_worked.proofs.RolledBackSource.{fall_fits, drop_fits}
-use Rattle.tau_worked.proofs.rolled_back_source.rolled_back_source_is_dropped.Goals as goal
-
-pub returns : goal.returns
-returns c = record { fall = fall_fits; drop = drop_fits }

@@ -1,4 +1,0 @@
-pub mod VolatileSource
-pub mod ForgedCheckpoint
-pub mod Cell
-pub mod RolledBackSource
