@@ -4,8 +4,11 @@
 It has `bin/tau prove` build the program, and prints a table. Each run is repeated, the numbers of workers in turn, and
 the least time is shown, since other work on the machine only adds to it. The aims, on four processors: with heavy turns, of 90,000
 evaluations each, at most 0.55 of the time of one worker by two and 0.35 by four; with small turns at most twice the time of one.
+Then, with the program show_threads, the same programs by workers on seats and by workers on a book under a lock, the two in turn, with
+the aim that seats take at most a tenth more; what a turn of one seat takes, where nobody else waits, with the aim of a microsecond;
+and 1,000 runs by 32 workers on seats, each of which must end.
 
-    bench/workers.py [PROGRAM WORD..]    measures PROGRAM with the words, which is told the number of workers by `--workers W` behind them
+    bench/workers.py [PROGRAM WORD..]    measures PROGRAM alone with the words, which is told the number of workers by `--workers W` behind them
 """
 
 import os
@@ -17,7 +20,10 @@ import time
 import programs
 
 PROGRAM = programs.place("tau")
+THREADS = programs.place("show_threads")
 RUNS = 15
+TURNS = 1_000_000
+ENDING = 1_000
 
 
 def heavy(receivers, turns):
@@ -49,6 +55,43 @@ PROGRAMS = [
 ]
 
 
+def threads_of(text):
+    """Seconds by the clock of show_threads on this input, and the lines that it writes."""
+    began = time.monotonic()
+    done = subprocess.run([THREADS], input=text.encode(), stdout=subprocess.PIPE, check=False)
+    spent = time.monotonic() - began
+    if done.returncode != 0:
+        sys.exit(f"show_threads ended with status {done.returncode}")
+    return spent, done.stdout.decode().splitlines()
+
+
+def show_beside_the_lock():
+    """Prints the times of workers on seats beside those of workers on a book under a lock."""
+    print(f"\n{'program':44} {'workers':>7} {'seats':>8} {'lock':>8} {'share':>7} {'aim':>5}")
+    for name, text, aims in PROGRAMS:
+        for workers in aims:
+            rounds = [[threads_of(f"# {way} {workers}\n{text}")[0] for way in ("seats", "lock")] for _ in range(RUNS)]
+            seats, lock = (min(each[way] for each in rounds) for way in (0, 1))
+            print(f"{name:44} {workers:7} {seats:8.3f} {lock:8.3f} {seats / lock:7.2f}  1.10", flush=True)
+
+
+def show_turns():
+    """Prints what a turn of one seat takes."""
+    idle = "(nodes 1)\n(behaviour a unit)\n(start a a 0 0)\n"
+    times = {turns: min(threads_of(f"# turns {turns}\n{idle}")[0] for _ in range(RUNS)) for turns in (1, TURNS)}
+    each = (times[TURNS] - times[1]) / TURNS * 1e6
+    print(f"\na turn of one seat, of {TURNS:,}: {each:.3f} microseconds, aim 1", flush=True)
+
+
+def show_endings():
+    """Prints how many of the runs by 32 workers ended with a legal and complete trace."""
+    text = "# seats" + " 32" * ENDING + "\n" + small(16, 5, 2)
+    spent, lines = threads_of(text)
+    well = lines.count("32 workers: ended, legal, complete: true, told so: true")
+    print(f"\nruns by 32 workers: {well} of {ENDING} ended, legal and complete, in {spent:.1f} s", flush=True)
+    return 0 if well == ENDING else 1
+
+
 def seconds_of(command, path, workers):
     """Seconds by the clock of one run."""
     with open(path, "rb") as source:
@@ -63,7 +106,7 @@ def seconds_of(command, path, workers):
 def main():
     command = sys.argv[1:] or [PROGRAM, "run", "--steps", "4000"]
     if not sys.argv[1:]:
-        programs.prove()
+        programs.prove("show_threads")
     print(f"{'program':44} {'workers':>7} {'seconds':>8} {'of one':>7} {'aim':>5}")
     with tempfile.TemporaryDirectory() as folder:
         for name, text, aims in PROGRAMS:
@@ -76,6 +119,11 @@ def main():
             for workers in numbers:
                 aim = f"{aims[workers]:5.2f}" if workers in aims else ""
                 print(f"{name:44} {workers:7} {least[workers]:8.3f} {least[workers] / least[1]:7.2f} {aim}", flush=True)
+    if sys.argv[1:]:
+        return 0
+    show_beside_the_lock()
+    show_turns()
+    return show_endings()
 
 
 if __name__ == "__main__":

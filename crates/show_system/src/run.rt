@@ -7,16 +7,14 @@ use std::alloc::{AllocError, Global};
 use tau_eval::{Job, begin};
 use tau_rules::{ActError, Acted, DeliverError, Delivered, FailError, LoseError, System};
 use tau_tree::Program;
-use tau_value::Value;
-
-/// How many steps a run may have.
-const MOST: u32 = 1_000_000;
+use tau_value::{STEP_LIMIT, Value};
+use tau_views::Views;
 
 /// A system, and the jobs that it handed out.
 #[derive(Drop)]
 pub(crate) struct Run<'p, V: Shown> {
     pub(crate) alloc: Global,
-    pub(crate) system: System<'p, V>,
+    pub(crate) system: System<'p, Views<V>>,
     jobs: Vec<Job<'p>>,
 }
 
@@ -74,7 +72,7 @@ impl<'p, V: Shown> Run<'p, V> {
 
     /// Delivers a message. The job of the turn that begins is kept.
     fn deliver(&mut self, message: u32) -> Result<Answer, AllocError> {
-        if message >= self.system.trace().sent() || self.system.trace().len() >= MOST {
+        if message >= self.system.trace().sent() || self.system.trace().len() >= STEP_LIMIT {
             return Ok(Answer::Nothing);
         }
         match self.system.deliver(message) {
@@ -104,7 +102,7 @@ impl<'p, V: Shown> Run<'p, V> {
             Ok(pending) => pending,
             Err((_job, failed)) => return Err(failed),
         };
-        if self.system.trace().len() >= MOST {
+        if self.system.trace().len() >= STEP_LIMIT {
             return Ok(Answer::Nothing);
         }
         match self.system.act(&pending) {
@@ -124,7 +122,7 @@ impl<'p, V: Shown> Run<'p, V> {
 
     /// Lets a transactor fail.
     fn fail(&mut self, who: u32) -> Result<Answer, AllocError> {
-        if who >= self.system.trace().born() || self.system.trace().len() >= MOST {
+        if who >= self.system.trace().born() || self.system.trace().len() >= STEP_LIMIT {
             return Ok(Answer::Nothing);
         }
         match self.system.fail(who) {
@@ -136,7 +134,7 @@ impl<'p, V: Shown> Run<'p, V> {
 
     /// Loses a message.
     fn lose(&mut self, message: u32) -> Result<Answer, AllocError> {
-        if message >= self.system.trace().sent() || self.system.trace().len() >= MOST {
+        if message >= self.system.trace().sent() || self.system.trace().len() >= STEP_LIMIT {
             return Ok(Answer::Nothing);
         }
         match self.system.lose(message) {

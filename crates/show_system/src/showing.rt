@@ -15,6 +15,7 @@ use tau_steps::form_of_step;
 use tau_trace::Trace;
 use tau_value::Value;
 use tau_view::{FullView, View};
+use tau_views::Views;
 
 /// A view whose edges can be shown.
 pub(crate) trait Shown: View + Drop {
@@ -153,7 +154,7 @@ fn add_view<V: Shown>(text: &mut String, born: u32, view: &V) -> Result<(), Allo
 }
 
 /// The own point of a transactor.
-fn own_point<V: Shown>(system: &System<'_, V>, who: u32) -> Option<Point> {
+fn own_point<V: Shown>(system: &System<'_, Views<V>>, who: u32) -> Option<Point> {
     let history = system.history_of(who)?;
     Some(Point {
         who,
@@ -166,7 +167,7 @@ fn own_point<V: Shown>(system: &System<'_, V>, who: u32) -> Option<Point> {
 fn add_freedom<V: Shown>(
     alloc: Global,
     text: &mut String,
-    system: &System<'_, V>,
+    system: &System<'_, Views<V>>,
     who: u32,
 ) -> Result<(), AllocError> {
     let (Some(view), Some(point)) = (system.view_of(who), own_point(system, who)) else {
@@ -186,7 +187,7 @@ fn add_freedom<V: Shown>(
 fn add_verdict<V: Shown>(
     alloc: Global,
     text: &mut String,
-    system: &System<'_, V>,
+    system: &System<'_, Views<V>>,
     message: u32,
 ) -> Result<(), AllocError> {
     let Some(who) = system.trace().target(message) else {
@@ -210,7 +211,7 @@ fn add_verdict<V: Shown>(
 
 /// The view of a transactor with the facts of a message in flight.
 fn merged_view<V: Shown>(
-    system: &System<'_, V>,
+    system: &System<'_, Views<V>>,
     who: u32,
     message: u32,
 ) -> Result<Option<V>, AllocError> {

@@ -1,5 +1,6 @@
 //! Runs by workers on a book under a lock.
 ghost use Rattle.std.specs.Prelude.{◌≤◌};
+ghost use Rattle.tau_value.specs.declared.limits.TheConstants.{STEP_LIMIT};
 ghost use Rattle.tau_tree.specs.Sound.{Sound};
 
 use std::alloc::{AllocError, Global};
@@ -8,6 +9,7 @@ use std::thread::Threads;
 use tau_book::{Book, Hand};
 use tau_compact::PrunedView;
 use tau_tree::Program;
+use tau_views::Views;
 use tau_workers::{LockedBook, OpenGate, Settings, Worker, run};
 
 /// Runs the program by workers on a book under a lock, and adds that the run ended, and whether it is complete.
@@ -21,9 +23,9 @@ pub fn add_locked<R: Threads + Wait + Sync>(
     requires sound { Sound program.now }
     requires jobs { 1 ≤ settings.jobs }
     requires few { settings.jobs ≤ 16 }
-    requires limit { settings.limit ≤ 1000000 }
+    requires limit { settings.limit ≤ STEP_LIMIT }
 {
-    let book: Book<'_, PrunedView> = Book::open(alloc, program, settings.limit)?;
+    let book: Book<'_, Views<PrunedView>> = Book::open(alloc, program, settings.limit)?;
     let locked = LockedBook::new(book);
     work(rt, alloc, &locked, settings)?;
     let is_complete = locked.into_book().finished() == Some(true);
@@ -38,7 +40,7 @@ pub fn add_locked<R: Threads + Wait + Sync>(
 fn work<'p, R: Threads + Wait + Sync>(
     rt: &R,
     alloc: Global,
-    locked: &LockedBook<'p, PrunedView>,
+    locked: &LockedBook<'p, Views<PrunedView>>,
     settings: Settings,
 ) -> Result<(), AllocError>
     requires jobs { 1 ≤ settings.jobs }
@@ -52,9 +54,9 @@ fn work<'p, R: Threads + Wait + Sync>(
 /// The workers before their first step.
 fn make_workers<'b, 'p>(
     alloc: Global,
-    locked: &'b LockedBook<'p, PrunedView>,
+    locked: &'b LockedBook<'p, Views<PrunedView>>,
     settings: Settings,
-) -> Result<Vec<Worker<'p, &'b LockedBook<'p, PrunedView>>>, AllocError>
+) -> Result<Vec<Worker<'p, &'b LockedBook<'p, Views<PrunedView>>>>, AllocError>
     requires jobs { 1 ≤ settings.jobs }
     requires few { settings.jobs ≤ 16 }
 {

@@ -1,85 +1,108 @@
-//! Runs of one program by 2, 4 and 32 workers. Sixteen transactors in a ring hand on numbers, each one less than before, until they are
-//! 0: thousands of messages. For each run it is written that it ended, and whether its trace is legal and complete: once with workers
-//! that have seats at the book, as `run_workers` does it, and once with the book under a lock.
+//! Runs of programs by workers, and turns of a seat. Standard input has sections: a line `# WAY NUMBER..`, then a program. For each
+//! number a line tells what came of it. With `seats` so many workers run the program on seats, as `run_workers` does it: whether the
+//! run ended, and whether its trace is legal and complete. With `lock` they run it on a book under a lock; with `both` on seats, then
+//! under a lock. With `turns` one seat takes so many turns.
 #![tactic(auto)]
 
 ghost use Rattle.std.specs.Prelude.{◌≤◌, IfOk, IfSome};
+ghost use Rattle.tau_value.specs.declared.limits.TheConstants.{STEP_LIMIT};
 ghost use Rattle.tau_tree.specs.Sound.{Sound};
 
 mod locked;
+mod turns;
 
 use crate::locked::add_locked;
+use crate::turns::add_turns;
 use std::alloc::{AllocError, Global};
 use std::process::ExitCode;
 use std::sync::Wait;
 use std::thread::Threads;
 use tau_check::{Legality, check};
 use tau_forms::program_of;
+use tau_io::{StdSink, StdSource, read_all, write_all_of};
 use tau_sexpr::read_forms;
 use tau_tree::Program;
-use tau_workers::{OpenGate, Ran, Settings, run_workers};
-
-/// How many transactors there are, how many messages are posted to each, and the number that is posted.
-const RING: u32 = 16;
-
-const POSTS: u32 = 5;
-
-const NUMBER: u32 = 25;
-
-/// By how many workers the program is run.
-const WORKERS: [u32; 3] = [2, 4, 32];
+use tau_value::STEP_LIMIT;
+use tau_workers::{OpenGate, Settings, run_workers};
 
 fn main(rt: HostRuntime) -> ExitCode {
-    let Ok(text) = text_of(&rt, rt.alloc()) else {
+    let alloc = rt.alloc();
+    let mut input = StdSource::new(rt.stdin());
+    let mut output = StdSink::new(rt.stdout());
+    let Ok(bytes) = read_all(alloc, &mut input, 16_777_216) else {
+        return ExitCode::from(5);
+    };
+    let Ok(text) = text_of(&rt, alloc, str::from_utf8(&bytes).unwrap_or("")) else {
         return ExitCode::from(7);
     };
-    match print!(rt; "{text}") {
+    match write_all_of(&mut output, text.as_bytes()) {
         Ok(()) => ExitCode::from(0),
         Err(_) => ExitCode::from(6),
     }
 }
 
-/// The text for all runs.
-fn text_of<R: Threads + Wait + Sync>(rt: &R, alloc: Global) -> Result<String, AllocError> {
+/// The text for all sections.
+fn text_of<R: Threads + Wait + Sync>(
+    rt: &R,
+    alloc: Global,
+    input: &str,
+) -> Result<String, AllocError> {
     let mut text = String::new(alloc);
-    let spelled = ring(alloc)?;
-    let Some(program) = program_from(alloc, spelled.as_bytes()) else {
-        text.push_str("no program\n")?;
-        return Ok(text);
-    };
-    for workers in &WORKERS {
-        let settings = Settings {
-            workers: *workers,
-            jobs: 1,
-            seed: 0,
-            limit: 1_000_000,
-        };
-        add_run(rt, alloc, &mut text, &program, settings)?;
-        add_locked(rt, alloc, &mut text, &program, settings)?;
+    for section in input.split("# ").skip(1) {
+        add_section(rt, alloc, &mut text, section)?;
     }
     Ok(text)
 }
 
-/// The text of the program.
-fn ring(alloc: Global) -> Result<String, AllocError> {
-    let mut text = String::new(alloc);
-    text.push_str("(nodes 1)\n")?;
-    for number in 0..RING {
-        let next = (number + 1) % RING;
-        writeln!(
-            text,
-            "(behaviour b{number} (seq (set msg) (if (= msg 0) unit (send (name t{next}) (- msg 1)))))"
-        )?;
-    }
-    for number in 0..RING {
-        writeln!(text, "(start t{number} b{number} 0 0)")?;
-    }
-    for number in 0..RING {
-        for _ in 0..POSTS {
-            writeln!(text, "(post t{number} {NUMBER})")?;
+/// Adds what came of the numbers of a section.
+fn add_section<R: Threads + Wait + Sync>(
+    rt: &R,
+    alloc: Global,
+    text: &mut String,
+    section: &str,
+) -> Result<(), AllocError> {
+    let (line, spelled) = section.split_once("\n").unwrap_or((section, ""));
+    let (way, numbers) = line.split_once(" ").unwrap_or((line, ""));
+    let Some(program) = program_from(alloc, spelled.as_bytes()) else {
+        return text.push_str("no program\n");
+    };
+    for word in numbers.split_whitespace() {
+        match word.parse() {
+            Ok(number) if number > 0 => add_number(rt, alloc, text, &program, way, number)?,
+            _ => text.push_str("no number\n")?,
         }
     }
-    Ok(text)
+    Ok(())
+}
+
+/// Adds what came of a number, which isn't 0.
+fn add_number<R: Threads + Wait + Sync>(
+    rt: &R,
+    alloc: Global,
+    text: &mut String,
+    program: &Program,
+    way: &str,
+    number: u32,
+) -> Result<(), AllocError>
+    requires sound { Sound program.now }
+    requires some { 1 ≤ number }
+{
+    let settings = Settings {
+        workers: number,
+        jobs: 1,
+        seed: 0,
+        limit: STEP_LIMIT,
+    };
+    match way {
+        "seats" => add_run(rt, alloc, text, program, settings),
+        "lock" => add_locked(rt, alloc, text, program, settings),
+        "both" => {
+            add_run(rt, alloc, text, program, settings)?;
+            add_locked(rt, alloc, text, program, settings)
+        }
+        "turns" => add_turns(rt, alloc, text, program, number),
+        _ => text.push_str("no way\n"),
+    }
 }
 
 /// The program that bytes spell.
@@ -107,7 +130,7 @@ fn add_run<R: Threads + Wait + Sync>(
     requires some { 1 ≤ settings.workers }
     requires jobs { 1 ≤ settings.jobs }
     requires few { settings.jobs ≤ 16 }
-    requires limit { settings.limit ≤ 1000000 }
+    requires limit { settings.limit ≤ STEP_LIMIT }
 {
     let ran = run_workers(rt, alloc, program, settings, &OpenGate)?;
     let workers = settings.workers;

@@ -1,6 +1,7 @@
 -- What contracts see of a book, and what it keeps.
 use Rattle.std.specs.Prelude.{◌≡◌, ◌≢◌, ◌<◌, ◌≤◌, ℕ, List, length}
 use Rattle.std.specs.List.{AllPairs}
+use Rattle.tau_value.specs.declared.limits.TheConstants.{STEP_LIMIT}
 use Rattle.tau_mailbox.specs.declared.letter.Letter.{Letter}
 use Rattle.tau_trace.specs.declared.step.Step.{Step}
 use Rattle.tau_trace.specs.Run.{len}
@@ -38,13 +39,13 @@ pub record IsBook (b : Booked) : Type 0 where
   pub letters_are : AreInFlight b.system.run b.letters
   pub cursor_is : CursorAt b.system.program.script b.system.run (len b.system.run) b.cursor
   pub limited : len b.system.run ≤ b.limit
-  pub few : b.limit ≤ 1000000
+  pub few : b.limit ≤ STEP_LIMIT
   pub one_each : AreOfDifferentTurns b.store
 
 -- what a book keeps beside that of its system: the limits, jobs of different turns, and a place for a job of each open turn
 pub record IsKept (s : ScriptedRun) (limit : ℕ) (store : List TurnSoFar) (places : ℕ) : Type 0 where
   pub limited : len s.system.run ≤ limit
-  pub few : limit ≤ 1000000
+  pub few : limit ≤ STEP_LIMIT
   pub one_each : AreOfDifferentTurns store
   pub room : length s.turns ≤ places
 

@@ -1,5 +1,6 @@
 //! The book.
 ghost use Rattle.std.specs.Prelude.{◌≡◌, ◌<◌, ◌≤◌, ◌↔◌, [], IsTrue, IsFalse, IfOk, IfErr, OnErr, length};
+ghost use Rattle.tau_value.specs.declared.limits.TheConstants.{STEP_LIMIT};
 ghost use Rattle.tau_tree.specs.Sound.{Sound};
 ghost use Rattle.tau_script.specs.Openings.{program_opening};
 ghost use Rattle.tau_trace.specs.Run.{len};
@@ -17,23 +18,23 @@ use crate::{Hand, Next, Told};
 use std::alloc::{AllocError, Global};
 use std::marker::Model;
 use tau_eval::{Job, Pending};
+use tau_knowledge::Knowledge;
 use tau_rules::{ActError, Acted, System};
 use tau_scripted::Scripted;
 use tau_trace::Trace;
 use tau_tree::Program;
-use tau_view::View;
 
 /// The step book: a legal run of a program to which steps are appended up to a limit, and the jobs that workers have given back, at most
 /// one of each turn (docs/rules.md, "Choice of a worker"). Contracts see the system, the letters of the messages in flight, the
 /// cursor of the script, the limit and the returned jobs.
 #[derive(Drop)]
-pub struct Book<'p, V: View + Drop> {
-    pub(crate) scripted: Scripted<'p, V>,
+pub struct Book<'p, K: Knowledge + Drop> {
+    pub(crate) scripted: Scripted<'p, K>,
     pub(crate) limit: u32,
     pub(crate) store: Vec<Job<'p>>,
 }
 
-impl<'p, V: View + Drop> Model for Book<'p, V> {
+impl<'p, K: Knowledge + Drop> Model for Book<'p, K> {
     ghost use Rattle.std.specs.Vec.{vec_capacity};
     ghost use Rattle.std.specs.Coded.{codes};
     ghost use Rattle.tau_value.specs.Val.{val_code};
@@ -50,11 +51,11 @@ impl<'p, V: View + Drop> Model for Book<'p, V> {
     ghost invariant = { λ b. IsKept b.scripted b.limit b.store.items (vec_capacity b.store) };
 }
 
-impl<'p, V: View + Drop> Book<'p, V> {
+impl<'p, K: Knowledge + Drop> Book<'p, K> {
     /// The book of a program before its first step, with a limit of steps. The error is want of memory.
-    pub fn open(alloc: Global, program: &'p Program, limit: u32) -> Result<Book<'p, V>, AllocError>
+    pub fn open(alloc: Global, program: &'p Program, limit: u32) -> Result<Book<'p, K>, AllocError>
         requires sound { Sound program.now }
-        requires limit { limit ≤ 1000000 }
+        requires limit { limit ≤ STEP_LIMIT }
         ensures program { IfOk result (λ b. b.system.program ≡ program.entry.now) }
         ensures run { IfOk result (λ b. b.system.run ≡ record { opening = program_opening program.entry.now; steps = [] }) }
         ensures limit { IfOk result (λ b. b.limit ≡ limit) }
@@ -68,7 +69,7 @@ impl<'p, V: View + Drop> Book<'p, V> {
     }
 
     /// The system: the program and the trace so far, which is legal.
-    pub fn system(&self) -> &System<'p, V>
+    pub fn system(&self) -> &System<'p, K>
         ensures system { result.now ≡ self.now.system }
         ensures book { IsBook self.now }
     {

@@ -1,6 +1,7 @@
 //! The choice of a worker, where the run goes on and no step of the script is due.
 ghost use Rattle.std.specs.Prelude.{◌≡◌, ◌<◌, ◌≤◌, ◌+◌, ◌%◌, ℕ, suc, [], nat_lt, if◌then◌else◌, IfOk, OnOk, OnErr, length};
 ghost use Rattle.std.specs.Vec.{vec_capacity};
+ghost use Rattle.tau_value.specs.declared.limits.TheConstants.{STEP_LIMIT};
 ghost use Rattle.tau_trace.specs.Run.{len};
 ghost use Rattle.tau_script.specs.Scripts.{NoneDue};
 ghost use Rattle.tau_legal.specs.Traces.{Complete};
@@ -16,16 +17,16 @@ use crate::{Hand, Next};
 use rand_pcg::Pcg32;
 use std::alloc::AllocError;
 use tau_eval::Job;
+use tau_knowledge::Knowledge;
 use tau_scripted::Scripted;
-use tau_view::View;
 
 /// Chooses what the hand does next (docs/rules.md, "Choice of a worker"). The error is want of memory, and nothing is different then.
-pub(crate) fn choose<'p, V: View + Drop>(
-    scripted: &mut Scripted<'p, V>,
+pub(crate) fn choose<'p, K: Knowledge + Drop>(
+    scripted: &mut Scripted<'p, K>,
     store: &mut Vec<Job<'p>>,
     hand: &mut Hand<'p>,
 ) -> Result<Next<'p>, AllocError>
-    requires few { len scripted.old.system.run < 1000000 }
+    requires few { len scripted.old.system.run < STEP_LIMIT }
     requires messages { AreDeliverable scripted.old.system.run scripted.old.messages }
     requires none_due { NoneDue scripted.old.system.program.script scripted.old.system.run (len scripted.old.system.run) }
     requires incomplete { ¬ Complete scripted.old.system.program scripted.old.system.run }
@@ -60,8 +61,8 @@ pub(crate) fn choose<'p, V: View + Drop>(
 }
 
 /// How many messages a hand with so many jobs can choose.
-fn count_messages<'p, V: View + Drop>(
-    scripted: &Scripted<'p, V>,
+fn count_messages<'p, K: Knowledge + Drop>(
+    scripted: &Scripted<'p, K>,
     hand: &Hand<'p>,
     jobs: usize,
 ) -> usize
@@ -85,8 +86,8 @@ fn number_of(word: u32, jobs: usize, messages: usize) -> usize
 }
 
 /// There is nothing to choose from. Gives up the jobs of turns that aren't open, and tells how many are.
-fn idle<'p, V: View + Drop>(
-    scripted: &Scripted<'p, V>,
+fn idle<'p, K: Knowledge + Drop>(
+    scripted: &Scripted<'p, K>,
     store: &mut Vec<Job<'p>>,
     hand: &mut Hand<'p>,
 ) -> u32
@@ -106,8 +107,8 @@ fn idle<'p, V: View + Drop>(
 }
 
 /// Hands out the job with a number that a word chose, and has the generator after the word.
-fn hand_out<'p, V: View + Drop>(
-    scripted: &Scripted<'p, V>,
+fn hand_out<'p, K: Knowledge + Drop>(
+    scripted: &Scripted<'p, K>,
     store: &mut Vec<Job<'p>>,
     hand: &mut Hand<'p>,
     number: usize,
@@ -132,14 +133,14 @@ fn hand_out<'p, V: View + Drop>(
 }
 
 /// Delivers the message with a number, where a word chose it, and has the generator after the word.
-fn receive<'p, V: View + Drop>(
-    scripted: &mut Scripted<'p, V>,
+fn receive<'p, K: Knowledge + Drop>(
+    scripted: &mut Scripted<'p, K>,
     store: &mut Vec<Job<'p>>,
     hand: &mut Hand<'p>,
     number: usize,
     generator: Pcg32,
 ) -> Result<(), AllocError>
-    requires few { len scripted.old.system.run < 1000000 }
+    requires few { len scripted.old.system.run < STEP_LIMIT }
     requires turns { AreOpenTurns scripted.old.system.run scripted.old.turns }
     requires messages { AreDeliverable scripted.old.system.run scripted.old.messages }
     requires none_due { NoneDue scripted.old.system.program.script scripted.old.system.run (len scripted.old.system.run) }

@@ -1,55 +1,41 @@
 //! The run of one worker.
 ghost use Rattle.std.specs.Prelude.{◌≡◌, ◌⊎◌, ◌<◌, ◌≤◌, ℕ, suc, IsTrue, IsFalse, IfOk, length};
+ghost use Rattle.tau_value.specs.declared.limits.TheConstants.{STEP_LIMIT};
 ghost use Rattle.tau_tree.specs.Sound.{Sound};
 ghost use Rattle.tau_trace.specs.Run.{len};
-ghost use Rattle.tau_trace.specs.Known.{WellFormed};
-ghost use Rattle.tau_legal.specs.Traces.{Legal, Complete};
+ghost use Rattle.tau_legal.specs.Ends.{EndsAt};
 ghost use Rattle.tau_book.specs.Books.{IsComplete, IsAtLimit};
 ghost use Rattle.tau_book.specs.SerialRun.{IsSerialRun};
 ghost use Rattle.tau_book.specs.Inner.Working.{IsAtWork, HasChosen, Works, WorksOn, IsSameWork};
 
-use crate::{Book, Hand, Next, Told};
+use crate::{Book, Hand, Next, Ran, Told};
 use std::alloc::{AllocError, Global};
 use tau_compact::PrunedView;
 use tau_eval::Job;
-use tau_trace::Trace;
 use tau_tree::Program;
-
-/// What one worker made of a program.
-#[derive(Drop)]
-pub struct Serial {
-    /// The trace: the program's opening, and the steps that were made.
-    pub trace: Trace,
-    /// Whether it is complete (docs/definitions.md, "Complete").
-    pub is_complete: bool,
-}
+use tau_views::Views;
 
 /// The serial run of a program (docs/definitions.md, "Serial run") by one worker with room for 1 to 16 jobs, whose words are those of
 /// `Pcg32` seeded with `seed`, up to `limit` steps. The error is want of memory.
-pub fn run(
+pub fn run_serially(
     alloc: Global,
     program: &Program,
     jobs: u32,
     seed: u64,
     limit: u32,
-) -> Result<Serial, AllocError>
+) -> Result<Ran, AllocError>
     requires sound { Sound program.now }
     requires some { 1 ≤ jobs }
     requires few { jobs ≤ 16 }
-    requires limit { limit ≤ 1000000 }
+    requires limit { limit ≤ STEP_LIMIT }
     ensures serial { IfOk result (λ r. IsSerialRun program.now jobs seed limit r.trace.run) }
-    ensures well_formed { IfOk result (λ r. WellFormed r.trace.run) }
-    ensures legal { IfOk result (λ r. Legal program.now r.trace.run) }
-    ensures complete { IfOk result (λ r. IsTrue r.is_complete
-        → Complete program.now r.trace.run × (len r.trace.run ≤ limit)) }
-    ensures stopped { IfOk result (λ r. IsFalse r.is_complete
-        → (¬ Complete program.now r.trace.run) × (len r.trace.run ≡ limit)) }
+    ensures ends { IfOk result (λ r. EndsAt limit program.now r.trace.run r.is_complete) }
 {
-    let mut book: Book<'_, PrunedView> = Book::open(alloc, program, limit)?;
+    let mut book: Book<'_, Views<PrunedView>> = Book::open(alloc, program, limit)?;
     let mut hand = Hand::new(alloc, seed, jobs)?;
     work(&mut book, &mut hand, limit)?;
     let is_complete = book.finished().unwrap_or(false);
-    Ok(Serial {
+    Ok(Ran {
         trace: book.into_trace(),
         is_complete,
     })
@@ -57,7 +43,7 @@ pub fn run(
 
 /// Makes steps until the run is complete or has as many steps as the limit.
 fn work<'p>(
-    book: &mut Book<'p, PrunedView>,
+    book: &mut Book<'p, Views<PrunedView>>,
     hand: &mut Hand<'p>,
     limit: u32,
 ) -> Result<(), AllocError>
@@ -77,7 +63,7 @@ fn work<'p>(
 }
 
 /// Makes the next step. `false` where there is none to make, since the run is complete or has as many steps as the limit.
-fn step<'p>(book: &mut Book<'p, PrunedView>, hand: &mut Hand<'p>) -> Result<bool, AllocError>
+fn step<'p>(book: &mut Book<'p, Views<PrunedView>>, hand: &mut Hand<'p>) -> Result<bool, AllocError>
     requires { Works book.old hand.old }
     ensures works { IfOk result (λ _. (seed : ℕ) → IsAtWork seed book.old hand.old → IsAtWork seed book.new hand.new) }
     ensures same { IfOk result (λ _. IsSameWork book.old book.new hand.old hand.new) }
@@ -97,7 +83,7 @@ fn step<'p>(book: &mut Book<'p, PrunedView>, hand: &mut Hand<'p>) -> Result<bool
 
 /// Evaluates a job up to its next effect, and makes the step of that.
 fn evaluate<'p>(
-    book: &mut Book<'p, PrunedView>,
+    book: &mut Book<'p, Views<PrunedView>>,
     hand: &mut Hand<'p>,
     job: Job<'p>,
 ) -> Result<(), AllocError>

@@ -27,12 +27,13 @@ use tau_rules::{DeliverError, System};
 use tau_script::{Cursor, passed};
 use tau_trace::Step;
 use tau_tree::Program;
+use tau_views::Views;
 
 /// The system of the steps before a place, the cursor of the script there, and the jobs of the open turns, each at the place
 /// of its transactor.
 #[derive(Drop)]
 pub(crate) struct Checker<'p> {
-    system: System<'p, PrunedView>,
+    system: System<'p, Views<PrunedView>>,
     cursor: Cursor,
     jobs: Vec<Option<Job<'p>>>,
 }

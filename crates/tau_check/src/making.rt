@@ -1,5 +1,6 @@
 //! Steps made by the system, where it can't refuse them.
 ghost use Rattle.std.specs.Prelude.{◌≡◌, ◌<◌, OnOk, IfOk};
+ghost use Rattle.tau_value.specs.declared.limits.TheConstants.{STEP_LIMIT};
 ghost use Rattle.tau_trace.specs.declared.step.Step.TheVariants as steps;
 ghost use Rattle.tau_trace.specs.Run.{len};
 ghost use Rattle.tau_trace.specs.Numbering.{born, InFlight};
@@ -16,13 +17,14 @@ use tau_eval::Pending;
 use tau_rules::{ActError, Acted, FailError, LoseError, System};
 use tau_trace::Step;
 use tau_value::Value;
+use tau_views::Views;
 
 /// Makes a due step.
 pub(crate) fn make_due<'p>(
-    system: &mut System<'p, PrunedView>,
+    system: &mut System<'p, Views<PrunedView>>,
     due: &Step,
 ) -> Result<(), AllocError>
-    requires few { len system.old.run < 1000000 }
+    requires few { len system.old.run < STEP_LIMIT }
     requires object { HasObject system.old.run (len system.old.run) due.now }
     ensures { OnOk result (system.new ≡ with_step system.old due.now) }
 {
@@ -34,8 +36,8 @@ pub(crate) fn make_due<'p>(
 }
 
 /// Lets a transactor that hasn't ended fail.
-fn make_fail<'p>(system: &mut System<'p, PrunedView>, who: u32) -> Result<(), AllocError>
-    requires few { len system.old.run < 1000000 }
+fn make_fail<'p>(system: &mut System<'p, Views<PrunedView>>, who: u32) -> Result<(), AllocError>
+    requires few { len system.old.run < STEP_LIMIT }
     requires exists { who < born system.old.run (len system.old.run) }
     requires living { IsLiving system.old.run who (len system.old.run) }
     ensures { OnOk result (system.new ≡ with_step system.old (steps.Fail who)) }
@@ -48,8 +50,8 @@ fn make_fail<'p>(system: &mut System<'p, PrunedView>, who: u32) -> Result<(), Al
 }
 
 /// Loses a message in flight.
-fn make_lose<'p>(system: &mut System<'p, PrunedView>, message: u32) -> Result<(), AllocError>
-    requires few { len system.old.run < 1000000 }
+fn make_lose<'p>(system: &mut System<'p, Views<PrunedView>>, message: u32) -> Result<(), AllocError>
+    requires few { len system.old.run < STEP_LIMIT }
     requires in_flight { InFlight system.old.run message (len system.old.run) }
     ensures { OnOk result (system.new ≡ with_step system.old (steps.Lose message)) }
 {
@@ -62,10 +64,10 @@ fn make_lose<'p>(system: &mut System<'p, PrunedView>, message: u32) -> Result<()
 
 /// Makes the step of an open turn, and gives the reply where the turn goes on.
 pub(crate) fn make_step<'p>(
-    system: &mut System<'p, PrunedView>,
+    system: &mut System<'p, Views<PrunedView>>,
     pending: &Pending<'p>,
 ) -> Result<Option<Value>, AllocError>
-    requires few { len system.old.run < 1000000 }
+    requires few { len system.old.run < STEP_LIMIT }
     requires opening { system.old.run.opening ≡ program_opening system.old.program }
     requires is_open { IsOpenJob system.old.program system.old.run pending.now }
     ensures { IfOk result (IsTurnStep system.old system.new pending.now) }

@@ -1,5 +1,3 @@
 -- What contracts of inner functions say; no clause of a public call rests on these.
-pub mod Distances
-pub mod Incoming
-pub mod Searching
-pub mod Turned
+pub mod Hearing
+pub mod Causes

@@ -1,20 +1,6 @@
-//! Shortest chains of links, from the points of one set to those of another (docs/definitions.md, "Chain").
+//! Why a transactor holds, drops or falls: the shortest chain to a cause (docs/definitions.md, "Cause").
 #![tactic(auto)]
 
-mod chain;
-mod chained;
-mod distance;
-mod incoming;
-mod nearest;
-mod places;
-mod points;
-mod searching;
-#[cfg(test)]
-mod tests;
-mod turned;
+mod hearing;
 
-pub use chain::Chain;
-pub use chained::Chained;
-pub use places::Places;
-pub use points::Points;
-pub use searching::shortest;
+pub use hearing::heard_at;

@@ -40,8 +40,9 @@ pub trait Knowledge: Sized {
         ensures ok { IfOk result (λ c. leads self.new c (appended trace.now.run step.now)) }
         ensures kept { knows self.new trace.now.run };
 
-    /// Applies a change. It takes no memory.
+    /// Applies a change that was prepared for what is known now. It takes no memory.
     fn apply(&mut self, change: Self::Change)
+        requires { (T : Run) × leads self.old change T }
         ensures { (T : Run) → leads self.old change T → knows self.new T };
 
     /// What becomes of a message in flight at its receipt by `who` (docs/rules.md, "Verdict"). The error is want of memory.

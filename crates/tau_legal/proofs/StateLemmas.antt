@@ -28,12 +28,12 @@ element [] i l = absurd (omega arith)
 element (x ∷ xs) zero l = (x, refl)
 element (x ∷ xs) (suc i) l = element xs i (omega arith)
 
-prefix_next : (T : Run) (k : ℕ) (s : Step) → step_at T k ≡ Some s → appended (prefix T k) s ≡ prefix T (suc k)
+pub prefix_next : (T : Run) (k : ℕ) (s : Step) → step_at T k ≡ Some s → appended (prefix T k) s ≡ prefix T (suc k)
 prefix_next T k s e =
     let at = get_or_from_slice_get T.steps k s s e in
     ap (run_of T.opening) (ap (λ x. take k T.steps ++ x ∷ []) (sym at) ∙ sym (take-suc T.steps k s (slice_get_within T.steps k s e)))
 
-well_formed_prefix : (T : Run) (k : ℕ) → WellFormed T → k ≤ len T → WellFormed (prefix T k)
+pub well_formed_prefix : (T : Run) (k : ℕ) → WellFormed T → k ≤ len T → WellFormed (prefix T k)
 well_formed_prefix T k w l = record {
   opening = w.opening;
   known = known;

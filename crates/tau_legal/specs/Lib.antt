@@ -6,6 +6,7 @@ pub mod Choices
 pub mod Turns
 pub mod Fits
 pub mod Traces
+pub mod Ends
 pub mod Laws
 pub mod RuleLaws
 pub mod Receivers

@@ -8,12 +8,12 @@ use Rattle.tau_logs.specs.Versions.{IsLatest}
 use Rattle.tau_logs.specs.Laws.{LatestIsUnique, LatestOfTheGreaterPlace, LatestStaysLatest}
 
 -- at a later place the latest version isn't an earlier one
-grows : (vs : List Version) (a b i j : ℕ) (v w : Version) → a ≤ b → IsLatest vs a i v → IsLatest vs b j w → i ≤ j
-grows vs a b i j v w le x y = grind (arith, y.none_later i v, x.stands, x.begun, le)
+pub latest_grows : (vs : List Version) (a b i j : ℕ) (v w : Version) → a ≤ b → IsLatest vs a i v → IsLatest vs b j w → i ≤ j
+latest_grows vs a b i j v w le x y = grind (arith, y.none_later i v, x.stands, x.begun, le)
 
 pub latest_is_unique : LatestIsUnique
 latest_is_unique vs a i j v w x y =
-    let same : i ≡ j = omega (arith, grows vs a a i j v w (omega arith) x y, grows vs a a j i w v (omega arith) y x) in
+    let same : i ≡ j = omega (arith, latest_grows vs a a i j v w (omega arith) x y, latest_grows vs a a j i w v (omega arith) y x) in
     (same, same_some (sym x.stands ∙ ap (slice_get vs) same ∙ y.stands))
 
 pub latest_of_the_greater_place : LatestOfTheGreaterPlace
@@ -24,12 +24,12 @@ latest_of_the_greater_place vs a b i j k v w x p q r = ⊎_elim first second (ar
   first : a ≤ b → k ≡ max i j
   first le =
       let at : IsLatest vs b k x = let F : ℕ → Type 0 = λ n. IsLatest vs n k x in subst F (omega arith) r in
-      omega (arith, grows vs a b i j v w le p q, grows vs b b j k w x (omega arith) q at, grows vs b b k j x w (omega arith) at q)
+      omega (arith, latest_grows vs a b i j v w le p q, latest_grows vs b b j k w x (omega arith) q at, latest_grows vs b b k j x w (omega arith) at q)
 
   second : b ≤ a → k ≡ max i j
   second le =
       let at : IsLatest vs a k x = let F : ℕ → Type 0 = λ n. IsLatest vs n k x in subst F (omega arith) r in
-      omega (arith, grows vs b a j i w v le q p, grows vs a a i k v x (omega arith) p at, grows vs a a k i x v (omega arith) at p)
+      omega (arith, latest_grows vs b a j i w v le q p, latest_grows vs a a i k v x (omega arith) p at, latest_grows vs a a k i x v (omega arith) at p)
 
 pub latest_stays_latest : LatestStaysLatest
 latest_stays_latest vs a i v w later x = record {

@@ -1,3 +1,4 @@
+pub mod ByNumber
 pub mod Known
 pub mod Latest
 pub mod Newborns

@@ -5,8 +5,8 @@ use Rattle.tau_trace.specs.Run.{Run, Does}
 use Rattle.tau_trace.specs.Points.{point_at, Leaves}
 use Rattle.tau_trace.specs.Numbering.{IsNew}
 use Rattle.tau_trace.specs.Known.{WellFormed}
-use Rattle.tau_past.specs.Carried.{Pending, TakesBy, is_set}
-use Rattle.tau_past.specs.Heard.{Own, Heard}
+use Rattle.tau_past.specs.Carried.{Pending, SentWith, TakesBy, is_set}
+use Rattle.tau_past.specs.Heard.{Own, Heard, HeardBy}
 use Rattle.tau_past.specs.Pasts.{ClosesAt}
 use Rattle.tau_logs.specs.declared.version.Version.{Version}
 use Rattle.tau_logs.specs.Versions.{IsLatest}
@@ -50,6 +50,11 @@ ReachedPointsHaveTakenNothing = (T : Run) (u n : ℕ) → WellFormed T → Leave
 pub record TellsPending (T : Run) (u n : ℕ) (roots : List Point) : Type 0 where
   pub pending : (q : Point) → Contains roots q → Pending T u n q
   pub covers : (q : Point) → Pending T u n q → Covered T (Heard T u n) roots n q
+
+-- the roots of message m are carried by it, and cover at place n all that is
+pub record TellsSent (T : Run) (m n : ℕ) (roots : List Point) : Type 0 where
+  pub sent : (q : Point) → Contains roots q → SentWith T m q
+  pub covers : (q : Point) → SentWith T m q → Covered T (HeardBy T m) roots n q
 
 -- by a Set u's point takes each other root
 abbrev pub SetsTakeTheRoots : Type 0

@@ -1,5 +1,5 @@
 //! The log of a transactor.
-ghost use Rattle.std.specs.Prelude.{◌≡◌, ◌+◌, ◌<◌, ◌≤◌, ◌^◌, ℕ, suc, [], ◌∷◌, ◌++◌, length, slice_get, Some, IfOk, OnOk, OnErr};
+ghost use Rattle.std.specs.Prelude.{◌≡◌, ◌+◌, ◌-◌, ◌<◌, ◌≤◌, ◌^◌, ℕ, suc, [], ◌∷◌, ◌++◌, length, take, drop, slice_get, Some, false, IfOk, OnOk, OnErr};
 ghost use Rattle.std.specs.Vec.{vec_capacity};
 ghost use Rattle.tau_history.specs.Timeline.{Timeline, numbers};
 ghost use Rattle.tau_history.specs.Closed.{IsFront};
@@ -8,6 +8,7 @@ ghost use Rattle.tau_trace.specs.Run.{Run, ActsAt, starts};
 ghost use Rattle.tau_trace.specs.Histories.{history};
 ghost use Rattle.tau_logs.specs.Versions.{IsVersionOf, IsLatest};
 ghost use Rattle.tau_logs.specs.Told.{Told, TellsHistories};
+ghost use Rattle.tau_logs.specs.Reading.{number_by, fate_by, fate_told, takes_told};
 
 use crate::version::Version;
 use std::alloc::{AllocError, Global};
@@ -44,6 +45,7 @@ impl Model for Log {
 impl Log {
     /// The log of a start transactor.
     pub fn opening(alloc: Global) -> Result<Log, AllocError>
+        ensures versions { IfOk result (λ l. l.versions ≡ record { interval = 1; incarnation = 0; stable = false; first = 0; last = 0; from = 0 } ∷ []) }
         ensures takes { IfOk result (λ l. l.takes ≡ []) }
         ensures tells { IfOk result (λ l. (T : Run) (u : ℕ) → u < starts T → TellsHistories T u 0 l) }
     {
@@ -62,6 +64,7 @@ impl Log {
     /// The log of a transactor that was created by the step before place `n`, with what its first point takes.
     pub fn newborn(alloc: Global, takes: &[Point]) -> Result<Log, AllocError>
         requires few { length takes.now < 2 ^ 32 }
+        ensures versions { IfOk result (λ l. l.versions ≡ record { interval = 0; incarnation = 0; stable = false; first = 0; last = length takes.now; from = 0 } ∷ []) }
         ensures takes { IfOk result (λ l. l.takes ≡ takes.now) }
         ensures tells { IfOk result (λ l. (T : Run) (u n : ℕ) → starts T ≤ u → ((j : ℕ) → j < n → ¬ ActsAt T u j) → TellsHistories T u n l) }
     {
@@ -104,6 +107,13 @@ impl Log {
         self.versions.len()
     }
 
+    /// How many takes there are.
+    pub fn takes_len(&self) -> usize
+        ensures { result ≡ length self.now.takes }
+    {
+        self.takes.len()
+    }
+
     /// A version by its number.
     pub fn version(&self, number: usize) -> Option<Version>
         ensures { result ≡ slice_get self.now.versions number }
@@ -111,14 +121,25 @@ impl Log {
         self.versions.get(number).copied()
     }
 
-    /// The fate of a point of this transactor by a version heard of.
+    /// The fate of a point of this transactor by a version heard of; Ahead where there is none with this number.
     pub fn fate(&self, number: usize, interval: u32, incarnation: u32) -> Fate
-        ensures { (T : Run) (u n a : ℕ) (v : Version) → TellsHistories T u n self.now → a ≤ n → IsLatest self.now.versions a number v
+        ensures told { result ≡ fate_told self.now number interval incarnation }
+        ensures right { (T : Run) (u n a : ℕ) (v : Version) → TellsHistories T u n self.now → a ≤ n → IsLatest self.now.versions a number v
             → result ≡ fate (history T u a) interval incarnation }
     {
         match self.version(number) {
             Some(version) => fate_in(&version, &self.closed, interval, incarnation),
             None => Fate::Ahead,
+        }
+    }
+
+    /// What the point of a version has taken; nothing where there is none with this number.
+    pub fn taken(&self, number: usize) -> &[Point]
+        ensures { result.now ≡ takes_told self.now number }
+    {
+        match self.version(number) {
+            Some(version) => range_of(&self.takes, version.first, version.last),
+            None => &[],
         }
     }
 
@@ -172,7 +193,8 @@ impl Log {
 
 /// The incarnation number of an interval by a version: that at which it was closed, or the present one.
 fn number_in(version: &Version, closed: &[u32], interval: u32) -> Option<u32>
-    ensures { (h : Timeline) → IsVersionOf version.now h → IsFront h.closed closed.now → result ≡ slice_get (numbers h) interval }
+    ensures told { result ≡ number_by version.now closed.now interval }
+    ensures right { (h : Timeline) → IsVersionOf version.now h → IsFront h.closed closed.now → result ≡ slice_get (numbers h) interval }
 {
     if interval < version.interval {
         return closed.get(interval as usize).copied();
@@ -185,7 +207,8 @@ fn number_in(version: &Version, closed: &[u32], interval: u32) -> Option<u32>
 
 /// The fate of a point by a version and by the closed incarnations.
 fn fate_in(version: &Version, closed: &[u32], interval: u32, incarnation: u32) -> Fate
-    ensures { (h : Timeline) → IsVersionOf version.now h → IsFront h.closed closed.now → result ≡ fate h interval incarnation }
+    ensures told { result ≡ fate_by version.now closed.now interval incarnation }
+    ensures right { (h : Timeline) → IsVersionOf version.now h → IsFront h.closed closed.now → result ≡ fate h interval incarnation }
 {
     match number_in(version, closed, interval) {
         None => Fate::Ahead,
@@ -195,6 +218,15 @@ fn fate_in(version: &Version, closed: &[u32], interval: u32, incarnation: u32) -
         Some(_) if version.stable => Fate::Stable,
         Some(_) => Fate::Open,
     }
+}
+
+/// The points from one position on and before another, as far as they are there.
+fn range_of(takes: &[Point], first: u32, last: u32) -> &[Point]
+    ensures { result.now ≡ take (last - first) (drop first takes.now) }
+{
+    let end = (last as usize).min(takes.len());
+    let start = (first as usize).min(end);
+    &takes[start..end]
 }
 
 /// Appends points, for which there is room.

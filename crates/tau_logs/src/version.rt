@@ -62,7 +62,7 @@ impl Version {
         requires fits { self.incarnation < 2 ^ 32 - 1 }
         ensures tells { (h : Timeline) → IsVersionOf self h → IsVersionOf result (moved fall h) }
         ensures from { result.from ≡ from }
-        ensures takes { result.first ≡ result.last }
+        ensures takes { (result.first ≡ 0) × (result.last ≡ 0) }
     {
         Version::volatile(self.interval, self.incarnation + 1, from)
     }
@@ -72,7 +72,7 @@ impl Version {
         requires fits { self.interval < 2 ^ 32 - 1 }
         ensures tells { (h : Timeline) → IsVersionOf self h → IsVersionOf result (moved close h) }
         ensures from { result.from ≡ from }
-        ensures takes { result.first ≡ result.last }
+        ensures takes { (result.first ≡ 0) × (result.last ≡ 0) }
     {
         Version::volatile(self.interval + 1, 0, from)
     }

@@ -1,11 +1,10 @@
 -- What `drill` writes for a number.
-use Rattle.std.proofs.Common.{◌≡◌, ℕ, ◌≤◌, Bool, List, [], ◌∷◌, ◌++◌, IsTrue, IsFalse, ap, subst, ◌∙◌}
+use Rattle.std.proofs.Common.{◌≡◌, ℕ, Bool, List, [], ◌∷◌, ◌++◌, ap, subst, ◌∙◌}
 use Rattle.tau_sexpr.specs.Tree.{Tree}
 use Rattle.tau_sexpr.specs.Printing.{printed}
 use Rattle.tau_tree.specs.declared.programs.Program.{Program}
 use Rattle.tau_trace.specs.Run.{Run, len}
-use Rattle.tau_trace.specs.Known.{WellFormed}
-use Rattle.tau_legal.specs.Traces.{Legal, Complete}
+use Rattle.tau_legal.specs.Ends.{EndsAt}
 use Rattle.tau_legal.proofs.TraceLemmas.{legal_safe}
 use Rattle.tau_report.specs.Report.{counts_form}
 use Rattle.tau_book.specs.SerialRun.{IsSerialRun}
@@ -21,16 +20,16 @@ two_lines T n none one two a b count first second e f g =
     added ∙ ap (λ (x : Tree). x ∷ b ∷ []) (first ∙ ap steps_form count) ∙ ap (λ (x : Tree). steps_form (len T) ∷ x ∷ []) second
 
 -- what is written for a number is told of the serial run of its program
-pub drills_as : (number : ℕ) (P : Program) (T : Run) (is_complete : Bool) (text : List ℕ) → P ≡ generated number → IsSerialRun P 1 number 4000 T → WellFormed T → Legal P T → (IsTrue is_complete → Complete P T × (len T ≤ 4000))
-    → (IsFalse is_complete → (¬ Complete P T) × (len T ≡ 4000)) → text ≡ printed (drill_lines T) → DrillsAs number (end_of_run is_complete) text
-drills_as number P T is_complete text same serial well legal complete stopped is_text =
-    let there : Legal (generated number) T = subst (λ (Q : Program). Legal Q T) same legal in
+pub drills_as : (number : ℕ) (P : Program) (T : Run) (is_complete : Bool) (text : List ℕ) → P ≡ generated number → IsSerialRun P 1 number 4000 T → EndsAt 4000 P T is_complete → text ≡ printed (drill_lines T)
+    → DrillsAs number (end_of_run is_complete) text
+drills_as number P T is_complete text same serial ends_at is_text =
+    let there : EndsAt 4000 (generated number) T is_complete = subst (λ (Q : Program). EndsAt 4000 Q T is_complete) same ends_at in
     record {
       run = T;
-      well_formed = well;
+      well_formed = there.well_formed;
       serial = subst (λ (Q : Program). IsSerialRun Q 1 number 4000 T) same serial;
-      legal = there;
-      safe = legal_safe (generated number) T well there;
-      ends = ends 4000 (generated number) T is_complete (subst (λ (Q : Program). IsTrue is_complete → Complete Q T × (len T ≤ 4000)) same complete) (subst (λ (Q : Program). IsFalse is_complete → (¬ Complete Q T) × (len T ≡ 4000)) same stopped);
+      legal = there.legal;
+      safe = legal_safe (generated number) T there.well_formed there.legal;
+      ends = ends 4000 (generated number) T is_complete there;
       is_text = is_text;
     }

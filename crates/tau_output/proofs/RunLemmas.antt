@@ -1,12 +1,12 @@
 -- What `run` writes for a program that it could read, and what its text determines.
-use Rattle.std.proofs.Common.{◌≡◌, inl, inr, ℕ, ◌≤◌, Bool, true, false, List, [], ◌∷◌, IsTrue, IsFalse, All, refl, sym, subst}
+use Rattle.std.proofs.Common.{◌≡◌, inl, inr, ℕ, Bool, true, false, List, [], ◌∷◌, All, refl, sym, subst}
 use Rattle.std.proofs.lemmas.List.Elements.{All-nil, All-cons, All-append}
 use Rattle.tau_sexpr.specs.Tree.{Tree}
 use Rattle.tau_tree.specs.declared.programs.Program.{Program}
 use Rattle.tau_trace.specs.declared.step.Step.TheVariants.{Take, Drop, Fall, Checkpoint, Hold}
-use Rattle.tau_trace.specs.Run.{Run, len}
-use Rattle.tau_trace.specs.Known.{WellFormed}
-use Rattle.tau_legal.specs.Traces.{Legal, Complete}
+use Rattle.tau_trace.specs.Run.{Run}
+use Rattle.tau_legal.specs.Traces.{Legal}
+use Rattle.tau_legal.specs.Ends.{EndsAt}
 use Rattle.tau_legal.proofs.TraceLemmas.{legal_safe}
 use Rattle.tau_report.specs.Report.{SavedForms, none, without, with_one, counts_form, IsReport}
 use Rattle.tau_text.specs.RunText.{IsRunText, IsReadBack}
@@ -46,22 +46,33 @@ report_lines P T forms r =
     subst (All L) (sym r.is) (All-append L r.saved (counts_form T ∷ []) (saved_lines P T _ r.saved r.saved_are) (All-cons L (counts_form T) [] (inl refl) (All-nil L)))
 
 -- how the run ends
-pub ends : (limit : ℕ) (P : Program) (T : Run) (is_complete : Bool) → (IsTrue is_complete → Complete P T × (len T ≤ limit)) → (IsFalse is_complete → (¬ Complete P T) × (len T ≡ limit)) → EndsAs limit P T (end_of_run is_complete)
-ends limit P T true complete stopped = complete refl
-ends limit P T false complete stopped = stopped refl
+pub ends : (limit : ℕ) (P : Program) (T : Run) (is_complete : Bool) → EndsAt limit P T is_complete → EndsAs limit P T (end_of_run is_complete)
+ends limit P T true e = e.complete refl
+ends limit P T false e = e.stopped refl
 
 -- what is written for a program is the text of a legal run
-pub runs_as : (limit : ℕ) (P : Program) (T : Run) (is_complete : Bool) (bytes text : List ℕ) → IsProgram bytes P → WellFormed T → Legal P T → (IsTrue is_complete → Complete P T × (len T ≤ limit))
-    → (IsFalse is_complete → (¬ Complete P T) × (len T ≡ limit)) → IsRunText P T text → IsReadBack P T text → RunsAs limit bytes (end_of_run is_complete) text
-runs_as limit P T is_complete bytes text spelled well legal complete stopped is_text read_back =
-    record { program = P; spelled = spelled; run = T; well_formed = well; is_text = is_text; read_back = read_back; legal = legal; ends = ends limit P T is_complete complete stopped; safe = legal_safe P T well legal; decided = decided P T legal; saved = report_lines P T is_text.are.report is_text.are.report_is }
+pub runs_as : (limit : ℕ) (P : Program) (T : Run) (is_complete : Bool) (bytes text : List ℕ) → IsProgram bytes P → EndsAt limit P T is_complete → IsRunText P T text → IsReadBack P T text
+    → RunsAs limit bytes (end_of_run is_complete) text
+runs_as limit P T is_complete bytes text spelled e is_text read_back = record {
+  program = P;
+  spelled = spelled;
+  run = T;
+  well_formed = e.well_formed;
+  is_text = is_text;
+  read_back = read_back;
+  legal = e.legal;
+  ends = ends limit P T is_complete e;
+  safe = legal_safe P T e.well_formed e.legal;
+  decided = decided P T e.legal;
+  saved = report_lines P T is_text.are.report is_text.are.report_is;
+}
 
 -- and where the run is the serial one
-pub runs_serially : (jobs seed limit : ℕ) (P : Program) (T : Run) (is_complete : Bool) (bytes text : List ℕ) → IsProgram bytes P → IsSerialRun P jobs seed limit T → WellFormed T → Legal P T → (IsTrue is_complete → Complete P T × (len T ≤ limit))
-    → (IsFalse is_complete → (¬ Complete P T) × (len T ≡ limit)) → IsRunText P T text → IsReadBack P T text → RunsBy 1 jobs seed limit bytes (end_of_run is_complete) text
+pub runs_serially : (jobs seed limit : ℕ) (P : Program) (T : Run) (is_complete : Bool) (bytes text : List ℕ) → IsProgram bytes P → IsSerialRun P jobs seed limit T → EndsAt limit P T is_complete
+    → IsRunText P T text → IsReadBack P T text → RunsBy 1 jobs seed limit bytes (end_of_run is_complete) text
 unfolding runs_as
-runs_serially jobs seed limit P T is_complete bytes text spelled serial well legal complete stopped is_text read_back =
-    record { runs = runs_as limit P T is_complete bytes text spelled well legal complete stopped is_text read_back; serial = λ l. serial }
+runs_serially jobs seed limit P T is_complete bytes text spelled serial e is_text read_back =
+    record { runs = runs_as limit P T is_complete bytes text spelled e is_text read_back; serial = λ l. serial }
 
 -- a run ends in one way
 pub ends_once : (limit other : ℕ) (P : Program) (T : Run) (end another : End) → EndsAs limit P T end → EndsAs other P T another → end ≡ another

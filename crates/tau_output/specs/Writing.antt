@@ -1,5 +1,6 @@
 -- What each command writes for the bytes of its input, and how it then ends.
 use Rattle.std.specs.Prelude.{◌≡◌, ℕ, ◌≤◌, IsTrue, List, length}
+use Rattle.tau_value.specs.declared.limits.TheConstants.{STEP_LIMIT}
 use Rattle.tau_command.specs.declared.commands.Command.{Command}
 use Rattle.tau_command.specs.declared.commands.Command.TheVariants.{Run, Check, Audit, Report, Print, Gen, Drill}
 use Rattle.tau_output.specs.declared.outputs.End.{End}
@@ -43,5 +44,5 @@ WritesSerially command bytes end text = Writes (by_one_worker command) bytes end
 
 -- some workers, a number of jobs that a worker can hold, and a limit of steps that a trace can have
 abbrev pub HasLimit : Command → Type 0
-HasLimit (Run workers jobs seed steps) = (1 ≤ workers) × (1 ≤ jobs) × (jobs ≤ 16) × (steps ≤ 1000000)
+HasLimit (Run workers jobs seed steps) = (1 ≤ workers) × (1 ≤ jobs) × (jobs ≤ 16) × (steps ≤ STEP_LIMIT)
 HasLimit command = Unit {0}

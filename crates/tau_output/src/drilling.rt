@@ -5,21 +5,20 @@ ghost use Rattle.tau_sexpr.specs.Tree.{HasWords};
 ghost use Rattle.tau_sexpr.specs.Printing.{printed};
 ghost use Rattle.tau_tree.specs.Sound.{Sound};
 ghost use Rattle.tau_script.specs.Openings.{program_opening};
-ghost use Rattle.tau_report.specs.Report.{counts_form as form_of_run};
 ghost use Rattle.tau_output.specs.Drills.{steps_form as form_of_steps, drill_lines, DrillsAs};
 
 use crate::Output;
 use crate::running::end_of;
 use std::alloc::{AllocError, Global};
 use tau_gen::generate;
-use tau_report::report_forms;
+use tau_report::counts_form;
 use tau_sexpr::{Form, Forms, Word, print_forms};
 use tau_trace::Trace;
 use tau_tree::Program;
 use tau_value::word_of_count;
 
 /// The most steps that a drill does (docs/limits.md).
-const STEP_LIMIT: u32 = 4_000;
+const DRILL_LIMIT: u32 = 4_000;
 
 /// The number of steps and the counts of the serial run of the generated program of a number, by one worker with room for
 /// one job and this number as its seed, with at most 4,000 steps (docs/formats.md, "Drills").
@@ -27,7 +26,7 @@ pub(crate) fn drill_program(alloc: Global, number: u64) -> Result<Output, AllocE
     ensures { IfOk result (λ o. DrillsAs number o.end o.text.items) }
 {
     let program = generate(alloc, number)?;
-    let made = tau_book::run(alloc, &program, 1, number, STEP_LIMIT)?;
+    let made = tau_book::run_serially(alloc, &program, 1, number, DRILL_LIMIT)?;
     Ok(Output {
         text: lines_of(alloc, &program, &made.trace)?,
         end: end_of(made.is_complete),
@@ -56,18 +55,4 @@ fn steps_form(alloc: Global, steps: u32) -> Result<Form, AllocError>
     items.add(Form::Word(Word::of(alloc, b"steps")?))?;
     items.add(Form::Word(word_of_count(alloc, u64::from(steps))?))?;
     Ok(Form::List(items))
-}
-
-/// The counts of a trace, which are the last form of its report.
-fn counts_form(alloc: Global, program: &Program, trace: &Trace) -> Result<Form, AllocError>
-    requires opening { trace.now.run.opening ≡ program_opening program.now }
-    requires sound { Sound program.now }
-    ensures form { IfOk result (λ f. tree_of f ≡ form_of_run trace.now.run) }
-    ensures words { IfOk result (λ f. HasWords (tree_of f)) }
-{
-    let report = report_forms(alloc, program, trace)?;
-    match report.item(report.len() - 1) {
-        Some(counts) => counts.copy(),
-        None => unreachable!(),
-    }
 }

@@ -10,7 +10,7 @@ use crate::drilling::drill_program;
 use crate::generating::generate_program;
 use crate::printing::print_program;
 use crate::reporting::report_run;
-use crate::running::run_program;
+use crate::running::write_serial_run;
 use std::alloc::Global;
 use tau_command::Command;
 use tau_points::Point;
@@ -79,7 +79,7 @@ pub fn output_of(alloc: Global, command: Command, bytes: &[u8]) -> Result<Output
             seed,
             steps,
             ..
-        } => run_program(alloc, bytes, jobs, seed, steps),
+        } => write_serial_run(alloc, bytes, jobs, seed, steps),
         Command::Check => check_run(alloc, bytes),
         Command::Audit => audit_run(alloc, bytes),
         Command::Report => report_run(alloc, bytes),

@@ -1,5 +1,6 @@
 //! The command `run`.
 ghost use Rattle.std.specs.Prelude.{◌≡◌, ◌≤◌, IfOk, IfErr};
+ghost use Rattle.tau_value.specs.declared.limits.TheConstants.{STEP_LIMIT};
 ghost use Rattle.tau_text.specs.Errors.{TellsInputFault};
 ghost use Rattle.tau_text.specs.Faults.{IsProgramFault};
 ghost use Rattle.tau_output.specs.Runs.{RunsBy};
@@ -11,7 +12,7 @@ use tau_text::{InputError, read_program, run_text};
 
 /// The run text of the serial run of the program that the bytes spell, by one worker with room for 1 to 16 jobs and this
 /// seed, with at most so many steps (docs/formats.md, "Run text"; docs/definitions.md, "Serial run").
-pub(crate) fn run_program(
+pub(crate) fn write_serial_run(
     alloc: Global,
     bytes: &[u8],
     jobs: u32,
@@ -20,12 +21,12 @@ pub(crate) fn run_program(
 ) -> Result<Output, InputError>
     requires some { 1 ≤ jobs }
     requires few { jobs ≤ 16 }
-    requires limit { steps ≤ 1000000 }
+    requires limit { steps ≤ STEP_LIMIT }
     ensures output { IfOk result (λ o. RunsBy 1 jobs seed steps bytes.now o.end o.text.items) }
     ensures fault { IfErr result (TellsInputFault (IsProgramFault bytes.now)) }
 {
     let program = read_program(alloc, bytes)?;
-    let made = tau_book::run(alloc, &program, jobs, seed, steps)?;
+    let made = tau_book::run_serially(alloc, &program, jobs, seed, steps)?;
     Ok(Output {
         text: run_text(alloc, &program, &made.trace)?,
         end: end_of(made.is_complete),

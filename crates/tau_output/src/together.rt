@@ -1,5 +1,6 @@
 //! What commands write where `run` starts several workers.
 ghost use Rattle.std.specs.Prelude.{◌≡◌, ◌⊎◌, ℕ, ◌<◌, ◌≤◌, length, IfOk, IfErr, Err};
+ghost use Rattle.tau_value.specs.declared.limits.TheConstants.{STEP_LIMIT};
 ghost use Rattle.tau_text.specs.Errors.{TellsInputFault};
 ghost use Rattle.tau_text.specs.Faults.{IsProgramFault};
 ghost use Rattle.tau_output.specs.Faults.{input_limit, IsInputFault};
@@ -45,14 +46,14 @@ pub fn output_by_workers<R: Threads + Wait + Sync, G: Gate + Sync>(
                 seed,
                 limit: steps,
             };
-            run_together(rt, alloc, bytes, settings, gate)
+            write_workers_run(rt, alloc, bytes, settings, gate)
         }
         _ => output_of(alloc, command, bytes),
     }
 }
 
 /// The run text of the program that the bytes spell and of a run that several workers made.
-fn run_together<R: Threads + Wait + Sync, G: Gate + Sync>(
+fn write_workers_run<R: Threads + Wait + Sync, G: Gate + Sync>(
     rt: &R,
     alloc: Global,
     bytes: &[u8],
@@ -62,7 +63,7 @@ fn run_together<R: Threads + Wait + Sync, G: Gate + Sync>(
     requires some { 1 ≤ settings.workers }
     requires one { 1 ≤ settings.jobs }
     requires few { settings.jobs ≤ 16 }
-    requires limit { settings.limit ≤ 1000000 }
+    requires limit { settings.limit ≤ STEP_LIMIT }
     ensures output { IfOk result (λ o. RunsAs settings.limit bytes.now o.end o.text.items) }
     ensures fault { IfErr result (TellsInputFault (IsProgramFault bytes.now)) }
 {

@@ -3,6 +3,7 @@ use Rattle.std.proofs.Common.{◌≡◌, ◌≢◌, ℕ, suc, ◌^◌, ◌<◌, 
 use Rattle.std.specs.Prelude.{slice_get, codes, ◌||◌, ◌==◌}
 use Rattle.std.proofs.lemmas.List.Elements.{All-nil, All-cons, All-append, All-map}
 use Rattle.tau_sexpr.specs.Tree.{Tree, depths-append, HasWords}
+use Rattle.tau_value.specs.declared.shared.Value.{Value}
 use Rattle.tau_value.specs.Value.{val_of}
 use Rattle.tau_value.specs.Sizes.{IsInBounds}
 use Rattle.tau_value.proofs.WrittenLemmas.{number_nonempty, decimal_filled}
@@ -26,7 +27,7 @@ use Rattle.tau_states.proofs.Reading as reading
 use Rattle.tau_states.proofs.Bounds.{saved_bounded}
 use Rattle.tau_states.proofs.Tables.{one_at_most}
 use Rattle.tau_report.specs.declared.counts.Counts.{Counts}
-use Rattle.tau_report.specs.Report.{HasSaved, IsSavedForm, SavedForms, none, without, with_one, count_of, IsReport}
+use Rattle.tau_report.specs.Report.{HasSaved, IsSavedForm, SavedForms, none, without, with_one, count_of, counts_form, IsReport}
 use Rattle.tau_report.specs.Inner.Rows.{saved_form, is_unlisted, saved_row, IsRowWritten, counts_tree, ArePrintable, AreRows}
 use Rattle.tau_report.specs.Inner.Counted.{IsSurvey}
 use Rattle.tau_report.proofs.Counting.{counts_fit}
@@ -127,6 +128,12 @@ report_is P T o rs records c fs forms tree sound w x opening_is records_are rows
       },
       subst ArePrintable (sym whole) (counts_printable fs c fits.0 fits.1 fits.2 fits.3 fits.4 both.1),
     )
+
+-- and so are the counts alone
+pub counts_told : (T : Run) (opening : List Value) (rs : List StateRecord) (c : Counts) (tree : Tree) → WellFormed T → IsSurvey T opening rs c → tree ≡ counts_tree c → (tree ≡ counts_form T) × HasWords tree
+counts_told T opening rs c tree w x is =
+    let fits = counts_fit T c x.counts_are w.few_steps in
+    (is ∙ ap counts_tree x.counts_are, subst HasWords (sym is) (counts_words c fits.0 fits.1 fits.2 fits.3 fits.4))
 
 pub few_records : (P : Program) (T : Run) (rs records : List StateRecord) (c : Counts) → WellFormed T → IsSurvey T (opening_states P.starts) rs c → records ≡ rs → length records < 2 ^ 32
 few_records P T rs records c w x e = omega (arith, ap length e, x.holds.count, born-le T (len T), w.opening.few_names, w.few_steps)

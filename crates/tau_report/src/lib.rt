@@ -8,4 +8,4 @@ mod saved;
 mod survey;
 mod writing;
 
-pub use writing::{report, report_forms};
+pub use writing::{counts_form, report, report_forms};

@@ -4,7 +4,7 @@ ghost use Rattle.tau_sexpr.specs.Form.{tree_of};
 ghost use Rattle.tau_sexpr.specs.Tree.{depths, HasWords};
 ghost use Rattle.tau_tree.specs.Sound.{Sound};
 ghost use Rattle.tau_script.specs.Openings.{program_opening};
-ghost use Rattle.tau_report.specs.Report.{IsReport, IsReportText};
+ghost use Rattle.tau_report.specs.Report.{counts_form as form_of_run, IsReport, IsReportText};
 ghost use Rattle.tau_report.specs.Inner.Rows.{counts_tree};
 
 use crate::counts::Counts;
@@ -40,6 +40,17 @@ pub fn report_forms(alloc: Global, program: &Program, trace: &Trace) -> Result<F
     let mut forms = saved_forms(alloc, trace.opening(), survey.states.records())?;
     forms.add(form_of_counts(alloc, survey.counts)?)?;
     Ok(forms)
+}
+
+/// The form of the counts of a trace, the last one of its report (docs/formats.md, "Report"). The error is want of memory.
+pub fn counts_form(alloc: Global, program: &Program, trace: &Trace) -> Result<Form, AllocError>
+    requires opening { trace.now.run.opening ≡ program_opening program.now }
+    requires sound { Sound program.now }
+    ensures form { IfOk result (λ f. tree_of f ≡ form_of_run trace.now.run) }
+    ensures words { IfOk result (λ f. HasWords (tree_of f)) }
+{
+    let survey = survey_of(alloc, &program.starts, trace)?;
+    form_of_counts(alloc, survey.counts)
 }
 
 /// The form of the counts.

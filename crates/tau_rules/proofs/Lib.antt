@@ -11,3 +11,4 @@ pub mod ActLemmas
 pub mod ActLemmasOfJobs
 pub mod ActLemmasOfSteps
 pub mod ActLemmasOfAnswers
+pub mod Fronts

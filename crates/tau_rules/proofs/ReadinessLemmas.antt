@@ -22,7 +22,7 @@ use Rattle.tau_past.proofs.Safety.{nothing_at_opening}
 use Rattle.tau_eval.specs.Eff.{Eff}
 use Rattle.tau_legal.specs.Turns.{TurnHas}
 use Rattle.tau_legal.specs.Fits.{Fits}
-use Rattle.tau_views.specs.Kept.{IsReady}
+use Rattle.tau_knowledge.specs.Knowing.{IsReady}
 
 -- where a turn has an effect, a turn is open
 open_turn : (P : Program) (T : Run) (t u k : ℕ) (e : Eff) → t ≡ u → TurnHas P T t k e → HasOpenTurn T u k

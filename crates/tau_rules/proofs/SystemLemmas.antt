@@ -1,8 +1,6 @@
 -- What a system keeps after one step more.
 use Rattle.std.proofs.Common.{◌≡◌, Option, List, sym, subst}
 use Rattle.tau_value.specs.declared.shared.Value.{Value}
-use Rattle.tau_view.specs.Held.{Held}
-use Rattle.tau_view.specs.Trim.{EdgeTest, RootTest}
 use Rattle.tau_tree.specs.declared.programs.Program.{Program}
 use Rattle.tau_trace.specs.declared.step.Step.{Step}
 use Rattle.tau_trace.specs.Steps.{actor}
@@ -14,7 +12,6 @@ use Rattle.tau_states.specs.Opening.{opening_states}
 use Rattle.tau_states.specs.Table.{Advances}
 use Rattle.tau_legal.specs.Fits.{Fits}
 use Rattle.tau_legal.proofs.TraceLemmas.{fitting_grows}
-use Rattle.tau_views.specs.Kept.{AreViews, held_of, letters_of}
 use Rattle.tau_rules.specs.declared.records.Record.{Record}
 use Rattle.tau_rules.specs.declared.records.RecordChange.{RecordChange}
 use Rattle.tau_rules.specs.Records.{AreRecords, AreValues, Changes, HasChanged, IsNewborn, with_newborn, sent_value, with_sent}
@@ -48,12 +45,3 @@ made P T V s c old new records changed records_after newborn values values_after
     subst (λ (R : Run). IsSystem P R new records_after values_after) (sym run)
     (subst (λ (rs : List Record). IsSystem P (appended T s) new rs values_after) (sym after)
     (subst (λ (vs : List Value). IsSystem P (appended T s) new (with_newborn changed newborn) vs) (sym sent) whole))
-
--- the views after it
-pub views_made : {V : Type 0} (de : EdgeTest) (dr : RootTest) (held : V → Held) (T U : Run) (own own_after : List V) (letters letters_after : List (Option V))
-    → U ≡ T → own ≡ own_after → letters ≡ letters_after
-    → AreViews de dr T (held_of held own_after) (letters_of held letters_after) → AreViews de dr U (held_of held own) (letters_of held letters)
-views_made de dr held T U own own_after letters letters_after run owns letters_are views =
-    subst (λ R. AreViews de dr R (held_of held own) (letters_of held letters)) (sym run)
-    (subst (λ vs. AreViews de dr T (held_of held vs) (letters_of held letters)) (sym owns)
-    (subst (λ vs. AreViews de dr T (held_of held own_after) (letters_of held vs)) (sym letters_are) views))

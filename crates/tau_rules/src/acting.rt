@@ -1,5 +1,6 @@
 //! Effects made steps.
 ghost use Rattle.std.specs.Prelude.{◌≡◌, ◌<◌, ◌↔◌, ℕ, Some, IsTrue, IfOk, IfErr, length, slice_get};
+ghost use Rattle.tau_value.specs.declared.limits.TheConstants.{STEP_LIMIT};
 ghost use Rattle.tau_value.specs.Value.{val_of};
 ghost use Rattle.tau_tree.specs.Sound.{bodies};
 ghost use Rattle.tau_tree.specs.Expr.{code_of};
@@ -18,18 +19,18 @@ use crate::turns::{is_open, taker, turn_end};
 use crate::{ActError, Acted, System};
 use std::alloc::{AllocError, Global};
 use tau_eval::{Effect, Job, Pending, again};
+use tau_knowledge::Knowledge;
 use tau_legal::{Choice, asks_freedom, chosen};
 use tau_tree::{Expr, Program};
-use tau_view::View;
 
-impl<'p, V: View + Drop> System<'p, V> {
+impl<'p, K: Knowledge + Drop> System<'p, K> {
     /// Makes the step of an effect that a turn has come to (docs/rules.md, "Steps"): `Reply` with the reply after a step with
     /// which the turn goes on, `TurnOver` after one that ends it. `Redo` appends nothing: it comes exactly where the record of
     /// the turn that is open at the job's place, its body, number of nodes, transactor, message or replies, isn't the job's, and holds
     /// the job of the record.
     /// `Stale` comes exactly where no turn that began at the job's place is open. After an error the system is as it was.
     pub fn act(&mut self, pending: &Pending<'p>) -> Result<Acted<'p>, ActError>
-        requires few { len self.old.run < 1000000 }
+        requires few { len self.old.run < STEP_LIMIT }
         ensures ok { IfOk result (IsActed self.old self.new pending.now) }
         ensures unchanged { IfErr result (λ e. self.new ≡ self.old) }
         ensures err { IfErr result (IsUnacted self.old.run pending.now.place) }
@@ -54,7 +55,7 @@ impl<'p, V: View + Drop> System<'p, V> {
 
     /// Makes the step of the next effect of the open turn of a transactor.
     fn make_step(&mut self, who: u32, effect: &Effect) -> Result<Acted<'p>, ActError>
-        requires few { len self.old.run < 1000000 }
+        requires few { len self.old.run < STEP_LIMIT }
         requires effect { TurnHas self.old.program self.old.run who (len self.old.run) (eff_of effect.now) }
         ensures ok { IfOk result (IsMade self.old self.new who) }
         ensures unchanged { IfErr result (λ e. self.new ≡ self.old) }
@@ -91,7 +92,7 @@ impl<'p, V: View + Drop> System<'p, V> {
         if !asks_freedom(effect) {
             return Ok(false);
         }
-        self.views.is_free(self.alloc, &self.trace, who)
+        self.known.is_free(self.alloc, &self.trace, who)
     }
 }
 

@@ -10,11 +10,11 @@ ghost use Rattle.tau_rules.specs.System.{with_step};
 use crate::System;
 use crate::records::{Record, RecordChange, change_record, newborn_of};
 use std::alloc::AllocError;
+use tau_knowledge::Knowledge;
 use tau_trace::Step;
 use tau_value::Value;
-use tau_view::View;
 
-impl<'p, V: View + Drop> System<'p, V> {
+impl<'p, K: Knowledge + Drop> System<'p, K> {
     /// Appends a step, with what it changes in the record of the transactor that makes it. All memory is taken before the
     /// first change.
     pub(crate) fn append(&mut self, step: Step, change: RecordChange) -> Result<(), AllocError>
@@ -25,19 +25,18 @@ impl<'p, V: View + Drop> System<'p, V> {
         ensures err { OnErr result (self.new ≡ self.old) }
     {
         let states = self.states.prepare(&step)?;
-        let views = self.views.prepare(self.alloc, &self.trace, &step)?;
+        let heard = self.known.prepare(self.alloc, &self.trace, &step)?;
         let sent = sent_copy(&step)?;
         let newborn = newborn_of(self.alloc, &step);
         self.trace.reserve()?;
         self.states.reserve()?;
-        self.views.reserve()?;
         self.values.reserve(1)?;
         self.records.reserve(1)?;
         change_record(self.alloc, &mut self.records, step.actor(), change)?;
         keep_newborn(&mut self.records, newborn);
         self.trace.push_spare(step);
         self.states.apply(states);
-        self.views.apply(views);
+        self.known.apply(heard);
         keep_sent(&mut self.values, sent);
         Ok(())
     }

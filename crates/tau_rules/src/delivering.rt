@@ -1,5 +1,6 @@
 //! Messages delivered.
 ghost use Rattle.std.specs.Prelude.{◌≡◌, ◌<◌, IfOk, IfErr};
+ghost use Rattle.tau_value.specs.declared.limits.TheConstants.{STEP_LIMIT};
 ghost use Rattle.tau_trace.specs.Run.{len};
 ghost use Rattle.tau_trace.specs.Numbering.{sent};
 ghost use Rattle.tau_past.specs.Decisions.{Verdict as VerdictAt, takes};
@@ -10,18 +11,17 @@ use crate::records::RecordChange;
 use crate::{DeliverError, Delivered, System};
 use std::alloc::AllocError;
 use tau_eval::{Job, begin};
-use tau_fate::Verdict;
+use tau_knowledge::{Knowledge, Receipt};
 use tau_trace::Step;
-use tau_view::View;
 
-impl<'p, V: View + Drop> System<'p, V> {
+impl<'p, K: Knowledge + Drop> System<'p, K> {
     /// Delivers a message to its receiver: appends its Take, Drop, Fall or Void, and gives with a Take the job of the turn
     /// that it opens (docs/rules.md, "Steps").
     /// `NotInFlight` comes exactly where the named step took the message; otherwise `Busy` exactly where the named turn of
     /// the receiver is open. After an error the system is as it was.
     pub fn deliver(&mut self, message: u32) -> Result<Delivered<'p>, DeliverError>
         requires exists { message < sent self.old.run (len self.old.run) }
-        requires few { len self.old.run < 1000000 }
+        requires few { len self.old.run < STEP_LIMIT }
         ensures ok { IfOk result (IsDelivered self.old self.new message) }
         ensures unchanged { IfErr result (λ e. self.new ≡ self.old) }
         ensures err { IfErr result (IsUndelivered self.old.run message) }
@@ -39,13 +39,13 @@ impl<'p, V: View + Drop> System<'p, V> {
             self.append(Step::Void { who, message }, RecordChange::Kept)?;
             return Ok(Delivered::Voided);
         }
-        match self.views.verdict(self.alloc, &self.trace, who, message)? {
-            Verdict::Take => Ok(Delivered::Began(self.begin_turn(who, message)?)),
-            Verdict::Drop { .. } => {
+        match self.known.verdict(self.alloc, &self.trace, who, message)? {
+            Receipt::Take => Ok(Delivered::Began(self.begin_turn(who, message)?)),
+            Receipt::Drop => {
                 self.append(Step::Drop { who, message }, RecordChange::Kept)?;
                 Ok(Delivered::Dropped)
             }
-            Verdict::Fall { .. } => {
+            Receipt::Fall => {
                 self.append(Step::Fall { who, message }, RecordChange::Kept)?;
                 Ok(Delivered::Fell)
             }
@@ -54,7 +54,7 @@ impl<'p, V: View + Drop> System<'p, V> {
 
     /// Appends the Take of a message that its receiver can take, and gives the job of its turn.
     fn begin_turn(&mut self, who: u32, message: u32) -> Result<Job<'p>, AllocError>
-        requires few { len self.old.run < 1000000 }
+        requires few { len self.old.run < STEP_LIMIT }
         requires arrives { Arrives self.old.run who message (len self.old.run) }
         requires verdict { VerdictAt self.old.run who (len self.old.run) message takes }
         ensures ok { IfOk result (IsBegun self.old self.new message) }

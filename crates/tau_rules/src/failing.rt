@@ -1,5 +1,6 @@
 //! Failures of the script.
 ghost use Rattle.std.specs.Prelude.{◌≡◌, ◌<◌, OnOk, IfErr};
+ghost use Rattle.tau_value.specs.declared.limits.TheConstants.{STEP_LIMIT};
 ghost use Rattle.tau_trace.specs.declared.step.Step.TheVariants as steps;
 ghost use Rattle.tau_trace.specs.Run.{len};
 ghost use Rattle.tau_trace.specs.Numbering.{born, sent};
@@ -8,15 +9,15 @@ ghost use Rattle.tau_rules.specs.System.{with_step};
 
 use crate::records::RecordChange;
 use crate::{FailError, LoseError, System};
+use tau_knowledge::Knowledge;
 use tau_trace::Step;
-use tau_view::View;
 
-impl<'p, V: View + Drop> System<'p, V> {
+impl<'p, K: Knowledge + Drop> System<'p, K> {
     /// Lets a transactor fail: appends its Fail (docs/rules.md, "Steps").
     /// `Ended` comes exactly where it ended at the named step. After an error the system is as it was.
     pub fn fail(&mut self, who: u32) -> Result<(), FailError>
         requires exists { who < born self.old.run (len self.old.run) }
-        requires few { len self.old.run < 1000000 }
+        requires few { len self.old.run < STEP_LIMIT }
         ensures ok { OnOk result (self.new ≡ with_step self.old (steps.Fail who)) }
         ensures unchanged { IfErr result (λ e. self.new ≡ self.old) }
         ensures err { IfErr result (IsUnfailed self.old.run who) }
@@ -32,7 +33,7 @@ impl<'p, V: View + Drop> System<'p, V> {
     /// `NotInFlight` comes exactly where the named step took the message. After an error the system is as it was.
     pub fn lose(&mut self, message: u32) -> Result<(), LoseError>
         requires exists { message < sent self.old.run (len self.old.run) }
-        requires few { len self.old.run < 1000000 }
+        requires few { len self.old.run < STEP_LIMIT }
         ensures ok { OnOk result (self.new ≡ with_step self.old (steps.Lose message)) }
         ensures unchanged { IfErr result (λ e. self.new ≡ self.old) }
         ensures err { IfErr result (IsUnlost self.old.run message) }

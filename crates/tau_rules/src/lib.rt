@@ -12,6 +12,7 @@ mod reading;
 mod records;
 mod system;
 mod turns;
+mod viewing;
 
 pub use answers::{Acted, Delivered, Standing};
 pub use errors::{ActError, DeliverError, FailError, LoseError};

@@ -9,9 +9,11 @@ ghost use Rattle.tau_rules.specs.Answers.{IsStanding};
 
 use crate::{Standing, System};
 use tau_history::History;
+use tau_knowledge::Knowledge;
 use tau_view::View;
+use tau_views::Views;
 
-impl<'p, V: View + Drop> System<'p, V> {
+impl<'p, K: Knowledge + Drop> System<'p, K> {
     /// What a transactor is doing; `None` exactly where it doesn't exist (docs/rules.md, "Steps").
     pub fn standing(&self, who: u32) -> Option<Standing>
         ensures { IsStanding self.now.run who result }
@@ -27,14 +29,16 @@ impl<'p, V: View + Drop> System<'p, V> {
             None => Some(Standing::Idle),
         }
     }
+}
 
+impl<'p, V: View + Drop> System<'p, Views<V>> {
     /// The view of a transactor: what it has heard, without what this type of view drops; `None` exactly where it doesn't
     /// exist (docs/definitions.md, "View of what was heard").
     pub fn view_of(&self, who: u32) -> Option<&V>
         ensures exists { IsSome result ↔ (who < born self.now.run (len self.now.run)) }
         ensures view { IfSome result (λ v. IsTrimmed V.drops_edge V.drops_root (IsViewOf self.now.run who (len self.now.run)) (V.held v.now)) }
     {
-        self.views.view_of(who)
+        self.known.view_of(who)
     }
 
     /// The view of a message: what it has heard, without what this type of view drops; `None` exactly where it isn't in
@@ -43,7 +47,7 @@ impl<'p, V: View + Drop> System<'p, V> {
         ensures in_flight { IsSome result ↔ InFlight self.now.run message (len self.now.run) }
         ensures view { IfSome result (λ v. IsTrimmed V.drops_edge V.drops_root (IsMessageView self.now.run message) (V.held v.now)) }
     {
-        self.views.message_view(message)
+        self.known.message_view(message)
     }
 
     /// The history of a transactor; `None` exactly where it doesn't exist (docs/rules.md, "Histories").
@@ -51,6 +55,6 @@ impl<'p, V: View + Drop> System<'p, V> {
         ensures exists { IsSome result ↔ (who < born self.now.run (len self.now.run)) }
         ensures history { IfSome result (λ h. h.now.history ≡ history self.now.run who (len self.now.run)) }
     {
-        self.views.view_of(who)?.history_of(who)
+        self.known.view_of(who)?.history_of(who)
     }
 }

@@ -12,32 +12,30 @@ ghost use Rattle.tau_rules.specs.Records.{HasStarts, HasPosts};
 use crate::records::Record;
 use std::alloc::{AllocError, Global};
 use std::marker::Model;
+use tau_knowledge::Knowledge;
 use tau_script::opening_of;
 use tau_states::States;
 use tau_trace::Trace;
 use tau_tree::{Post, Program, Start};
 use tau_value::Value;
-use tau_view::View;
-use tau_views::Views;
 
 /// A run of a program, to which one step at a time is appended (docs/rules.md, "Steps"). What is known of it is kept beside
-/// it: the states, the views, each transactor's turn, and the values of the messages. Contracts see its program and its run.
+/// it: the states, what was heard, each transactor's turn, and the values of the messages. Contracts see its program and its run.
 #[derive(Drop)]
-pub struct System<'p, V: View + Drop> {
+pub struct System<'p, K: Knowledge + Drop> {
     pub(crate) program: &'p Program,
     pub(crate) trace: Trace,
     pub(crate) states: States,
-    pub(crate) views: Views<V>,
+    pub(crate) known: K,
     pub(crate) records: Vec<Record>,
     pub(crate) values: Vec<Value>,
     pub(crate) alloc: Global,
 }
 
-impl<'p, V: View + Drop> Model for System<'p, V> {
+impl<'p, K: Knowledge + Drop> Model for System<'p, K> {
     ghost use Rattle.std.specs.Coded.{codes};
     ghost use Rattle.tau_value.specs.Val.{val_code};
     ghost use Rattle.tau_tree.specs.Code.{code_code};
-    ghost use Rattle.tau_views.specs.Kept.{AreViews, held_of, letters_of};
     ghost use Rattle.tau_rules.specs.System.{Core, IsSystem};
 
     ghost Value = { Core };
@@ -47,12 +45,12 @@ impl<'p, V: View + Drop> Model for System<'p, V> {
     ghost view = { λ s. record { program = s.program.now; run = s.trace.run } };
 
     ghost invariant = { λ s. IsSystem s.program.now s.trace.run s.states.records s.records.items s.values.items
-        × AreViews V.drops_edge V.drops_root s.trace.run (held_of V.held s.views.own.items) (letters_of V.held s.views.letters.items) };
+        × K.knows s.known s.trace.run };
 }
 
-impl<'p, V: View + Drop> System<'p, V> {
+impl<'p, K: Knowledge + Drop> System<'p, K> {
     /// The system of a program before its first step. The error is want of memory.
-    pub fn open(alloc: Global, program: &'p Program) -> Result<System<'p, V>, AllocError>
+    pub fn open(alloc: Global, program: &'p Program) -> Result<System<'p, K>, AllocError>
         requires { Sound program.now }
         ensures program { IfOk result (λ s. s.program ≡ program.entry.now) }
         ensures run { IfOk result (λ s. s.run ≡ record { opening = program_opening program.entry.now; steps = [] }) }
@@ -62,7 +60,7 @@ impl<'p, V: View + Drop> System<'p, V> {
             program,
             trace,
             states: States::open(alloc, &program.starts)?,
-            views: Views::open(alloc, program.starts.len(), program.posts.len())?,
+            known: K::open(alloc, program.starts.len(), program.posts.len())?,
             records: opening_records(alloc, program.starts.items())?,
             values: posted_values(alloc, program.posts.items())?,
             alloc,

@@ -6,14 +6,14 @@ ghost use Rattle.tau_trace.specs.Known.{WellFormed};
 ghost use Rattle.tau_script.specs.Cursors.{CursorAt, IsCurrent, IsDueAt, PassesTo, moved_past};
 ghost use Rattle.tau_legal.specs.Traces.{Fitting};
 
+use tau_knowledge::Knowledge;
 use tau_rules::System;
 use tau_script::{Cursor, passed};
 use tau_trace::Step;
-use tau_view::View;
 
 /// The due step of the script, by a cursor that passes over entries first.
-pub(crate) fn due_by<'p, V: View + Drop>(
-    system: &System<'p, V>,
+pub(crate) fn due_by<'p, K: Knowledge + Drop>(
+    system: &System<'p, K>,
     cursor: &mut Cursor,
 ) -> Option<Step>
     ensures passes { PassesTo system.now.program.script system.now.run (len system.now.run) cursor.old cursor.new }
@@ -28,8 +28,8 @@ pub(crate) fn due_by<'p, V: View + Drop>(
 }
 
 /// Moves the cursor past a due step that was appended, and then over entries.
-pub(crate) fn move_past<'p, V: View + Drop>(
-    system: &System<'p, V>,
+pub(crate) fn move_past<'p, K: Knowledge + Drop>(
+    system: &System<'p, K>,
     cursor: &mut Cursor,
     step: &Step,
 )

@@ -1,5 +1,6 @@
 //! The due steps of the script.
 ghost use Rattle.std.specs.Prelude.{◌≡◌, ◌<◌, ◌≤◌, ℕ, Some, IfOk, OnOk, OnErr, length};
+ghost use Rattle.tau_value.specs.declared.limits.TheConstants.{STEP_LIMIT};
 ghost use Rattle.tau_trace.specs.declared.step.Step.TheVariants as steps;
 ghost use Rattle.tau_trace.specs.Run.{len};
 ghost use Rattle.tau_rules.specs.System.{with_step};
@@ -10,14 +11,14 @@ use crate::Scripted;
 use crate::cursors::move_past;
 use crate::making::{make_fail, make_lose};
 use std::alloc::AllocError;
+use tau_knowledge::Knowledge;
 use tau_trace::Step;
-use tau_view::View;
 
-impl<'p, V: View + Drop> Scripted<'p, V> {
+impl<'p, K: Knowledge + Drop> Scripted<'p, K> {
     /// Appends the step of the script that is due; `false` exactly where none is (docs/rules.md, "Scripts"). The error is want of
     /// memory, and nothing is different then.
     pub fn make_due(&mut self) -> Result<bool, AllocError>
-        requires { len self.old.system.run < 1000000 }
+        requires { len self.old.system.run < STEP_LIMIT }
         ensures ok { IfOk result (IsDueMade self.old self.new) }
         ensures turns { length self.new.turns ≤ length self.old.turns }
         ensures err { OnErr result (self.new ≡ self.old) }
@@ -35,7 +36,7 @@ impl<'p, V: View + Drop> Scripted<'p, V> {
 
     /// Lets a transactor fail.
     fn fail(&mut self, who: u32) -> Result<(), AllocError>
-        requires few { len self.old.system.run < 1000000 }
+        requires few { len self.old.system.run < STEP_LIMIT }
         requires asked { HasAsked self.old.system.program self.old.system.run self.old.cursor (Some (steps.Fail who)) }
         requires entries { length self.old.system.program.script ≤ 4096 }
         requires entry { self.old.cursor.entry < length self.old.system.program.script }
@@ -53,7 +54,7 @@ impl<'p, V: View + Drop> Scripted<'p, V> {
 
     /// Loses a message in flight.
     fn lose(&mut self, message: u32) -> Result<(), AllocError>
-        requires few { len self.old.system.run < 1000000 }
+        requires few { len self.old.system.run < STEP_LIMIT }
         requires asked { HasAsked self.old.system.program self.old.system.run self.old.cursor (Some (steps.Lose message)) }
         requires entries { length self.old.system.program.script ≤ 4096 }
         requires entry { self.old.cursor.entry < length self.old.system.program.script }

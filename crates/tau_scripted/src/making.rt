@@ -1,5 +1,6 @@
 //! Steps made by the system, where it can't refuse them.
 ghost use Rattle.std.specs.Prelude.{◌≡◌, ◌<◌, None, OnOk, OnErr, IfOk};
+ghost use Rattle.tau_value.specs.declared.limits.TheConstants.{STEP_LIMIT};
 ghost use Rattle.tau_trace.specs.declared.step.Step.TheVariants as steps;
 ghost use Rattle.tau_trace.specs.Run.{len};
 ghost use Rattle.tau_trace.specs.Numbering.{born, InFlight};
@@ -10,16 +11,16 @@ ghost use Rattle.tau_rules.specs.Answers.{IsDelivered};
 ghost use Rattle.tau_scripted.specs.Flight.{IsWaiting};
 
 use std::alloc::AllocError;
+use tau_knowledge::Knowledge;
 use tau_mailbox::Letter;
 use tau_rules::{DeliverError, Delivered, FailError, LoseError, System};
-use tau_view::View;
 
 /// Lets a transactor that hasn't ended fail.
-pub(crate) fn make_fail<'p, V: View + Drop>(
-    system: &mut System<'p, V>,
+pub(crate) fn make_fail<'p, K: Knowledge + Drop>(
+    system: &mut System<'p, K>,
     who: u32,
 ) -> Result<(), AllocError>
-    requires few { len system.old.run < 1000000 }
+    requires few { len system.old.run < STEP_LIMIT }
     requires exists { who < born system.old.run (len system.old.run) }
     requires living { IsLiving system.old.run who (len system.old.run) }
     ensures ok { OnOk result (system.new ≡ with_step system.old (steps.Fail who)) }
@@ -33,11 +34,11 @@ pub(crate) fn make_fail<'p, V: View + Drop>(
 }
 
 /// Loses a message in flight.
-pub(crate) fn make_lose<'p, V: View + Drop>(
-    system: &mut System<'p, V>,
+pub(crate) fn make_lose<'p, K: Knowledge + Drop>(
+    system: &mut System<'p, K>,
     message: u32,
 ) -> Result<(), AllocError>
-    requires few { len system.old.run < 1000000 }
+    requires few { len system.old.run < STEP_LIMIT }
     requires in_flight { InFlight system.old.run message (len system.old.run) }
     ensures ok { OnOk result (system.new ≡ with_step system.old (steps.Lose message)) }
     ensures err { OnErr result (system.new ≡ system.old) }
@@ -50,11 +51,11 @@ pub(crate) fn make_lose<'p, V: View + Drop>(
 }
 
 /// Delivers a message in flight to its receiver, which is in no turn.
-pub(crate) fn make_receipt<'p, V: View + Drop>(
-    system: &mut System<'p, V>,
+pub(crate) fn make_receipt<'p, K: Knowledge + Drop>(
+    system: &mut System<'p, K>,
     letter: Letter,
 ) -> Result<Delivered<'p>, AllocError>
-    requires few { len system.old.run < 1000000 }
+    requires few { len system.old.run < STEP_LIMIT }
     requires waits { IsWaiting system.old.run letter }
     requires idle { IsOpenTurn system.old.run letter.who (len system.old.run) None }
     ensures ok { IfOk result (IsDelivered system.old system.new letter.message) }

@@ -1,5 +1,6 @@
 //! Messages delivered.
 ghost use Rattle.std.specs.Prelude.{◌≡◌, ◌<◌, ℕ, Some, IfOk, OnErr, ◌≤◌, ◌+◌, slice_get, length, take};
+ghost use Rattle.tau_value.specs.declared.limits.TheConstants.{STEP_LIMIT};
 ghost use Rattle.tau_trace.specs.Run.{len};
 ghost use Rattle.tau_script.specs.Scripts.{NoneDue};
 ghost use Rattle.tau_rules.specs.Answers.{IsDelivered};
@@ -8,14 +9,14 @@ use crate::Scripted;
 use crate::cursors::due_by;
 use crate::making::make_receipt;
 use std::alloc::AllocError;
+use tau_knowledge::Knowledge;
 use tau_rules::Delivered;
-use tau_view::View;
 
-impl<'p, V: View + Drop> Scripted<'p, V> {
+impl<'p, K: Knowledge + Drop> Scripted<'p, K> {
     /// Delivers one of the deliverable messages, counted from 0 by ascending number (docs/rules.md, "Steps"). No step of the script
     /// is due. The error is want of memory, and nothing is different then.
     pub fn deliver(&mut self, number: usize) -> Result<Delivered<'p>, AllocError>
-        requires few { len self.old.system.run < 1000000 }
+        requires few { len self.old.system.run < STEP_LIMIT }
         requires none_due { NoneDue self.old.system.program.script self.old.system.run (len self.old.system.run) }
         requires deliverable { number < length self.old.messages }
         ensures ok { IfOk result (λ d. (m : ℕ) → slice_get self.old.messages number ≡ Some m → IsDelivered self.old.system self.new.system m d) }

@@ -1,5 +1,6 @@
 //! The system with its script.
 ghost use Rattle.std.specs.Prelude.{◌≡◌, ◌≤◌, ◌↔◌, [], IfOk, IfSome, ℕ, ◌<◌, IsTrue, length};
+ghost use Rattle.tau_value.specs.declared.limits.TheConstants.{STEP_LIMIT};
 ghost use Rattle.tau_tree.specs.Sound.{Sound};
 ghost use Rattle.tau_trace.specs.declared.step.Step.TheVariants as steps;
 ghost use Rattle.tau_trace.specs.Run.{len};
@@ -16,23 +17,23 @@ use crate::index::Index;
 use crate::posts::post_all;
 use std::alloc::{AllocError, Global};
 use std::marker::Model;
+use tau_knowledge::Knowledge;
 use tau_rules::System;
 use tau_script::Cursor;
 use tau_trace::{Step, Trace};
 use tau_tree::Program;
-use tau_view::View;
 
 /// A system whose run is legal (docs/definitions.md, "Fitting and legal steps"), with the cursor of the script, the messages in
 /// flight, and the open turns. Contracts see its program and run, the cursor, the letters, the numbers of the deliverable
 /// messages, and the places of the open turns.
 #[derive(Drop)]
-pub struct Scripted<'p, V: View + Drop> {
-    pub(crate) system: System<'p, V>,
+pub struct Scripted<'p, K: Knowledge + Drop> {
+    pub(crate) system: System<'p, K>,
     pub(crate) cursor: Cursor,
     pub(crate) index: Index,
 }
 
-impl<'p, V: View + Drop> Model for Scripted<'p, V> {
+impl<'p, K: Knowledge + Drop> Model for Scripted<'p, K> {
     ghost use Rattle.std.specs.Coded.{codes};
     ghost use Rattle.tau_value.specs.Val.{val_code};
     ghost use Rattle.tau_tree.specs.Code.{code_code};
@@ -47,9 +48,9 @@ impl<'p, V: View + Drop> Model for Scripted<'p, V> {
     ghost invariant = { λ s. IsScripted s.system.program s.system.run s.cursor s.index.mailboxes.nodes s.index.mailboxes.letters s.index.mailboxes.busy s.index.turns.items };
 }
 
-impl<'p, V: View + Drop> Scripted<'p, V> {
+impl<'p, K: Knowledge + Drop> Scripted<'p, K> {
     /// The system of a program before its first step. The error is want of memory.
-    pub fn open(alloc: Global, program: &'p Program) -> Result<Scripted<'p, V>, AllocError>
+    pub fn open(alloc: Global, program: &'p Program) -> Result<Scripted<'p, K>, AllocError>
         requires { Sound program.now }
         ensures program { IfOk result (λ s. s.system.program ≡ program.entry.now) }
         ensures run { IfOk result (λ s. s.system.run ≡ record { opening = program_opening program.entry.now; steps = [] }) }
@@ -69,7 +70,7 @@ impl<'p, V: View + Drop> Scripted<'p, V> {
     }
 
     /// The system.
-    pub fn system(&self) -> &System<'p, V>
+    pub fn system(&self) -> &System<'p, K>
         ensures system { result.now ≡ self.now.system }
         ensures well_formed { WellFormed self.now.system.run }
         ensures legal { Legal self.now.system.program self.now.system.run }
@@ -84,7 +85,7 @@ impl<'p, V: View + Drop> Scripted<'p, V> {
     /// How many steps the run has.
     pub fn len(&self) -> u32
         ensures length { result ≡ len self.now.system.run }
-        ensures few { len self.now.system.run ≤ 1000000 }
+        ensures few { len self.now.system.run ≤ STEP_LIMIT }
     {
         self.system.trace().len()
     }

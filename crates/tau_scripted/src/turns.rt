@@ -1,5 +1,6 @@
 //! Steps of turns.
 ghost use Rattle.std.specs.Prelude.{◌≡◌, ◌<◌, ◌≤◌, length, IfOk, IfErr};
+ghost use Rattle.tau_value.specs.declared.limits.TheConstants.{STEP_LIMIT};
 ghost use Rattle.tau_trace.specs.Run.{len};
 ghost use Rattle.tau_script.specs.Scripts.{NoneDue};
 ghost use Rattle.tau_rules.specs.Answers.{IsActed, IsUnacted};
@@ -9,15 +10,15 @@ ghost use Rattle.tau_scripted.specs.Inner.Index.{IsNodeOf};
 use crate::Scripted;
 use crate::cursors::due_by;
 use tau_eval::{Effect, Pending};
+use tau_knowledge::Knowledge;
 use tau_rules::{ActError, Acted};
 use tau_trace::Trace;
-use tau_view::View;
 
-impl<'p, V: View + Drop> Scripted<'p, V> {
+impl<'p, K: Knowledge + Drop> Scripted<'p, K> {
     /// Makes the step of an effect that a turn has come to, as `System::act` does (docs/rules.md, "Steps"). No step of the script
     /// is due. After `Redo` and after an error nothing is different.
     pub fn act(&mut self, pending: &Pending<'p>) -> Result<Acted<'p>, ActError>
-        requires few { len self.old.system.run < 1000000 }
+        requires few { len self.old.system.run < STEP_LIMIT }
         requires none_due { NoneDue self.old.system.program.script self.old.system.run (len self.old.system.run) }
         ensures ok { IfOk result (IsActed self.old.system self.new.system pending.now) }
         ensures turns { length self.new.turns ≤ length self.old.turns }

@@ -4,9 +4,9 @@ ghost use Rattle.std.specs.Prelude.{◌≡◌};
 use crate::kept::Kept;
 use std::marker::Model;
 use tau_book::Book;
+use tau_knowledge::Knowledge;
 use tau_trace::Step;
 use tau_tree::Program;
-use tau_view::View;
 
 /// What a book is of: its program, and its limit of steps. Contracts see both.
 #[derive(Drop)]
@@ -40,7 +40,7 @@ impl<'p> BookKey<'p> {
     }
 }
 
-impl<'p, V: View + Drop> Kept for Book<'p, V> {
+impl<'p, K: Knowledge + Drop> Kept for Book<'p, K> {
     type Key = BookKey<'p>;
 
     type Entry = Step;

@@ -12,17 +12,17 @@ use std::marker::Model;
 use std::sync::Wait;
 use tau_book::{Hand, Next, StepPlace, Told};
 use tau_eval::Pending;
-use tau_view::View;
+use tau_knowledge::Knowledge;
 
 /// A seat as the place of a worker (docs/rules.md, "Seats"). Contracts see the seat, and the end that the book told it, if it told one.
 #[derive(Drop)]
-pub struct SeatPlace<'a, 'p, V: View + Drop> {
-    table: &'a SeatBook<'p, V>,
-    seat: BookSeat<'p, V>,
+pub struct SeatPlace<'a, 'p, K: Knowledge + Drop> {
+    table: &'a SeatBook<'p, K>,
+    seat: BookSeat<'p, K>,
     is_complete: Option<bool>,
 }
 
-impl<'a, 'p, V: View + Drop> Model for SeatPlace<'a, 'p, V> {
+impl<'a, 'p, K: Knowledge + Drop> Model for SeatPlace<'a, 'p, K> {
     ghost use Rattle.std.specs.Prelude.{◌≡◌};
     ghost use Rattle.std.specs.Coded.{codes};
     ghost use Rattle.atomic_table.specs.Seated.{table_id_coded};
@@ -39,9 +39,9 @@ impl<'a, 'p, V: View + Drop> Model for SeatPlace<'a, 'p, V> {
     ghost invariant = { λ p. (p.seat.table ≡ p.table.now.table) × HasEnded p.seat p.is_complete };
 }
 
-impl<'a, 'p, V: View + Drop> SeatPlace<'a, 'p, V> {
+impl<'a, 'p, K: Knowledge + Drop> SeatPlace<'a, 'p, K> {
     /// The place of a seat at its table, before it was told an end.
-    pub fn new(table: &'a SeatBook<'p, V>, seat: BookSeat<'p, V>) -> SeatPlace<'a, 'p, V>
+    pub fn new(table: &'a SeatBook<'p, K>, seat: BookSeat<'p, K>) -> SeatPlace<'a, 'p, K>
         requires { seat.table ≡ table.now.table }
         ensures seat { result.seat ≡ seat.entry }
         ensures end { result.is_complete ≡ None }
@@ -54,7 +54,7 @@ impl<'a, 'p, V: View + Drop> SeatPlace<'a, 'p, V> {
     }
 
     /// The seat, given up by the place.
-    pub fn into_seat(self) -> BookSeat<'p, V>
+    pub fn into_seat(self) -> BookSeat<'p, K>
         ensures seat { result ≡ self.entry.seat }
         ensures ended { HasEnded result self.entry.is_complete }
     {
@@ -62,7 +62,7 @@ impl<'a, 'p, V: View + Drop> SeatPlace<'a, 'p, V> {
     }
 }
 
-impl<'a, 'p, V: View + Drop> StepPlace<'p> for SeatPlace<'a, 'p, V> {
+impl<'a, 'p, K: Knowledge + Drop> StepPlace<'p> for SeatPlace<'a, 'p, K> {
     ghost use Rattle.std.specs.Prelude.{Bool, true, Option};
     ghost use Rattle.tau_book.specs.Places.{End};
     ghost use Rattle.tau_seat.specs.SeatPlaces.{PlaceKey, key_of_place, end_of};
@@ -101,10 +101,10 @@ impl<'a, 'p, V: View + Drop> StepPlace<'p> for SeatPlace<'a, 'p, V> {
 }
 
 /// `next` of the book in a turn of the seat. Where the book is `Idle`, the seat waits for a change of it and asks again.
-fn ask<'p, V: View + Drop, R: Wait>(
+fn ask<'p, K: Knowledge + Drop, R: Wait>(
     rt: &R,
-    table: &SeatBook<'p, V>,
-    seat: &mut BookSeat<'p, V>,
+    table: &SeatBook<'p, K>,
+    seat: &mut BookSeat<'p, K>,
     hand: &mut Hand<'p>,
 ) -> Result<Next<'p>, AllocError>
     requires table { seat.old.table ≡ table.now.table }

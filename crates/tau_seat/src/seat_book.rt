@@ -18,17 +18,17 @@ use std::marker::Model;
 use std::sync::Wait;
 use tau_book::{Book, Hand, Next, Told};
 use tau_eval::Pending;
-use tau_view::View;
+use tau_knowledge::Knowledge;
 
 /// The step book shared by seats, which take turns by ticket (docs/rules.md, "Seats"). Contracts see which table it is, how many numbers its
 /// seats share, the program and the limit of the book.
 #[derive(Drop)]
-pub struct SeatBook<'p, V: View + Drop> {
-    table: SeatTable<Book<'p, V>>,
+pub struct SeatBook<'p, K: Knowledge + Drop> {
+    table: SeatTable<Book<'p, K>>,
     bell: Bell,
 }
 
-impl<'p, V: View + Drop> Model for SeatBook<'p, V> {
+impl<'p, K: Knowledge + Drop> Model for SeatBook<'p, K> {
     ghost use Rattle.std.specs.Coded.{codes};
     ghost use Rattle.atomic_table.specs.Seated.{table_id_coded};
     ghost use Rattle.tau_value.specs.Val.{val_code};
@@ -45,12 +45,12 @@ impl<'p, V: View + Drop> Model for SeatBook<'p, V> {
 /// A seat at a step book (docs/rules.md, "Seats"). Contracts see of which table it is, the program and the limit of that book, its numbers, and
 /// the steps that it has seen, each with the number that owns its place.
 #[derive(Drop)]
-pub struct BookSeat<'p, V: View + Drop> {
-    pass: Pass<Book<'p, V>>,
+pub struct BookSeat<'p, K: Knowledge + Drop> {
+    pass: Pass<Book<'p, K>>,
     key: BookKey<'p>,
 }
 
-impl<'p, V: View + Drop> Model for BookSeat<'p, V> {
+impl<'p, K: Knowledge + Drop> Model for BookSeat<'p, K> {
     ghost use Rattle.std.specs.Coded.{codes};
     ghost use Rattle.atomic_table.specs.Seated.{table_id_coded};
     ghost use Rattle.tau_value.specs.Val.{val_code};
@@ -66,14 +66,14 @@ impl<'p, V: View + Drop> Model for BookSeat<'p, V> {
     ghost invariant = { λ s. IsSeat s.key s.pass.me };
 }
 
-impl<'p, V: View + Drop> SeatBook<'p, V> {
+impl<'p, K: Knowledge + Drop> SeatBook<'p, K> {
     /// Puts a book without steps into a table whose seats share the numbers below n, at least one. The first seat has all of them, in
     /// order, and has seen nothing. Without memory the book comes back.
     pub fn new(
         alloc: Global,
-        book: Book<'p, V>,
+        book: Book<'p, K>,
         n: u32,
-    ) -> Result<(SeatBook<'p, V>, BookSeat<'p, V>), (Book<'p, V>, AllocError)>
+    ) -> Result<(SeatBook<'p, K>, BookSeat<'p, K>), (Book<'p, K>, AllocError)>
         requires some { 1 ≤ n }
         requires empty { book.system.run.steps ≡ [] }
         ensures count { IfOk result (λ r. r.0.count ≡ n) }
@@ -99,7 +99,7 @@ impl<'p, V: View + Drop> SeatBook<'p, V> {
 
     /// Shares the numbers of a seat, more than `keep`, at least one, between two seats: the first keeps the first `keep`, and the second has
     /// the others. Both have seen the same.
-    pub fn split(&self, seat: BookSeat<'p, V>, keep: u32) -> (BookSeat<'p, V>, BookSeat<'p, V>)
+    pub fn split(&self, seat: BookSeat<'p, K>, keep: u32) -> (BookSeat<'p, K>, BookSeat<'p, K>)
         requires table { seat.table ≡ self.now.table }
         requires some { 1 ≤ keep }
         requires more { keep < length seat.numbers }
@@ -120,7 +120,7 @@ impl<'p, V: View + Drop> SeatBook<'p, V> {
 
     /// Gives the numbers of one seat to another, which has then seen what either had seen. What one of them had seen begins what the other had
     /// seen, and the steps after it aren't its own.
-    pub fn join(&self, into: &mut BookSeat<'p, V>, from: BookSeat<'p, V>)
+    pub fn join(&self, into: &mut BookSeat<'p, K>, from: BookSeat<'p, K>)
         requires table { into.old.table ≡ self.now.table }
         requires from_table { from.table ≡ self.now.table }
         ensures names { (into.new.table ≡ into.old.table) × (into.new.program ≡ into.old.program) × (into.new.limit ≡ into.old.limit) }
@@ -139,7 +139,7 @@ impl<'p, V: View + Drop> SeatBook<'p, V> {
     pub fn next<R: Wait>(
         &self,
         rt: &R,
-        seat: &mut BookSeat<'p, V>,
+        seat: &mut BookSeat<'p, K>,
         hand: &mut Hand<'p>,
     ) -> Result<Next<'p>, AllocError>
         requires table { seat.old.table ≡ self.now.table }
@@ -166,7 +166,7 @@ impl<'p, V: View + Drop> SeatBook<'p, V> {
     pub fn act<R: Wait>(
         &self,
         rt: &R,
-        seat: &mut BookSeat<'p, V>,
+        seat: &mut BookSeat<'p, K>,
         hand: &mut Hand<'p>,
         pending: Pending<'p>,
     ) -> Result<Told<'p>, (Pending<'p>, AllocError)>
@@ -191,7 +191,7 @@ impl<'p, V: View + Drop> SeatBook<'p, V> {
     }
 
     /// `give_back` of the book in the seat's turn, for which it waits (docs/rules.md, "Seats"). It takes no memory.
-    pub fn give_back<R: Wait>(&self, rt: &R, seat: &mut BookSeat<'p, V>, hand: &mut Hand<'p>)
+    pub fn give_back<R: Wait>(&self, rt: &R, seat: &mut BookSeat<'p, K>, hand: &mut Hand<'p>)
         requires table { seat.old.table ≡ self.now.table }
         ensures stays { Stays seat.old seat.new }
         ensures sound { IsSound (key_at seat.new) (bare seat.new.seen) }
@@ -225,7 +225,7 @@ impl<'p, V: View + Drop> SeatBook<'p, V> {
     }
 
     /// The book comes back from the seat that has all numbers. Its trace is what the seat has seen, and each of its places is the seat's.
-    pub fn close(self, seat: BookSeat<'p, V>) -> Book<'p, V>
+    pub fn close(self, seat: BookSeat<'p, K>) -> Book<'p, K>
         requires table { seat.table ≡ self.table }
         requires all { length seat.numbers ≡ self.count }
         ensures book { IsBookAt seat.entry seat.entry.seen result }

@@ -1,17 +1,10 @@
 -- The views that are kept of a run (docs/definitions.md, "View of what was heard").
-use Rattle.std.specs.Prelude.{◌≡◌, ℕ, ◌<◌, IsTrue, Option, Some, None, List, length, map, slice_get}
+use Rattle.std.specs.Prelude.{◌≡◌, ℕ, ◌<◌, Option, Some, None, List, length, map, slice_get}
 use Rattle.std.specs.Option.{option_map}
 use Rattle.tau_view.specs.Held.{Held}
 use Rattle.tau_view.specs.Trim.{EdgeTest, RootTest, trim}
-use Rattle.tau_trace.specs.declared.step.Step.{Step}
-use Rattle.tau_trace.specs.declared.step.Step.TheVariants.{Checkpoint}
-use Rattle.tau_trace.specs.Steps.{actor}
 use Rattle.tau_trace.specs.Run.{Run, len}
 use Rattle.tau_trace.specs.Numbering.{born, sent, InFlight}
-use Rattle.tau_trace.specs.Histories.{history}
-use Rattle.tau_trace.specs.Turns.{HasOpenTurn}
-use Rattle.tau_past.specs.Carried.{touches}
-use Rattle.tau_past.specs.Heard.{heard_by}
 use Rattle.tau_views.specs.Views.{IsViewOf, IsMessageView}
 
 -- what is held is, trimmed, what was heard
@@ -35,10 +28,3 @@ pub record AreViews (de : EdgeTest) (dr : RootTest) (T : Run) (own : List Held) 
   pub letter : (m : ℕ) (h : Held) → slice_get letters m ≡ Some (Some h) → IsTrimmed de dr (IsMessageView T m) h
   pub in_flight : (m : ℕ) → InFlight T m (len T) → (h : Held) × (slice_get letters m ≡ Some (Some h))
   pub gone : (m : ℕ) → m < sent T (len T) → ¬ InFlight T m (len T) → slice_get letters m ≡ Some None
-
--- what a step at the end of the run must meet so that its views can follow: it touches only in an open turn, closes only a
--- stable history, and hears only of a message in flight
-pub record IsReady (T : Run) (s : Step) : Type 0 where
-  pub touching : (t : ℕ) → actor s ≡ Some t → IsTrue (touches s) → HasOpenTurn T t (len T)
-  pub closing : (t : ℕ) → s ≡ Checkpoint t → IsTrue (history T t (len T)).stable
-  pub hearing : (m : ℕ) → heard_by s ≡ Some m → InFlight T m (len T)

@@ -9,7 +9,7 @@ use tau_view::View;
 
 impl<V: View + Drop> Views<V> {
     /// Makes room, so that one change can be applied without memory.
-    pub fn reserve(&mut self) -> Result<(), AllocError>
+    pub(crate) fn reserve(&mut self) -> Result<(), AllocError>
         ensures own { self.new.own.items ≡ self.old.own.items }
         ensures letters { self.new.letters.items ≡ self.old.letters.items }
         ensures ok { OnOk result (HasRoom self.new) }
@@ -19,7 +19,7 @@ impl<V: View + Drop> Views<V> {
     }
 
     /// Applies a change, in the room that there is, without memory.
-    pub fn apply(&mut self, change: ViewChange<V>)
+    pub(crate) fn change(&mut self, change: ViewChange<V>)
         requires { HasRoom self.old }
         ensures own { self.new.own.items ≡ own_after change self.old.own.items }
         ensures letters { self.new.letters.items ≡ letters_after change self.old.letters.items }

@@ -1,9 +1,8 @@
 //! What the views decide.
-ghost use Rattle.std.specs.Prelude.{◌≡◌, ◌↔◌, ◌<◌, IsTrue, IfOk, Some, slice_get};
-ghost use Rattle.tau_view.specs.Trim.{trim};
+ghost use Rattle.std.specs.Prelude.{◌<◌, IfOk};
 ghost use Rattle.tau_trace.specs.Run.{len};
 ghost use Rattle.tau_trace.specs.Numbering.{born, InFlight};
-ghost use Rattle.tau_past.specs.Decisions.{Verdict as VerdictAt, Free};
+ghost use Rattle.tau_past.specs.Decisions.{Verdict as VerdictAt};
 ghost use Rattle.tau_past.specs.Safety.{KeepsRules};
 ghost use Rattle.tau_views.specs.DecisionLaws.{judged};
 ghost use Rattle.tau_views.specs.NamedPoints.{NamesKnownFallen};
@@ -12,14 +11,14 @@ ghost use Rattle.tau_views.specs.Kept.{AreViews, held_of, letters_of};
 use crate::after::after_merge;
 use crate::views::Views;
 use std::alloc::{AllocError, Global};
-use tau_fate::{Freedom, Verdict, free_settled, judge_settled};
+use tau_fate::{Verdict, judge_settled};
 use tau_trace::Trace;
 use tau_view::View;
 
 impl<V: View + Drop> Views<V> {
     /// The verdict on a message in flight at its receipt by `who` (docs/rules.md, "Verdict"). The point that it names is fallen by what
     /// was heard. The error is want of memory.
-    pub fn verdict(
+    pub fn judge(
         &self,
         alloc: Global,
         trace: &Trace,
@@ -40,21 +39,5 @@ impl<V: View + Drop> Views<V> {
         let letter = self.letter_view(trace, message);
         let merged = after_merge(view, letter)?;
         judge_settled(alloc, &merged, point, letter)
-    }
-
-    /// Whether a transactor is free (docs/rules.md, "Free"). The error is want of memory.
-    pub fn is_free(&self, alloc: Global, trace: &Trace, who: u32) -> Result<bool, AllocError>
-        requires views { AreViews V.drops_edge V.drops_root trace.now.run (held_of V.held self.now.own.items) (letters_of V.held self.now.letters.items) }
-        requires rules { KeepsRules trace.now.run }
-        requires exists { who < born trace.now.run (len trace.now.run) }
-        ensures { IfOk result (λ free. IsTrue free ↔ Free trace.now.run who (len trace.now.run)) }
-    {
-        // Its contract says that the trace is well-formed.
-        let _steps = trace.len();
-        let point = self.own_point(trace, who);
-        match free_settled(alloc, self.own_view(trace, who), point)? {
-            Freedom::Free => Ok(true),
-            Freedom::Bound { .. } => Ok(false),
-        }
     }
 }

@@ -6,6 +6,7 @@ mod after;
 mod applying;
 mod judging;
 mod kinds;
+mod knowing;
 mod laws;
 mod opening;
 mod preparing;

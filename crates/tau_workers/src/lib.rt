@@ -9,5 +9,5 @@ mod workers;
 
 pub use gates::{Gate, OpenGate};
 pub use locked::LockedBook;
-pub use running::{Ran, Settings, run_workers};
+pub use running::{Settings, run_workers};
 pub use workers::{Task, Worker, run};

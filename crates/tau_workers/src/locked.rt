@@ -7,49 +7,49 @@ use std::alloc::AllocError;
 use std::sync::{Condvar, Mutex, MutexGuard, Wait};
 use tau_book::{Book, Hand, Next, StepPlace, Told};
 use tau_eval::Pending;
-use tau_view::View;
+use tau_knowledge::Knowledge;
 
 /// A book under a lock, on which several workers stand (docs/rules.md, "Workers"). A lock's value is known by its type alone: of a
 /// book that is taken out of the lock what holds of each book is known, and not which one it is.
 #[derive(Drop)]
-pub struct LockedBook<'p, V: View + Drop + Send> {
-    desk: Desk<'p, V>,
+pub struct LockedBook<'p, K: Knowledge + Drop + Send> {
+    desk: Desk<'p, K>,
 }
 
-impl<'p, V: View + Drop + Send> LockedBook<'p, V> {
+impl<'p, K: Knowledge + Drop + Send> LockedBook<'p, K> {
     /// Puts a book under a lock.
-    pub fn new(book: Book<'p, V>) -> LockedBook<'p, V> {
+    pub fn new(book: Book<'p, K>) -> LockedBook<'p, K> {
         LockedBook {
             desk: Desk::new(book),
         }
     }
 
     /// Takes the book out of the lock.
-    pub fn into_book(self) -> Book<'p, V> {
+    pub fn into_book(self) -> Book<'p, K> {
         self.desk.into_book()
     }
 }
 
 /// The lock, and what is told where the book changes.
 #[derive(Drop)]
-struct Desk<'p, V: View + Drop> {
-    shared: Mutex<Shared<'p, V>>,
+struct Desk<'p, K: Knowledge + Drop> {
+    shared: Mutex<Shared<'p, K>>,
     changed: Condvar,
 }
 
 /// What lies under the lock.
 #[derive(Drop)]
-struct Shared<'p, V: View + Drop> {
-    book: Book<'p, V>,
+struct Shared<'p, K: Knowledge + Drop> {
+    book: Book<'p, K>,
     // How many workers wait for a change of the book.
     waiting: u32,
     // Whether one of them was woken and hasn't asked again yet.
     is_waking: bool,
 }
 
-impl<'p, V: View + Drop> Desk<'p, V> {
+impl<'p, K: Knowledge + Drop> Desk<'p, K> {
     /// Puts a book under a lock.
-    fn new(book: Book<'p, V>) -> Desk<'p, V> {
+    fn new(book: Book<'p, K>) -> Desk<'p, K> {
         Desk {
             shared: Mutex::new(Shared {
                 book,
@@ -61,7 +61,7 @@ impl<'p, V: View + Drop> Desk<'p, V> {
     }
 
     /// Takes the book out of the lock.
-    fn into_book(self) -> Book<'p, V> {
+    fn into_book(self) -> Book<'p, K> {
         let Desk {
             shared,
             changed: _changed,
@@ -131,8 +131,8 @@ impl<'p, V: View + Drop> Desk<'p, V> {
     fn wait<'b, R: Wait>(
         &self,
         rt: &R,
-        mut shared: MutexGuard<'b, Shared<'p, V>>,
-    ) -> MutexGuard<'b, Shared<'p, V>> {
+        mut shared: MutexGuard<'b, Shared<'p, K>>,
+    ) -> MutexGuard<'b, Shared<'p, K>> {
         shared.waiting = shared.waiting.saturating_add(1);
         let mut shared = self.changed.wait(rt, shared);
         shared.waiting = shared.waiting.saturating_sub(1);
@@ -142,7 +142,7 @@ impl<'p, V: View + Drop> Desk<'p, V> {
 
     /// Wakes a worker that waits, unless one was woken that hasn't asked again yet: that one looks at the book after this change too,
     /// and where it finds something to do, it wakes another.
-    fn wake(&self, shared: &mut Shared<'p, V>) {
+    fn wake(&self, shared: &mut Shared<'p, K>) {
         if shared.waiting > 0 && !shared.is_waking {
             shared.is_waking = true;
             self.changed.notify_one();
@@ -150,7 +150,7 @@ impl<'p, V: View + Drop> Desk<'p, V> {
     }
 }
 
-impl<'p, V: View + Drop + Send> StepPlace<'p> for &LockedBook<'p, V> {
+impl<'p, K: Knowledge + Drop + Send> StepPlace<'p> for &LockedBook<'p, K> {
     ghost use Rattle.std.specs.Prelude.{Bool, false, None};
 
     ghost Key = { Unit {0} };

@@ -1,20 +1,19 @@
 //! The run that several workers make of a program.
-ghost use Rattle.std.specs.Prelude.{◌≡◌, ◌≤◌, IsTrue, IsFalse, IfOk, IfSome};
+ghost use Rattle.std.specs.Prelude.{◌≤◌, IfOk, IfSome};
+ghost use Rattle.tau_value.specs.declared.limits.TheConstants.{STEP_LIMIT};
 ghost use Rattle.tau_tree.specs.Sound.{Sound};
-ghost use Rattle.tau_trace.specs.Run.{len};
-ghost use Rattle.tau_trace.specs.Known.{WellFormed};
-ghost use Rattle.tau_legal.specs.Traces.{Legal, Complete};
+ghost use Rattle.tau_legal.specs.Ends.{EndsAt};
 
 use crate::gates::Gate;
 use crate::seats::work;
 use std::alloc::{AllocError, Global};
 use std::sync::Wait;
 use std::thread::Threads;
-use tau_book::Book;
+use tau_book::{Book, Ran};
 use tau_compact::PrunedView;
 use tau_seat::SeatBook;
-use tau_trace::Trace;
 use tau_tree::Program;
+use tau_views::Views;
 
 /// By how many workers a program is run, each with room for how many jobs, from which seed, and up to how many steps.
 #[derive(Clone, Copy)]
@@ -23,15 +22,6 @@ pub struct Settings {
     pub jobs: u32,
     pub seed: u64,
     pub limit: u32,
-}
-
-/// What several workers made of a program.
-#[derive(Drop)]
-pub struct Ran {
-    /// The trace: the program's opening, and the steps that were made.
-    pub trace: Trace,
-    /// Whether it is complete (docs/definitions.md, "Complete").
-    pub is_complete: bool,
 }
 
 /// A run of a program by at least one worker, each with room for 1 to 16 jobs, up to `limit` steps (docs/rules.md, "Workers"). Worker
@@ -52,15 +42,10 @@ pub fn run_workers<R: Threads + Wait + Sync, G: Gate + Sync>(
     requires some { 1 ≤ settings.workers }
     requires jobs { 1 ≤ settings.jobs }
     requires few { settings.jobs ≤ 16 }
-    requires limit { settings.limit ≤ 1000000 }
-    ensures well_formed { IfOk result (λ r. WellFormed r.trace.run) }
-    ensures legal { IfOk result (λ r. Legal program.now r.trace.run) }
-    ensures complete { IfOk result (λ r. IsTrue r.is_complete
-        → Complete program.now r.trace.run × (len r.trace.run ≤ settings.limit)) }
-    ensures stopped { IfOk result (λ r. IsFalse r.is_complete
-        → (¬ Complete program.now r.trace.run) × (len r.trace.run ≡ settings.limit)) }
+    requires limit { settings.limit ≤ STEP_LIMIT }
+    ensures ends { IfOk result (λ r. EndsAt settings.limit program.now r.trace.run r.is_complete) }
 {
-    let book: Book<'_, PrunedView> = Book::open(alloc, program, settings.limit)?;
+    let book: Book<'_, Views<PrunedView>> = Book::open(alloc, program, settings.limit)?;
     let Ok((table, seat)) = SeatBook::new(alloc, book, settings.workers) else {
         return Err(AllocError);
     };
@@ -72,13 +57,8 @@ pub fn run_workers<R: Threads + Wait + Sync, G: Gate + Sync>(
 }
 
 /// What was made, where the book is finished.
-fn made(book: Book<'_, PrunedView>) -> Option<Ran>
-    ensures well_formed { IfSome result (λ r. WellFormed r.trace.run) }
-    ensures legal { IfSome result (λ r. Legal book.entry.system.program r.trace.run) }
-    ensures complete { IfSome result (λ r. IsTrue r.is_complete
-        → Complete book.entry.system.program r.trace.run × (len r.trace.run ≤ book.entry.limit)) }
-    ensures stopped { IfSome result (λ r. IsFalse r.is_complete
-        → (¬ Complete book.entry.system.program r.trace.run) × (len r.trace.run ≡ book.entry.limit)) }
+fn made(book: Book<'_, Views<PrunedView>>) -> Option<Ran>
+    ensures ends { IfSome result (λ r. EndsAt book.entry.limit book.entry.system.program r.trace.run r.is_complete) }
 {
     // What holds of the book.
     let _system = book.system();

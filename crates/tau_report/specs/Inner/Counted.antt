@@ -1,5 +1,6 @@
 -- The counts of steps, kept step by step beside the states.
 use Rattle.std.specs.Prelude.{◌≡◌, ℕ, ◌+◌, ◌<◌, Bool, if◌then◌else◌, List}
+use Rattle.tau_value.specs.declared.limits.TheConstants.{STEP_LIMIT}
 use Rattle.tau_value.specs.declared.shared.Value.{Value}
 use Rattle.tau_trace.specs.declared.step.Step.{Step}
 use Rattle.tau_trace.specs.Steps.{is_checkpoint}
@@ -39,11 +40,11 @@ counts_after s falls c = record {
 
 -- counts of fewer steps than a trace may have
 pub record AreFew (c : Counts) : Type 0 where
-  pub checkpoints : c.checkpoints < 1000000
-  pub holds : c.holds < 1000000
-  pub drops : c.drops < 1000000
-  pub falls : c.falls < 1000000
-  pub losses : c.losses < 1000000
+  pub checkpoints : c.checkpoints < STEP_LIMIT
+  pub holds : c.holds < STEP_LIMIT
+  pub drops : c.drops < STEP_LIMIT
+  pub falls : c.falls < STEP_LIMIT
+  pub losses : c.losses < STEP_LIMIT
 
 -- the states and the counts after a run
 pub record IsSurvey (T : Run) (opening : List Value) (records : List StateRecord) (counts : Counts) : Type 0 where

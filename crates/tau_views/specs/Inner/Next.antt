@@ -6,9 +6,10 @@ use Rattle.tau_trace.specs.declared.step.Step.{Step}
 use Rattle.tau_trace.specs.declared.step.Step.TheVariants.{Void, Hold, Stay, Done, Trap, Fail, Lose}
 use Rattle.tau_trace.specs.Run.{Run, appended}
 use Rattle.tau_trace.specs.Known.{MayFollow, WellFormed}
+use Rattle.tau_knowledge.specs.Knowing.{IsReady}
 use Rattle.tau_views.specs.declared.views.Views.{Views}
 use Rattle.tau_views.specs.declared.views.ViewChange.{ViewChange}
-use Rattle.tau_views.specs.Kept.{AreViews, IsReady, held_of, letters_of}
+use Rattle.tau_views.specs.Kept.{AreViews, held_of, letters_of}
 use Rattle.tau_views.specs.Changes.{own_after, letters_after}
 
 -- the views are those of the run, and the step may follow it

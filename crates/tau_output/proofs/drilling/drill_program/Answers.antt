@@ -5,4 +5,4 @@ pub returns : goal.returns
 returns c =
     let made = c.in_ok-made in
     rw c.end_of.ensures
-    (drills_as c.args.number c.in_ok-program.program made.made.trace.run made.made.is_complete c.in_ok-lines_of.field-0.items c.in_ok-program.ensures.program made.ensures.serial made.ensures.well_formed made.ensures.legal made.ensures.complete made.ensures.stopped c.in_ok-lines_of.ensures)
+    (drills_as c.args.number c.in_ok-program.program made.made.trace.run made.made.is_complete c.in_ok-lines_of.field-0.items c.in_ok-program.ensures.program made.ensures.serial made.ensures.ends c.in_ok-lines_of.ensures)

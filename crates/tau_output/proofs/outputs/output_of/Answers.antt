@@ -4,7 +4,7 @@ use Rattle.tau_output.proofs.outputs.output_of.Goals as goal
 
 pub returns-in-Run-clause-faulty : goal.returns-in-Run-clause-faulty
 returns-in-Run-clause-faulty c =
-    answer_told c.args.command (Run c.in-Run.workers c.in-Run.jobs c.in-Run.seed c.in-Run.steps) c.args.bytes.now c.run_program.result c.in-Run.is c.requires.bytes c.run_program.ensures.output c.run_program.ensures.fault
+    answer_told c.args.command (Run c.in-Run.workers c.in-Run.jobs c.in-Run.seed c.in-Run.steps) c.args.bytes.now c.write_serial_run.result c.in-Run.is c.requires.bytes c.write_serial_run.ensures.output c.write_serial_run.ensures.fault
 
 pub returns-in-Check-clause-faulty : goal.returns-in-Check-clause-faulty
 returns-in-Check-clause-faulty c =

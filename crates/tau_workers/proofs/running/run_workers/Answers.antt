@@ -1,16 +1,18 @@
-use Rattle.std.proofs.Common.{◌≡◌, IsFalse, length, ap, ◌∙◌, subst}
-use Rattle.tau_trace.specs.Run.{len}
-use Rattle.tau_legal.specs.Traces.{Complete}
+use Rattle.std.proofs.Common.{◌≡◌, length, ap, ◌∙◌, subst}
+use Rattle.tau_legal.specs.Ends.{EndsAt}
 use Rattle.tau_seat.proofs.Sums.{length_upto}
 use Rattle.tau_workers.proofs.running.run_workers.Goals as goal
 
 pub work-requires-clause-numbers : goal.work-requires-clause-numbers
 work-requires-clause-numbers g c κs within = ap length c.in-Ok.ensures.numbers ∙ length_upto 0 c.args.settings.workers
 
-pub returns-in-Some-clause-stopped : goal.returns-in-Some-clause-stopped
-returns-in-Some-clause-stopped g c =
-    let T = c.in-Some.ran.trace.run in
+pub returns-in-Some : goal.returns-in-Some
+returns-in-Some g c =
+    let ran = c.in-Some.ran in
     let program : c.close.result.system.program ≡ c.args.program.now = c.close.ensures.book.program_is ∙ c.in_ok-seat.ensures.seat.1 ∙ c.in-Ok.ensures.program ∙ c.in_ok-book.ensures.program in
     let limit : c.close.result.limit ≡ c.args.settings.limit = c.close.ensures.book.limit_is ∙ c.in_ok-seat.ensures.seat.2 ∙ c.in-Ok.ensures.limit ∙ c.in_ok-book.ensures.limit in
-    subst (λ p. IsFalse c.in-Some.ran.is_complete → (¬ Complete p T) × (len T ≡ c.args.settings.limit)) program
-    (subst (λ n. IsFalse c.in-Some.ran.is_complete → (¬ Complete c.close.result.system.program T) × (len T ≡ n)) limit c.in-Some.ensures.stopped)
+    record {
+      ends =
+          subst (λ p. EndsAt c.args.settings.limit p ran.trace.run ran.is_complete) program
+          (subst (λ n. EndsAt n c.close.result.system.program ran.trace.run ran.is_complete) limit c.in-Some.ensures.ends);
+    }

@@ -8,12 +8,11 @@ use Rattle.tau_states.specs.declared.state_record.StateRecord.{StateRecord}
 use Rattle.tau_states.specs.Effects.{changed}
 use Rattle.tau_states.specs.Table.{Advances}
 use Rattle.tau_legal.specs.Fits.{Fits as FitsAt}
-use Rattle.tau_views.specs.Changes.{own_after, letters_after}
 use Rattle.tau_rules.specs.declared.records.Record.{Record}
 use Rattle.tau_rules.specs.Records.{Changes, HasChanged, sent_value, with_sent}
 use Rattle.tau_rules.specs.System.{Core}
 use Rattle.tau_rules.proofs.ReadinessLemmas.{is_ready}
-use Rattle.tau_rules.proofs.SystemLemmas.{made, views_made}
+use Rattle.tau_rules.proofs.SystemLemmas.{made}
 use Rattle.tau_rules.proofs.system.System.append.Goals as goal
 
 pub prepare-requires-2-clause-ready : goal.prepare-requires-2-clause-ready
@@ -39,13 +38,11 @@ invariant_of-self-2 g c =
     let run : c.push_spare.new.self.run ≡ appended T s = c.push_spare.ensures ∙ ap (λ (R : Run). appended R s) c.in_ok-reserve.ensures.run in
     let states : c.apply.new.self.records ≡ changed c.in_ok-states.states old = c.apply.ensures ∙ ap (changed c.in_ok-states.states) c.in_ok-reserve-2.ensures.records in
     let advances : Advances s old c.apply.new.self.records = subst (λ (rs : List StateRecord). Advances s old rs) (sym states) c.in_ok-states.ensures in
-    let by : HasChanged c.args.change (actor s) c.reserve-5.new.self.items c.change_record.new.records.items = subst (λ (o : Option ℕ). HasChanged c.args.change o c.reserve-5.new.self.items c.change_record.new.records.items) c.actor.ensures c.in_ok-change_record.ensures.ok in
-    let has_changed : HasChanged c.args.change (actor s) c.self.inside.records.items c.change_record.new.records.items = subst (λ (rs : List Record). HasChanged c.args.change (actor s) rs c.change_record.new.records.items) c.in_ok-reserve-5.ensures.items by in
-    let sent : c.keep_sent.new.values.items ≡ with_sent c.self.inside.values.items (sent_value s) = c.keep_sent.ensures ∙ (λ i. with_sent (c.in_ok-reserve-4.ensures.items i) (c.in_ok-sent.ensures i)) in
-    let own : c.apply-2.new.self.own.items ≡ own_after c.in_ok-views.views c.self.inside.views.own.items = c.apply-2.ensures.own ∙ ap (own_after c.in_ok-views.views) c.in_ok-reserve-3.ensures.own in
-    let letters : c.apply-2.new.self.letters.items ≡ letters_after c.in_ok-views.views c.self.inside.views.letters.items = c.apply-2.ensures.letters ∙ ap (letters_after c.in_ok-views.views) c.in_ok-reserve-3.ensures.letters in (
+    let by : HasChanged c.args.change (actor s) c.reserve-4.new.self.items c.change_record.new.records.items = subst (λ (o : Option ℕ). HasChanged c.args.change o c.reserve-4.new.self.items c.change_record.new.records.items) c.actor.ensures c.in_ok-change_record.ensures.ok in
+    let has_changed : HasChanged c.args.change (actor s) c.self.inside.records.items c.change_record.new.records.items = subst (λ (rs : List Record). HasChanged c.args.change (actor s) rs c.change_record.new.records.items) c.in_ok-reserve-4.ensures.items by in
+    let sent : c.keep_sent.new.values.items ≡ with_sent c.self.inside.values.items (sent_value s) = c.keep_sent.ensures ∙ (λ i. with_sent (c.in_ok-reserve-3.ensures.items i) (c.in_ok-sent.ensures i)) in
+    let knows = subst (λ (R : Run). g.K.Knowledge.knows c.apply-2.new.self R) (sym run) (c.apply-2.ensures (appended T s) c.in_ok-heard.ensures.ok) in (
       made P T c.push_spare.new.self.run s c.args.change old c.apply.new.self.records c.self.inside.records.items c.change_record.new.records.items c.keep_newborn.new.records.items c.newborn_of-newborn.result c.self.inside.values.items c.keep_sent.new.values.items
           may fits changes c.self.invariant.0 run advances has_changed c.newborn_of-newborn.ensures c.keep_newborn.ensures sent,
-      views_made g.V.View.drops_edge g.V.View.drops_root g.V.View.held (appended T s) c.push_spare.new.self.run c.apply-2.new.self.own.items (own_after c.in_ok-views.views c.self.inside.views.own.items) c.apply-2.new.self.letters.items (letters_after c.in_ok-views.views c.self.inside.views.letters.items)
-          run own letters c.in_ok-views.ensures,
+      knows,
     )

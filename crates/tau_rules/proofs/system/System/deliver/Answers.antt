@@ -1,12 +1,12 @@
 use Rattle.std.proofs.Common.{◌<◌, ℕ, Some, sym, subst}
-use Rattle.tau_fate.specs.declared.verdict.Verdict as fates
 use Rattle.tau_trace.specs.declared.step.Step.TheVariants.{Drop, Fall, Void}
 use Rattle.tau_trace.specs.Run.{Run, len}
 use Rattle.tau_trace.specs.Numbering.{sent, Receives, InFlight}
 use Rattle.tau_trace.specs.Known.{MayFollow}
 use Rattle.tau_trace.specs.Turns.{IsOpenTurn}
 use Rattle.tau_past.specs.Decisions.{drops, falls, Verdict}
-use Rattle.tau_views.specs.DecisionLaws.{judged}
+use Rattle.tau_knowledge.specs.declared.receipt.Receipt.{Receipt}
+use Rattle.tau_knowledge.specs.Knowing.{judged}
 use Rattle.tau_legal.specs.Fits.{Arrives, ArrivesLate}
 use Rattle.tau_legal.proofs.SafetyLemmas.{keeps_rules}
 use Rattle.tau_legal.proofs.ReceiverLemmas.{receivers_of_fitting}
@@ -74,7 +74,7 @@ append-requires-in-Drop-clause-fits g c =
     let who : ℕ = c.in-Some-target.who in
     let m : ℕ = c.args.message in
     let there : m < sent T (len T) = subst (λ (k : Core). m < sent k.run (len k.run)) (sym c.self.view_is) c.requires.exists in
-    let verdict : Verdict T who (len T) m drops = subst (λ (v : fates.Verdict). Verdict T who (len T) m (judged v)) c.in-Drop.is c.in_ok-verdict.ensures.verdict in
+    let verdict : Verdict T who (len T) m drops = subst (λ (r : Receipt). Verdict T who (len T) m (judged r)) c.in-Drop.is c.in_ok-verdict.ensures in
     subst (λ (k : Core). Arrives k.run who m (len k.run) × Verdict k.run who (len k.run) m drops) c.self.view_is
     (arrives T who m c.end_of.result there c.in_default.ensures c.in-Some-target.ensures c.if-is_some.ensures c.end_of.ensures c.in_default-open_turn.ensures, verdict)
 
@@ -92,6 +92,6 @@ append-requires-in-Fall-clause-fits g c =
     let who : ℕ = c.in-Some-target.who in
     let m : ℕ = c.args.message in
     let there : m < sent T (len T) = subst (λ (k : Core). m < sent k.run (len k.run)) (sym c.self.view_is) c.requires.exists in
-    let verdict : Verdict T who (len T) m falls = subst (λ (v : fates.Verdict). Verdict T who (len T) m (judged v)) c.in-Fall.is c.in_ok-verdict.ensures.verdict in
+    let verdict : Verdict T who (len T) m falls = subst (λ (r : Receipt). Verdict T who (len T) m (judged r)) c.in-Fall.is c.in_ok-verdict.ensures in
     subst (λ (k : Core). Arrives k.run who m (len k.run) × Verdict k.run who (len k.run) m falls) c.self.view_is
     (arrives T who m c.end_of.result there c.in_default.ensures c.in-Some-target.ensures c.if-is_some.ensures c.end_of.ensures c.in_default-open_turn.ensures, verdict)

@@ -7,7 +7,6 @@ use Rattle.tau_script.specs.Openings.{program_opening}
 use Rattle.tau_states.specs.Table.{opened_run}
 use Rattle.tau_tree.specs.declared.posts.Post.{Post}
 use Rattle.tau_tree.specs.declared.starts.Start.{Start}
-use Rattle.tau_views.specs.Kept.{AreViews, held_of, letters_of}
 use Rattle.tau_rules.specs.Records.{HasStarts, HasPosts}
 use Rattle.tau_rules.specs.System.{IsSystem}
 use Rattle.tau_rules.proofs.OpeningLemmas.{opens, length-map}
@@ -26,6 +25,6 @@ invariant_of-result g c =
     (opens P c.in_ok-open.field-0.records c.in_ok-opening_records.field-0.items c.in_ok-posted_values.field-0.items c.requires opening holds starts posts) in
     let starting : length (program_opening P).names ≡ c.len.result = length-map (λ s. s.name) P.starts ∙ sym c.len.ensures in
     let posted : length (program_opening P).targets ≡ c.len-2.result = length-map (λ q. q.to) P.posts ∙ sym c.len-2.ensures in
-    let views = subst (λ (T : Run). AreViews g.V.View.drops_edge g.V.View.drops_root T (held_of g.V.View.held c.in_ok-open-2.field-0.own.items) (letters_of g.V.View.held c.in_ok-open-2.field-0.letters.items)) (sym is)
+    let knows = subst (λ (T : Run). g.K.Knowledge.knows c.in_ok-open-2.field-0 T) (sym is)
     (c.in_ok-open-2.ensures (program_opening P) opening starting posted) in
-    (system, views)
+    (system, knows)

@@ -1,0 +1,20 @@
+use Rattle.std.proofs.Common.{◌≡◌, ◌∙◌, ap, ap₂, sym, List, ℕ, ◌++◌, ◌∷◌, [], Option, Some, refl, subst, rules, arith, length, take, drop}
+use Rattle.tau_disk.specs.Calls.{held, IsImage}
+use Rattle.tau_disk.specs.Inner.{reads_as_held, torn_same}
+use Rattle.tau_disk.specs.Memory.{state_of}
+use Rattle.tau_disk.specs.declared.memory_disk.Call.TheVariants.{Looked, Wrote, Tore, Synced}
+use Rattle.tau_disk.proofs.Answered.{time_goes, bytes_stay, images_stay, durable_after}
+use Rattle.tau_disk.proofs.memory_disk.MemoryDiskDisk.sync.Goals as goal
+
+pub returns-clause-same : goal.returns-clause-same
+returns-clause-same c = ap Some (bytes_stay (state_of c.args.self.now) (state_of c.call.new.self) Synced Looked c.call.result c.call.ensures.after refl refl)
+
+pub returns-clause-time : goal.returns-clause-time
+returns-clause-time c = time_goes (state_of c.args.self.now) (state_of c.call.new.self) Synced Looked c.call.result c.call.ensures.after
+
+pub returns-clause-crash : goal.returns-clause-crash
+returns-clause-crash c = images_stay (state_of c.args.self.now) (state_of c.call.new.self) Synced Looked c.call.result c.call.ensures.after (IsImage c.args.self.now.first.items c.args.self.now.calls.items)
+    (λ e now. subst (IsImage c.args.self.now.first.items c.args.self.now.calls.items) (sym now) (reads_as_held c.args.self.now.first.items c.args.self.now.calls.items c.args.self.now.within)) (λ e now. now) (λ e now. now)
+
+pub returns-clause-durable : goal.returns-clause-durable
+returns-clause-durable c = durable_after (state_of c.args.self.now) (state_of c.call.new.self) c.call.result c.call.ensures.after

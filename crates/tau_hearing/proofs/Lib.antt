@@ -1,0 +1,15 @@
+pub mod Beginnings
+pub mod Births
+pub mod Bounds
+pub mod ByKind
+pub mod Counting
+pub mod Decisions
+pub mod Following
+pub mod Leading
+pub mod Moves
+pub mod Places
+pub mod Ranges
+pub mod Rooms
+pub mod Sending
+pub mod Setting
+pub mod Turns

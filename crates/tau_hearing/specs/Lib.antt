@@ -1,0 +1,14 @@
+pub mod After
+pub mod Bounds
+pub mod Changed
+pub mod Facts
+pub mod Falls
+pub mod Hears
+pub mod Kept
+pub mod Laws
+pub mod Listed
+pub mod Logs
+pub mod Moves
+pub mod Next
+pub mod Opened
+pub mod Turns

@@ -1,0 +1,4 @@
+pub mod Appending
+pub mod Steps
+pub mod Unique
+pub mod Written

@@ -1,0 +1,4 @@
+pub mod Deciding
+pub mod Facts
+pub mod Meeting
+pub mod Positions

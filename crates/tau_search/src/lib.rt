@@ -1,0 +1,16 @@
+//! The search that decides what becomes of a message and whether a transactor is free, over logs that all share
+//! (docs/rules.md, "Known past", "Verdict", "Free").
+#![tactic(auto)]
+
+pub use heard::HeardVersions;
+pub use numbered::{Numbered, Together};
+pub use search::{Search, finds_not_firm};
+
+mod heard;
+pub mod laws;
+mod numbered;
+mod search;
+mod seen;
+#[cfg(test)]
+mod tests;
+mod walk;
