@@ -1,83 +1,101 @@
 #!/usr/bin/env python3
-"""Measures `tau check`, `tau audit` and `tau report` on run texts of 200,000 steps: seconds of the processor, and the peak
-of the memory.
+"""Measures `tau run`, `tau check`, `tau audit`, `tau report` and `tau why` on runs of up to 200,000 steps: seconds of the processor, and
+the peak of the memory.
 
-The texts are written here, as `tau run` would write them without a limit of steps. It builds the program by bin/tau where
-it isn't built, and prints a table. The aim is two seconds for each; `tau check` takes the time of the run that it checks.
+The runs are those of `tau run` with one worker. It builds the program by bin/tau where it isn't built, and prints a table; each
+command is run several times, and the median is shown. The aims are, for `check`, 0.3 seconds for a ring of 64, and one second and 150 MB
+for the ring of 2,000; 0.1 seconds for `run` of the chain; for `why` of the last Hold twice the time of `report`; and two seconds for each.
 """
 
 import os
+import statistics
 import subprocess
 import sys
 import tempfile
 
 import programs
+from run import SAVE, SET, ring
+from steps import chain, created_ring
 
 PROGRAM = programs.place("tau")
-STEPS = 200_000
+RUNS = 5
 
 
-def ring(count, body, turn):
-    """Transactors that hand a message on to the next one, each by the steps of `turn`.
 
-    In both, NEXT is the next one; in `turn`, WHO is the transactor, TAKEN its message and SENT the one that it sends.
-    """
-    lines = ["(nodes 1)"]
-    for number in range(count):
-        following = f"(name t{(number + 1) % count})"
-        lines.append(f"(behaviour b{number} {body.replace('NEXT', following)})")
-    lines += [f"(start t{number} b{number} 0 0)" for number in range(count)]
-    lines += ["(post t0 1)", "(trace)"]
-    steps = []
-    taken = 0
-    while len(steps) < STEPS:
-        places = {"WHO": f"t{taken % count}", "NEXT": f"t{(taken + 1) % count}", "TAKEN": taken, "SENT": taken + 1}
-        for step in turn:
-            for word, place in places.items():
-                step = step.replace(word, str(place))
-            steps.append(step)
-        taken += 1
-    return "\n".join(lines + steps[:STEPS]) + "\n"
+def held(count):
+    """A source that never stabilizes, and a ring that hands its message round: each depends on the source, and is held."""
+    lines = ["(nodes 1)", "(behaviour b0 (seq (set msg) (send (name t1) msg)))"]
+    for number in range(1, count + 1):
+        following = f"(name t{number % count + 1})"
+        lines.append(f"(behaviour b{number} {SAVE.replace('NEXT', following)})")
+    lines += [f"(start t{number} b{number} 0 0)" for number in range(count + 1)]
+    return "\n".join(lines + ["(post t0 1)"]) + "\n"
 
 
-SEND = "(send WHO SENT NEXT 1)"
-SET = ["(take WHO TAKEN)", "(set WHO 1)", SEND, "(done WHO)"]
-SAVE = ["(take WHO TAKEN)", "(set WHO 1)", "(stabilize WHO)", SEND, "(checkpoint WHO)"]
-
-TEXTS = [
-    ("one that sends to itself", ring(1, "(send NEXT msg)", ["(take WHO TAKEN)", SEND, "(done WHO)"])),
-    ("one that sends to itself and checkpoints", ring(1, "(seq (set msg) (stabilize) (send NEXT msg) (checkpoint))", SAVE)),
-    ("a ring of 16 that forwards", ring(16, "(send NEXT msg)", ["(take WHO TAKEN)", SEND, "(done WHO)"])),
-    ("a ring of 16", ring(16, "(seq (set msg) (send NEXT msg))", SET)),
-    ("a ring of 64", ring(64, "(seq (set msg) (send NEXT msg))", SET)),
+PROGRAMS = [
+    ("one that sends to itself", ring(1, "(send NEXT msg)")),
+    ("one that sends to itself and checkpoints", ring(1, SAVE)),
+    ("a ring of 16 that forwards", ring(16, "(send NEXT msg)")),
+    ("a ring of 64", ring(64, SET)),
+    ("a ring of 64 that checkpoints", ring(64, SAVE)),
+    ("a ring of 63 that is held", held(63)),
+    ("a ring of 2,000 created, each sets", created_ring(2_000)),
+    ("a chain of 1,000 created", chain(1_000)),
 ]
+COMMANDS = ["run", "check", "audit", "report", "why"]
 
 
-def measure(command, path):
-    """Prints the row of a command on the text in a file: this process is small, so the peak is that of the program."""
-    with open(path, "rb") as source, tempfile.TemporaryFile() as sink:
-        process = subprocess.Popen([PROGRAM, command], stdin=source, stdout=sink)
+def words_of(command, text):
+    """The words of a command for the run text in a file: `run` reads a program, and `why` asks for the last Hold, where there is one."""
+    if command == "run":
+        return ["run", "--workers", "1", "--steps", "200000"]
+    if command != "why":
+        return [command]
+    with open(text, encoding="utf-8") as file:
+        steps = file.read().split("(trace)\n", 1)[1].split("(report)\n", 1)[0].splitlines()
+    holds = [place for place, step in enumerate(steps) if step.startswith("(hold ")]
+    return ["why", str(holds[-1])] if holds else []
+
+
+def measure(given, taken, words):
+    """Writes what a command writes for a text in a file into another, and prints seconds, memory and status: this process is
+    small, so the peak is that of the program."""
+    with open(given, "rb") as source, open(taken, "wb") as sink:
+        process = subprocess.Popen([PROGRAM, *words], stdin=source, stdout=sink, stderr=subprocess.DEVNULL)
         _, status, usage = os.wait4(process.pid, 0)
         process.returncode = os.waitstatus_to_exitcode(status)
-        sink.seek(0)
-        last = sink.read().decode().strip().split("\n")[-1]
-    processor = usage.ru_utime + usage.ru_stime
-    print(f"{processor:9.2f} {usage.ru_maxrss / 1024:6.0f} {process.returncode:6}  {last[:40]}", flush=True)
+    print(usage.ru_utime + usage.ru_stime, usage.ru_maxrss / 1024, process.returncode)
+
+
+def measured(given, taken, words):
+    """Seconds, memory in MB and status of a command on a text in a file."""
+    call = [sys.executable, os.path.abspath(__file__), given, taken, *words]
+    seconds, memory, status = subprocess.run(call, stdout=subprocess.PIPE, check=True).stdout.split()
+    return float(seconds), float(memory), int(status)
 
 
 def main():
-    if len(sys.argv) == 3:
-        measure(sys.argv[1], sys.argv[2])
+    if len(sys.argv) > 3:
+        measure(sys.argv[1], sys.argv[2], sys.argv[3:])
         return
     programs.prove()
-    print(f"{'text':40} {'command':8} {'processor':>9} {'MB':>6} {'status':>6}  last line")
-    for name, text in TEXTS:
-        with tempfile.NamedTemporaryFile() as source:
-            source.write(text.encode())
-            source.flush()
-            for command in ["check", "audit", "report"]:
-                print(f"{name:40} {command:8} ", end="", flush=True)
-                subprocess.run([sys.executable, os.path.abspath(__file__), command, source.name], check=True)
+    print(f"{'program':44} {'command':8} {'processor':>9} {'MB':>6} {'status':>6}  last line")
+    with tempfile.TemporaryDirectory() as folder:
+        program, text, answer = (os.path.join(folder, name) for name in ("program", "text", "answer"))
+        for name, spelled in PROGRAMS:
+            with open(program, "w", encoding="utf-8") as file:
+                file.write(spelled)
+            for command in COMMANDS:
+                given, taken = (program, text) if command == "run" else (text, answer)
+                words = words_of(command, text)
+                if not words:
+                    continue
+                runs = [measured(given, taken, words) for _ in range(RUNS)]
+                with open(taken, "rb") as file:
+                    last = file.read().decode().strip().split("\n")[-1]
+                seconds, memory = statistics.median(run[0] for run in runs), max(run[1] for run in runs)
+                print(f"{name:44} {command:8} {seconds:9.3f} {memory:6.0f} {runs[0][2]:6}  {last[:40]}", flush=True)
 
 
-main()
+if __name__ == "__main__":
+    main()

@@ -85,7 +85,7 @@ def show_turns():
 
 def show_endings():
     """Prints how many of the runs by 32 workers ended with a legal and complete trace."""
-    text = "# seats" + " 32" * ENDING + "\n" + small(16, 5, 2)
+    text = "# checked" + " 32" * ENDING + "\n" + small(16, 5, 2)
     spent, lines = threads_of(text)
     well = lines.count("32 workers: ended, legal, complete: true, told so: true")
     print(f"\nruns by 32 workers: {well} of {ENDING} ended, legal and complete, in {spent:.1f} s", flush=True)

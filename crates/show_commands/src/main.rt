@@ -1,7 +1,8 @@
 //! Inputs with what `tau` writes for them. Standard input has sections: a line `# WORDS`, and then an input. For each
 //! section the line is written, then what the command of these words writes for the input on one thread, and on a line `; N LINE`
 //! the number of its status and the status's line on standard error. Where the words start one worker, a further line says whether the
-//! call that starts threads does the same.
+//! call that starts threads does the same. After a line `## WORDS` a run text is shown by the number of its steps and the last two
+//! alone, and then by what `check` writes for it.
 #![tactic(auto)]
 
 use std::alloc::{AllocError, Global};
@@ -76,9 +77,14 @@ fn add_section<R: Threads + Wait + Sync>(
     let mut input = SteadySource::new(Vec::from_slice(alloc, section)?);
     let mut output = SteadySink::new(alloc);
     let status = tau_still(alloc, &words, &mut input, &mut output);
+    let is_long = line.starts_with(b"##");
     text.extend_from_slice(line)?;
     text.push(b'\n')?;
-    text.extend_from_slice(output.bytes())?;
+    if is_long {
+        add_last_steps(alloc, text, output.bytes())?;
+    } else {
+        text.extend_from_slice(output.bytes())?;
+    }
     add_status(alloc, text, status)?;
     if starts_one_worker(alloc, &words) {
         let mut input = SteadySource::new(Vec::from_slice(alloc, section)?);
@@ -90,7 +96,36 @@ fn add_section<R: Threads + Wait + Sync>(
         text.extend_from_slice(line.as_bytes())?;
         text.push(b'\n')?;
     }
+    if is_long {
+        add_check(alloc, text, output.bytes())?;
+    }
     Ok(())
+}
+
+/// Adds how many steps a run text has, and the last two.
+fn add_last_steps(alloc: Global, text: &mut Vec<u8>, run: &[u8]) -> Result<(), AllocError> {
+    let run = str::from_utf8(run).unwrap_or("");
+    let (_, steps) = run.split_once("(trace)\n").unwrap_or((run, ""));
+    let (steps, _) = steps.split_once("(report)\n").unwrap_or((steps, ""));
+    let mut shown = String::new(alloc);
+    let count = steps.lines().count();
+    writeln!(shown, "; {count} steps, and the last two are")?;
+    for step in steps.lines().skip(count.saturating_sub(2)) {
+        writeln!(shown, "{step}")?;
+    }
+    text.extend_from_slice(shown.as_bytes())
+}
+
+/// Adds the number of the status of `check` on a run text, and what it writes.
+fn add_check(alloc: Global, text: &mut Vec<u8>, run: &[u8]) -> Result<(), AllocError> {
+    let words = words_of(alloc, b"# check")?;
+    let mut input = SteadySource::new(Vec::from_slice(alloc, run)?);
+    let mut output = SteadySink::new(alloc);
+    let status = tau_still(alloc, &words, &mut input, &mut output);
+    text.extend_from_slice(b"; check ")?;
+    text.extend_from_slice(number(&status).to_string(alloc)?.as_bytes())?;
+    text.push(b'\n')?;
+    text.extend_from_slice(output.bytes())
 }
 
 /// Whether the words are those of `run` with one worker.
@@ -104,7 +139,7 @@ fn starts_one_worker(alloc: Global, words: &Words) -> bool {
 /// Adds a line with the number of a status, and the line that the program prints for it.
 fn add_status(alloc: Global, text: &mut Vec<u8>, status: Status) -> Result<(), AllocError> {
     text.extend_from_slice(b"; ")?;
-    text.push(b'0' + number(&status) % 10)?;
+    text.extend_from_slice(number(&status).to_string(alloc)?.as_bytes())?;
     if status != Status::Done {
         text.push(b' ')?;
         text.extend_from_slice(status.to_string(alloc)?.as_bytes())?;

@@ -1,25 +1,33 @@
-//! Calls of the system, one after another, over views of both types. Standard input has sections: a line `# VIEWS NAME`, where
-//! VIEWS is `full`, `pruned` or `both`, then a program, a line `(calls)`, and calls, one a line. For each section the line is
-//! written, and for each type of view what the calls answer: a step that was made, or why none was, or what was asked for.
+//! Calls of the system, one after another. Standard input has sections: a line `# WHAT NAME`, then a program, a line `(calls)`, and
+//! calls, one a line. For each section the line is written, and what the calls answer: a step that was made, or why none was, or what
+//! was asked for. With `full` and `pruned` the system keeps views of that type. With `hearing` it keeps numbers of versions, and full
+//! views are made anew for each question. With `both` it is run over views of each type, and each time a line tells whether a system
+//! that keeps numbers of versions answers the same, by views of this type.
 #![tactic(auto)]
 
 ghost use Rattle.std.specs.Prelude.{IfSome};
 ghost use Rattle.tau_tree.specs.Sound.{Sound};
 
 mod answers;
+mod heard;
 mod run;
 mod showing;
+mod viewed;
 
+use crate::heard::show_heard;
 use crate::run::Run;
 use crate::showing::Shown;
+use crate::viewed::show_viewed;
 use std::alloc::{AllocError, Global};
 use std::process::ExitCode;
 use tau_compact::PrunedView;
 use tau_forms::program_of;
+use tau_hearing::Hearing;
 use tau_io::{StdSink, StdSource, read_all, write_all_of};
 use tau_sexpr::read_forms;
 use tau_tree::Program;
 use tau_view::FullView;
+use tau_views::Views;
 
 fn main(rt: HostRuntime) -> ExitCode {
     let alloc = rt.alloc();
@@ -107,16 +115,26 @@ fn add_section(
     let Some(program) = program_from(alloc, program) else {
         return text.push_str("(no program)\n");
     };
-    let views = line.split_whitespace().nth(1).unwrap_or("");
-    if views != "pruned" {
-        text.push_str("; full\n")?;
-        add_run::<FullView>(alloc, text, &program, calls)?;
+    match line.split_whitespace().nth(1).unwrap_or("") {
+        "full" => {
+            text.push_str("; full\n")?;
+            add_viewed::<FullView>(alloc, text, &program, calls)
+        }
+        "pruned" => {
+            text.push_str("; pruned\n")?;
+            add_viewed::<PrunedView>(alloc, text, &program, calls)
+        }
+        "hearing" => {
+            text.push_str("; hearing\n")?;
+            add_heard::<FullView>(alloc, text, &program, calls)
+        }
+        _ => {
+            text.push_str("; full\n")?;
+            add_both::<FullView>(alloc, text, &program, calls)?;
+            text.push_str("; pruned\n")?;
+            add_both::<PrunedView>(alloc, text, &program, calls)
+        }
     }
-    if views != "full" {
-        text.push_str("; pruned\n")?;
-        add_run::<PrunedView>(alloc, text, &program, calls)?;
-    }
-    Ok(())
 }
 
 /// The program that bytes spell.
@@ -132,8 +150,9 @@ fn program_from(alloc: Global, bytes: &[u8]) -> Option<Program>
     }
 }
 
-/// Adds what the calls answer on a run of the program.
-fn add_run<V: Shown>(
+/// Adds what the calls answer on a run of the program over views, and whether a system that keeps numbers of versions answers the
+/// same.
+fn add_both<V: Shown>(
     alloc: Global,
     text: &mut String,
     program: &Program,
@@ -141,14 +160,76 @@ fn add_run<V: Shown>(
 ) -> Result<(), AllocError>
     requires { Sound program.now }
 {
-    let mut run: Run<V> = Run::open(alloc, program)?;
+    let mut viewed = String::new(alloc);
+    add_viewed::<V>(alloc, &mut viewed, program, calls)?;
+    text.push_str(&viewed)?;
+    let mut heard = String::new(alloc);
+    add_heard::<V>(alloc, &mut heard, program, calls)?;
+    if heard.as_bytes() == viewed.as_bytes() {
+        text.push_str("; the same by numbers of versions\n")
+    } else {
+        text.push_str("; by numbers of versions\n")?;
+        text.push_str(&heard)
+    }
+}
+
+/// Adds what the calls answer on a run of the program over views.
+fn add_viewed<V: Shown>(
+    alloc: Global,
+    text: &mut String,
+    program: &Program,
+    calls: &[u8],
+) -> Result<(), AllocError>
+    requires { Sound program.now }
+{
+    let mut run: Run<Views<V>> = Run::open(alloc, program)?;
     let mut rest = calls;
     for _ in 0..calls.len() {
         let Some((line, after)) = line_of(rest) else {
             break;
         };
-        run.call(text, str::from_utf8(line).unwrap_or(""))?;
+        let (verb, number, value) = words_of(str::from_utf8(line).unwrap_or(""));
+        if !run.make(text, verb, number, value)? {
+            show_viewed(alloc, text, &run.system, verb, number)?;
+        }
         rest = after;
     }
     Ok(())
+}
+
+/// Adds what the calls answer on a run of the program over numbers of versions, with views of this type where one is asked for.
+fn add_heard<V: Shown>(
+    alloc: Global,
+    text: &mut String,
+    program: &Program,
+    calls: &[u8],
+) -> Result<(), AllocError>
+    requires { Sound program.now }
+{
+    let mut run: Run<Hearing> = Run::open(alloc, program)?;
+    let mut rest = calls;
+    for _ in 0..calls.len() {
+        let Some((line, after)) = line_of(rest) else {
+            break;
+        };
+        let (verb, number, value) = words_of(str::from_utf8(line).unwrap_or(""));
+        if !run.make(text, verb, number, value)? {
+            show_heard::<V>(alloc, text, &run.system, verb, number)?;
+        }
+        rest = after;
+    }
+    Ok(())
+}
+
+/// The verb of a call and its two numbers, 0 where none stands.
+fn words_of(line: &str) -> (&str, u32, u32) {
+    let mut words = line.split_whitespace();
+    let verb = words.next().unwrap_or("");
+    let number = words.next().and_then(number_of).unwrap_or(0);
+    let value = words.next().and_then(number_of).unwrap_or(0);
+    (verb, number, value)
+}
+
+fn number_of(word: &str) -> Option<u32> {
+    word.parse().ok()
 }

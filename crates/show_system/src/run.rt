@@ -2,25 +2,25 @@
 ghost use Rattle.tau_tree.specs.Sound.{Sound};
 
 use crate::answers::Answer;
-use crate::showing::{Shown, add_step};
+use crate::showing::add_step;
 use std::alloc::{AllocError, Global};
 use tau_eval::{Job, begin};
+use tau_knowledge::Knowledge;
 use tau_rules::{ActError, Acted, DeliverError, Delivered, FailError, LoseError, System};
 use tau_tree::Program;
 use tau_value::{STEP_LIMIT, Value};
-use tau_views::Views;
 
 /// A system, and the jobs that it handed out.
 #[derive(Drop)]
-pub(crate) struct Run<'p, V: Shown> {
-    pub(crate) alloc: Global,
-    pub(crate) system: System<'p, Views<V>>,
+pub(crate) struct Run<'p, K: Knowledge + Drop> {
+    alloc: Global,
+    pub(crate) system: System<'p, K>,
     jobs: Vec<Job<'p>>,
 }
 
-impl<'p, V: Shown> Run<'p, V> {
+impl<'p, K: Knowledge + Drop> Run<'p, K> {
     /// The run of a program before its first step.
-    pub(crate) fn open(alloc: Global, program: &'p Program) -> Result<Run<'p, V>, AllocError>
+    pub(crate) fn open(alloc: Global, program: &'p Program) -> Result<Run<'p, K>, AllocError>
         requires { Sound program.now }
     {
         Ok(Run {
@@ -30,21 +30,24 @@ impl<'p, V: Shown> Run<'p, V> {
         })
     }
 
-    /// Makes the call of a line, and adds what it answers to the text: a verb and up to two numbers.
-    pub(crate) fn call(&mut self, text: &mut String, line: &str) -> Result<(), AllocError> {
-        let mut words = line.split_whitespace();
-        let verb = words.next().unwrap_or("");
-        let number = words.next().and_then(number_of).unwrap_or(0);
-        let value = words.next().and_then(number_of).unwrap_or(0);
+    /// Makes a call that makes steps or keeps a job, and adds what it answers to the text. `false` where the verb names none.
+    pub(crate) fn make(
+        &mut self,
+        text: &mut String,
+        verb: &str,
+        number: u32,
+        value: u32,
+    ) -> Result<bool, AllocError> {
         match verb {
-            "run" => self.run(text, number),
-            "begin" => self.begin(number, value),
+            "run" => self.run(text, number)?,
+            "begin" => self.begin(number, value)?,
             "deliver" | "act" | "fail" | "lose" => {
                 let answer = self.step(verb, number)?;
-                self.tell(text, answer)
+                self.tell(text, answer)?;
             }
-            _ => self.show(text, verb, number),
+            _ => return Ok(false),
         }
+        Ok(true)
     }
 
     /// Makes a call that makes a step.
@@ -187,8 +190,4 @@ impl<'p, V: Shown> Run<'p, V> {
         }
         trace.sent()
     }
-}
-
-fn number_of(word: &str) -> Option<u32> {
-    word.parse().ok()
 }

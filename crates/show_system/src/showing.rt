@@ -1,13 +1,12 @@
 //! Steps, histories, views and what they decide, as text.
-ghost use Rattle.std.specs.Prelude.{◌≡◌, ◌<◌, IfSome};
-ghost use Rattle.tau_view.specs.Held.{AllComparable};
+ghost use Rattle.std.specs.Prelude.{◌<◌};
 ghost use Rattle.tau_trace.specs.Run.{len};
 
-use crate::run::Run;
 use std::alloc::{AllocError, Global};
 use tau_compact::PrunedView;
-use tau_fate::{Freedom, Verdict, free, judge};
+use tau_fate::{Freedom, Verdict, free};
 use tau_history::History;
+use tau_knowledge::Knowledge;
 use tau_points::{Point, Relation};
 use tau_rules::{Standing, System};
 use tau_sexpr::{Forms, print_forms};
@@ -15,7 +14,6 @@ use tau_steps::form_of_step;
 use tau_trace::Trace;
 use tau_value::Value;
 use tau_view::{FullView, View};
-use tau_views::Views;
 
 /// A view whose edges can be shown.
 pub(crate) trait Shown: View + Drop {
@@ -35,35 +33,18 @@ impl Shown for PrunedView {
     }
 }
 
-impl<'p, V: Shown> Run<'p, V> {
-    /// Adds what a call asks for: the standing, state, saved state, history or view of a transactor, whether it is free, the view
-    /// of a message, or the verdict on it.
-    pub(crate) fn show(
-        &self,
-        text: &mut String,
-        verb: &str,
-        number: u32,
-    ) -> Result<(), AllocError> {
-        let born = self.system.trace().born();
-        match verb {
-            "standing" => add_standing(text, number, self.system.standing(number)),
-            "state" => add_state(text, verb, number, self.system.state_of(number)),
-            "saved" => add_state(text, verb, number, self.system.saved_of(number)),
-            "history" => add_history(text, number, self.system.history_of(number)).and_then(
-                |()| text.push('\n'),
-            ),
-            "view" => match self.system.view_of(number) {
-                Some(view) => add_view(text, born, view),
-                None => text.push_str("(no view)\n"),
-            },
-            "message" => match self.system.message_view(number) {
-                Some(view) => add_view(text, born, view),
-                None => text.push_str("(no view)\n"),
-            },
-            "free" => add_freedom(self.alloc, text, &self.system, number),
-            "verdict" => add_verdict(self.alloc, text, &self.system, number),
-            _ => text.push_str("(no call)\n"),
-        }
+/// Adds what a call asks of a system over whatever it knows: the standing, the state or the saved state of a transactor.
+pub(crate) fn add_standing_or_state<K: Knowledge + Drop>(
+    text: &mut String,
+    system: &System<'_, K>,
+    verb: &str,
+    number: u32,
+) -> Result<(), AllocError> {
+    match verb {
+        "standing" => add_standing(text, number, system.standing(number)),
+        "state" => add_state(text, verb, number, system.state_of(number)),
+        "saved" => add_state(text, verb, number, system.saved_of(number)),
+        _ => text.push_str("(no call)\n"),
     }
 }
 
@@ -111,6 +92,16 @@ fn add_state(
     }
 }
 
+/// Adds the history of a transactor, on a line.
+pub(crate) fn add_history_line(
+    text: &mut String,
+    who: u32,
+    history: Option<&History>,
+) -> Result<(), AllocError> {
+    add_history(text, who, history)?;
+    text.push('\n')
+}
+
 /// Adds a history: its transactor, its mode, and its numbers.
 fn add_history(text: &mut String, who: u32, history: Option<&History>) -> Result<(), AllocError> {
     let Some(history) = history else {
@@ -131,7 +122,14 @@ fn add_point(text: &mut String, point: &Point) -> Result<(), AllocError> {
 }
 
 /// Adds a view: its histories of the transactors below a number, its edges and its roots.
-fn add_view<V: Shown>(text: &mut String, born: u32, view: &V) -> Result<(), AllocError> {
+pub(crate) fn add_view<V: Shown>(
+    text: &mut String,
+    born: u32,
+    view: Option<&V>,
+) -> Result<(), AllocError> {
+    let Some(view) = view else {
+        return text.push_str("(no view)\n");
+    };
     text.push_str("(view")?;
     for who in 0..born {
         if view.history_of(who).is_some() {
@@ -153,27 +151,20 @@ fn add_view<V: Shown>(text: &mut String, born: u32, view: &V) -> Result<(), Allo
     text.push_str("))\n")
 }
 
-/// The own point of a transactor.
-fn own_point<V: Shown>(system: &System<'_, Views<V>>, who: u32) -> Option<Point> {
-    let history = system.history_of(who)?;
-    Some(Point {
-        who,
-        interval: history.interval(),
-        incarnation: history.incarnation(),
-    })
-}
-
 /// Adds whether a transactor is free, by its view.
-fn add_freedom<V: Shown>(
+pub(crate) fn add_freedom<V: Shown>(
     alloc: Global,
     text: &mut String,
-    system: &System<'_, Views<V>>,
     who: u32,
+    view: Option<&V>,
 ) -> Result<(), AllocError> {
-    let (Some(view), Some(point)) = (system.view_of(who), own_point(system, who)) else {
+    let Some(view) = view else {
         return text.push_str("(no view)\n");
     };
-    match free(alloc, view, point)? {
+    let Some(history) = view.history_of(who) else {
+        return text.push_str("(no view)\n");
+    };
+    match free(alloc, view, point_of(who, history))? {
         Freedom::Free => text.push_str("(free)\n"),
         Freedom::Bound { point } => {
             text.push_str("(bound")?;
@@ -183,45 +174,24 @@ fn add_freedom<V: Shown>(
     }
 }
 
-/// Adds the verdict on a message in flight, by the views.
-fn add_verdict<V: Shown>(
-    alloc: Global,
-    text: &mut String,
-    system: &System<'_, Views<V>>,
-    message: u32,
-) -> Result<(), AllocError> {
-    let Some(who) = system.trace().target(message) else {
-        return text.push_str("(no view)\n");
-    };
-    let (Some(point), Some(letter)) = (own_point(system, who), system.message_view(message)) else {
-        return text.push_str("(no view)\n");
-    };
-    let Some(merged) = merged_view(system, who, message)? else {
-        return text.push_str("(no view)\n");
-    };
-    let (word, point) = match judge(alloc, &merged, point, letter)? {
-        Verdict::Take => return text.push_str("(verdict take)\n"),
-        Verdict::Drop { point } => ("drop", point),
-        Verdict::Fall { point } => ("fall", point),
+/// The point of a transactor with a history.
+pub(crate) fn point_of(who: u32, history: &History) -> Point {
+    Point {
+        who,
+        interval: history.interval(),
+        incarnation: history.incarnation(),
+    }
+}
+
+/// Adds the verdict on a message in flight.
+pub(crate) fn add_verdict(text: &mut String, verdict: Option<Verdict>) -> Result<(), AllocError> {
+    let (word, point) = match verdict {
+        None => return text.push_str("(no view)\n"),
+        Some(Verdict::Take) => return text.push_str("(verdict take)\n"),
+        Some(Verdict::Drop { point }) => ("drop", point),
+        Some(Verdict::Fall { point }) => ("fall", point),
     };
     write!(text, "(verdict {word}")?;
     add_point(text, &point)?;
     text.push_str(")\n")
-}
-
-/// The view of a transactor with the facts of a message in flight.
-fn merged_view<V: Shown>(
-    system: &System<'_, Views<V>>,
-    who: u32,
-    message: u32,
-) -> Result<Option<V>, AllocError> {
-    if message >= system.trace().sent() || who >= system.trace().born() {
-        return Ok(None);
-    }
-    let (Some(own), Some(letter)) = (system.view_of(who), system.message_view(message)) else {
-        return Ok(None);
-    };
-    let mut merged = own.try_copy()?;
-    merged.merge_facts(letter)?;
-    Ok(Some(merged))
 }

@@ -7,9 +7,8 @@ use std::alloc::{AllocError, Global};
 use std::sync::Wait;
 use std::thread::Threads;
 use tau_book::{Book, Hand};
-use tau_compact::PrunedView;
+use tau_hearing::Hearing;
 use tau_tree::Program;
-use tau_views::Views;
 use tau_workers::{LockedBook, OpenGate, Settings, Worker, run};
 
 /// Runs the program by workers on a book under a lock, and adds that the run ended, and whether it is complete.
@@ -25,7 +24,7 @@ pub fn add_locked<R: Threads + Wait + Sync>(
     requires few { settings.jobs ≤ 16 }
     requires limit { settings.limit ≤ STEP_LIMIT }
 {
-    let book: Book<'_, Views<PrunedView>> = Book::open(alloc, program, settings.limit)?;
+    let book: Book<'_, Hearing> = Book::open(alloc, program, settings.limit)?;
     let locked = LockedBook::new(book);
     work(rt, alloc, &locked, settings)?;
     let is_complete = locked.into_book().finished() == Some(true);
@@ -40,7 +39,7 @@ pub fn add_locked<R: Threads + Wait + Sync>(
 fn work<'p, R: Threads + Wait + Sync>(
     rt: &R,
     alloc: Global,
-    locked: &LockedBook<'p, Views<PrunedView>>,
+    locked: &LockedBook<'p, Hearing>,
     settings: Settings,
 ) -> Result<(), AllocError>
     requires jobs { 1 ≤ settings.jobs }
@@ -54,9 +53,9 @@ fn work<'p, R: Threads + Wait + Sync>(
 /// The workers before their first step.
 fn make_workers<'b, 'p>(
     alloc: Global,
-    locked: &'b LockedBook<'p, Views<PrunedView>>,
+    locked: &'b LockedBook<'p, Hearing>,
     settings: Settings,
-) -> Result<Vec<Worker<'p, &'b LockedBook<'p, Views<PrunedView>>>>, AllocError>
+) -> Result<Vec<Worker<'p, &'b LockedBook<'p, Hearing>>>, AllocError>
     requires jobs { 1 ≤ settings.jobs }
     requires few { settings.jobs ≤ 16 }
 {

@@ -1,7 +1,7 @@
 //! Runs of programs by workers, and turns of a seat. Standard input has sections: a line `# WAY NUMBER..`, then a program. For each
-//! number a line tells what came of it. With `seats` so many workers run the program on seats, as `run_workers` does it: whether the
-//! run ended, and whether its trace is legal and complete. With `lock` they run it on a book under a lock; with `both` on seats, then
-//! under a lock. With `turns` one seat takes so many turns.
+//! number a line tells what came of it. With `seats` so many workers run the program on seats, as `run_workers` does it, and with `lock`
+//! on a book under a lock: whether the run ended, and whether it is told as complete. With `checked` they run it on seats, and the trace
+//! is checked: whether it is legal and complete. With `both` it is `checked`, then `lock`. With `turns` one seat takes so many turns.
 #![tactic(auto)]
 
 ghost use Rattle.std.specs.Prelude.{◌≤◌, IfOk, IfSome};
@@ -95,9 +95,10 @@ fn add_number<R: Threads + Wait + Sync>(
     };
     match way {
         "seats" => add_run(rt, alloc, text, program, settings),
+        "checked" => add_checked(rt, alloc, text, program, settings),
         "lock" => add_locked(rt, alloc, text, program, settings),
         "both" => {
-            add_run(rt, alloc, text, program, settings)?;
+            add_checked(rt, alloc, text, program, settings)?;
             add_locked(rt, alloc, text, program, settings)
         }
         "turns" => add_turns(rt, alloc, text, program, number),
@@ -118,8 +119,31 @@ fn program_from(alloc: Global, bytes: &[u8]) -> Option<Program>
     }
 }
 
-/// Runs the program, and adds that the run ended, and what its trace is.
+/// Runs the program on seats, and adds that the run ended, and whether it is told as complete.
 fn add_run<R: Threads + Wait + Sync>(
+    rt: &R,
+    alloc: Global,
+    text: &mut String,
+    program: &Program,
+    settings: Settings,
+) -> Result<(), AllocError>
+    requires sound { Sound program.now }
+    requires some { 1 ≤ settings.workers }
+    requires jobs { 1 ≤ settings.jobs }
+    requires few { settings.jobs ≤ 16 }
+    requires limit { settings.limit ≤ STEP_LIMIT }
+{
+    let ran = run_workers(rt, alloc, program, settings, &OpenGate)?;
+    let workers = settings.workers;
+    writeln!(
+        text,
+        "{workers} workers: ended, complete: {}",
+        ran.is_complete
+    )
+}
+
+/// Runs the program on seats, and adds that the run ended, and what its trace is.
+fn add_checked<R: Threads + Wait + Sync>(
     rt: &R,
     alloc: Global,
     text: &mut String,

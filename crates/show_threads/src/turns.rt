@@ -6,10 +6,9 @@ ghost use Rattle.tau_seat.specs.Seated.{Stays};
 use std::alloc::{AllocError, Global};
 use std::sync::Wait;
 use tau_book::{Book, Hand};
-use tau_compact::PrunedView;
+use tau_hearing::Hearing;
 use tau_seat::{BookSeat, SeatBook};
 use tau_tree::Program;
-use tau_views::Views;
 
 /// Lets one seat take so many turns at the book of a program, in each of which it gives back the jobs of an empty hand, and adds how many
 /// steps the book has that comes back.
@@ -22,7 +21,7 @@ pub fn add_turns<R: Wait>(
 ) -> Result<(), AllocError>
     requires { Sound program.now }
 {
-    let book: Book<'_, Views<PrunedView>> = Book::open(alloc, program, 1_000)?;
+    let book: Book<'_, Hearing> = Book::open(alloc, program, 1_000)?;
     let Ok((table, mut seat)) = SeatBook::new(alloc, book, 1) else {
         return Err(AllocError);
     };
@@ -35,8 +34,8 @@ pub fn add_turns<R: Wait>(
 /// So many turns of a seat.
 fn take_turns<'p, R: Wait>(
     rt: &R,
-    table: &SeatBook<'p, Views<PrunedView>>,
-    seat: &mut BookSeat<'p, Views<PrunedView>>,
+    table: &SeatBook<'p, Hearing>,
+    seat: &mut BookSeat<'p, Hearing>,
     hand: &mut Hand<'p>,
     turns: u32,
 )

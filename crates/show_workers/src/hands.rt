@@ -3,16 +3,15 @@ ghost use Rattle.tau_tree.specs.Sound.{Sound};
 
 use std::alloc::{AllocError, Global};
 use tau_book::{Book, Hand, Next};
-use tau_compact::PrunedView;
+use tau_hearing::Hearing;
 use tau_tree::Program;
-use tau_views::Views;
 
 /// Adds what a book answers to two hands, where the program has one post: the first hand takes it, and the second one is idle until the
 /// first has given its job back.
 pub fn add_hands(alloc: Global, text: &mut String, program: &Program) -> Result<(), AllocError>
     requires { Sound program.now }
 {
-    let mut book: Book<'_, Views<PrunedView>> = Book::open(alloc, program, 1_000)?;
+    let mut book: Book<'_, Hearing> = Book::open(alloc, program, 1_000)?;
     let mut first = Hand::new(alloc, 0, 1)?;
     let mut second = Hand::new(alloc, 1, 1)?;
     let answer = book.next(&mut first)?;
@@ -33,7 +32,8 @@ pub fn add_hands(alloc: Global, text: &mut String, program: &Program) -> Result<
     writeln!(text, "the second hand asks: {}", name_of(&answer))
 }
 
-fn name_of(answer: &Next<'_>) -> &'static str {
+/// The name of an answer.
+pub fn name_of(answer: &Next<'_>) -> &'static str {
     match answer {
         Next::Work(_) => "Work",
         Next::Stepped => "Stepped",

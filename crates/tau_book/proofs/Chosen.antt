@@ -54,7 +54,7 @@ any_has : (ts : List ℕ) (q : ℕ) → list_any (λ p. eqb p q) ts ≡ true →
 any_has [] q h = absurd (cc)
 any_has (t ∷ ts) q h = any_step t q ts (eqb t q) refl (any_has ts q) h
 
-has_any : (ts : List ℕ) (q : ℕ) → Contains ts q → list_any (λ p. eqb p q) ts ≡ true
+pub has_any : (ts : List ℕ) (q : ℕ) → Contains ts q → list_any (λ p. eqb p q) ts ≡ true
 has_any ts q c = list_any_at (λ p. eqb p q) ts c.0 q c.1 (eq-eqb (get_or ts c.0 q) q c.2)
 
 -- different turns

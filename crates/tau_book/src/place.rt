@@ -1,5 +1,6 @@
 //! Places on a book.
 ghost use Rattle.std.specs.Prelude.{◌≡◌, ◌<◌, ◌≤◌, [], Bool, Option, IsSome, IsTrue, IfOk, IfErr, OnErr, length};
+ghost use Rattle.tau_eval.specs.Turn.{TurnSoFar};
 ghost use Rattle.tau_book.specs.Places.{End, EndsBy, IsNotIdle, LeavesRoom, ComesBack};
 ghost use Rattle.tau_book.specs.Lefts.{IsLeftOf};
 
@@ -9,7 +10,8 @@ use std::sync::Wait;
 use tau_eval::Pending;
 
 /// A place from which a worker makes the calls of a book that others may call too (docs/rules.md, "Choice of a worker"). It has a
-/// key, which stays, and where its type tells ends, the end that `next` told, if it told one.
+/// key, which stays, and where its type tells ends, the end that `next` told, if it told one. Where its type sees the trace, it says of
+/// which jobs a place has seen, from one state of it to a later one, that their turn is over.
 pub trait StepPlace<'p> {
     ghost Key: { Type 0 };
 
@@ -19,15 +21,17 @@ pub trait StepPlace<'p> {
 
     ghost end: { Self → Option End };
 
-    /// `next` of the book. Where the book is `Idle`, it waits and asks again. Without memory no word was drawn and no job has come,
-    /// and of the hand's jobs at most those are given up that an `Idle` gives up.
+    ghost sees_over: { Self → Self → TurnSoFar → Type 0 };
+
+    /// `next` of the book. Where the book is `Idle`, it waits and asks again. Without memory no word was drawn, no job has come, and
+    /// the hand keeps each job but those whose turn the place has seen over in this call.
     fn next<R: Wait>(&mut self, rt: &R, hand: &mut Hand<'p>) -> Result<Next<'p>, AllocError>
         ensures key { key self.new ≡ key self.old }
         ensures end { IsTrue tells_end → IfOk result (EndsBy (end self.new)) }
         ensures stays { IsSome (end self.old) → end self.new ≡ end self.old }
         ensures never_idle { IfOk result IsNotIdle }
         ensures room { IfOk result (LeavesRoom hand.new) }
-        ensures hand_on_err { OnErr result (IsLeftOf hand.old hand.new) }
+        ensures hand_on_err { OnErr result (IsLeftOf (sees_over self.old self.new) hand.old hand.new) }
         ensures size { hand.new.size ≡ hand.old.size };
 
     /// `act` of the book.

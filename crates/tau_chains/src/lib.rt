@@ -9,8 +9,6 @@ mod nearest;
 mod places;
 mod points;
 mod searching;
-#[cfg(test)]
-mod tests;
 mod turned;
 
 pub use chain::Chain;

@@ -21,19 +21,18 @@ use crate::making::{make_due, make_step};
 use crate::reading::{has_made, length, open_turn};
 use crate::same::same_step;
 use std::alloc::{AllocError, Global};
-use tau_compact::PrunedView;
 use tau_eval::{Job, Pending};
+use tau_hearing::Hearing;
 use tau_rules::{DeliverError, System};
 use tau_script::{Cursor, passed};
 use tau_trace::Step;
 use tau_tree::Program;
-use tau_views::Views;
 
 /// The system of the steps before a place, the cursor of the script there, and the jobs of the open turns, each at the place
 /// of its transactor.
 #[derive(Drop)]
 pub(crate) struct Checker<'p> {
-    system: System<'p, Views<PrunedView>>,
+    system: System<'p, Hearing>,
     cursor: Cursor,
     jobs: Vec<Option<Job<'p>>>,
 }

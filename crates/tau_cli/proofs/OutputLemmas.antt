@@ -1,11 +1,12 @@
 -- What the words of a command line come to.
-use Rattle.std.proofs.Common.{◌≡◌, ◌⊎◌, inr, ℕ, List, Option, Some, None, IsTrue, refl, sym, ◌∙◌, subst}
+use Rattle.std.proofs.Common.{◌≡◌, ◌⊎◌, inl, inr, ℕ, List, Option, Some, None, IsTrue, refl, sym, ◌∙◌, subst}
 use Rattle.tau_command.specs.declared.commands.Command.{Command}
+use Rattle.tau_command.specs.declared.commands.Command.TheVariants.{Why}
 use Rattle.tau_command.specs.Commands.{command_of}
 use Rattle.tau_output.specs.declared.outputs.End.{End}
 use Rattle.tau_output.specs.Faults.{reads_input, IsInputFault}
 use Rattle.tau_cli.specs.declared.statuses.Status.{Status}
-use Rattle.tau_cli.specs.declared.statuses.Status.TheVariants.{Words, Input, ReadFault, NoMemory}
+use Rattle.tau_cli.specs.declared.statuses.Status.TheVariants.{Words, Input, ReadFault, NoMemory, Place}
 use Rattle.tau_cli.specs.Status.{of_end}
 use Rattle.tau_cli.specs.Output.{Writing, AreLeft, IsEndOf, IsOutput, Stops}
 
@@ -30,5 +31,9 @@ stops_without_fault (Input a b) words left U R command bytes h e l f r =
     let read : h.bytes ≡ bytes = left_told left h.bytes bytes h.are_left l in
     absurd (f a b (subst (λ x. IsInputFault x bytes a b) same (subst (λ x. IsInputFault h.command x a b) read h.has_fault)))
 stops_without_fault ReadFault words left U R command bytes h e l f r = absurd (r h.1)
+stops_without_fault (Place place) words left U R command bytes h e l f r =
+    let g : Some (Why place) ≡ Some command = sym h.is_command ∙ e in
+    let same : Why place ≡ command = cc in
+    inl (subst (λ x. IsEndOf x (Place place)) same (inr refl))
 stops_without_fault NoMemory words left U R command bytes h e l f r = inr refl
 stops_without_fault s words left U R command bytes h e l f r = absurd h

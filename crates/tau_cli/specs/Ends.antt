@@ -5,12 +5,14 @@ use Rattle.tau_io.specs.Faults.{HasRisen}
 use Rattle.tau_io.specs.Put.{AppendsFront}
 use Rattle.tau_command.specs.declared.commands.Command.{Command}
 use Rattle.tau_command.specs.declared.commands.WordsError.{WordsError}
+use Rattle.tau_command.specs.declared.commands.Command.TheVariants.{Why}
 use Rattle.tau_command.specs.Commands.{command_of}
 use Rattle.tau_output.specs.declared.outputs.Output.{Output}
 use Rattle.tau_output.specs.Faults.{reads_input, IsInputFault}
+use Rattle.tau_output.specs.Explaining.{IsNotAsked}
 use Rattle.tau_cli.specs.declared.statuses.Status.{Status}
-use Rattle.tau_cli.specs.declared.statuses.Status.TheVariants.{Words, Input, ReadFault, WriteFault, NoMemory}
-use Rattle.tau_cli.specs.Output.{Writing, IsEndOf, IsOutput, IsFaulty, Stops, IsUnlessUnread}
+use Rattle.tau_cli.specs.declared.statuses.Status.TheVariants.{Words, Input, ReadFault, WriteFault, NoMemory, Place}
+use Rattle.tau_cli.specs.Output.{Writing, IsEndOf, IsOutput, IsFaulty, IsUnasked, Stops, IsUnlessUnread}
 use Rattle.tau_cli.specs.Status.{number_of, of_end, of_words_error, IsRefusal, IsResult}
 
 -- what a call did to its source, or to its sink: the bytes that it had left, or held, before and after, where it tells them; that
@@ -36,6 +38,8 @@ pub record Finds (Writes : Writing) (line : List (List ℕ)) (source : Effect) (
   pub untouched : (command : Command) → command_of line ≡ Some command → reads_input command ≡ false → source.Stayed
   pub faulty : (command : Command) (bytes : List ℕ) (fault at : ℕ) → command_of line ≡ Some command → source.before ≡ Some bytes
       → IsInputFault command bytes fault at → IsErrAnd found (λ status. IsUnlessUnread status (Input fault at))
+  pub unasked : (place : ℕ) (bytes : List ℕ) → command_of line ≡ Some (Why place) → source.before ≡ Some bytes
+      → IsNotAsked place bytes → IsErrAnd found (λ status. IsUnlessUnread status (Place place))
 
 -- what a call for the words of a command line did that ended with this status
 pub record Ends (Writes : Writing) (line : List (List ℕ)) (source sink : Effect) (status : Status) : Type 0 where
@@ -51,6 +55,10 @@ pub record Ends (Writes : Writing) (line : List (List ℕ)) (source sink : Effec
   pub input : (fault at : ℕ) → status ≡ Input fault at → IsFaulty line source.before fault at
   pub faulty : (command : Command) (bytes : List ℕ) (fault at : ℕ) → command_of line ≡ Some command → source.before ≡ Some bytes
       → IsInputFault command bytes fault at → IsUnlessUnread status (Input fault at)
+  -- no Hold, Drop or Fall stands at the place of `why`
+  pub place : (place : ℕ) → status ≡ Place place → IsUnasked line source.before place
+  pub unasked : (place : ℕ) (bytes : List ℕ) → command_of line ≡ Some (Why place) → source.before ≡ Some bytes
+      → IsNotAsked place bytes → IsUnlessUnread status (Place place)
   -- after each of these nothing was written
   pub unwritten : IsRefusal status → sink.Stayed
   -- the whole text of the command for the input was written

@@ -7,13 +7,13 @@ use Rattle.tau_command.specs.declared.commands.WordsError.{WordsError}
 use Rattle.tau_command.specs.declared.commands.WordsError.TheVariants as words
 use Rattle.tau_text.specs.FaultNumbers.{fault_number}
 use Rattle.tau_text.specs.declared.faults.InputFault.TheVariants as faults
-use Rattle.tau_text.specs.declared.errors.InputError.{InputError}
-use Rattle.tau_text.specs.declared.errors.InputError.TheVariants as inputs
 use Rattle.tau_output.specs.declared.outputs.End.{End}
 use Rattle.tau_output.specs.declared.outputs.End.TheVariants as ends
+use Rattle.tau_output.specs.declared.refusals.Refusal.{Refusal}
+use Rattle.tau_output.specs.declared.refusals.Refusal.TheVariants as refusals
 use Rattle.tau_output.specs.Faults.{input_limit}
 use Rattle.tau_cli.specs.declared.statuses.Status.{Status}
-use Rattle.tau_cli.specs.declared.statuses.Status.TheVariants.{Done, Stopped, Words, Input, Bad, ReadFault, WriteFault, NoMemory, Broken}
+use Rattle.tau_cli.specs.declared.statuses.Status.TheVariants.{Done, Stopped, Words, Input, Bad, ReadFault, WriteFault, NoMemory, Broken, Place}
 
 -- the status of the process
 abbrev pub number_of : Status → ℕ
@@ -26,24 +26,27 @@ number_of ReadFault = 5
 number_of WriteFault = 6
 number_of NoMemory = 7
 number_of (Broken checkpoint point fall) = 8
+number_of (Place place) = 11
 
 -- the line, without its line feed; where all is done there is none
 abbrev pub line_of : Status → List ℕ
 line_of Done = []
 line_of Stopped = codes "tau: stopped at the step limit"
-line_of Words = codes "tau: usage: tau run|check|audit|report|print|gen N|drill N"
+line_of Words = codes "tau: usage: tau run|check|audit|report|print|gen N|drill N|why N"
 line_of (Input fault at) = codes "tau: input fault " ++ decimal fault ++ codes " at " ++ decimal at
 line_of (Bad place) = codes "tau: a step is not legal"
 line_of ReadFault = codes "tau: reading failed"
 line_of WriteFault = codes "tau: writing failed"
 line_of NoMemory = codes "tau: out of memory"
 line_of (Broken checkpoint point fall) = codes "tau: a checkpoint is not safe"
+line_of (Place place) = codes "tau: no such decision at " ++ decimal place
 
 -- a status that comes before anything is written
 abbrev pub IsRefusal : Status → Type 0
 IsRefusal Words = Unit {0}
 IsRefusal (Input fault at) = Unit {0}
 IsRefusal ReadFault = Unit {0}
+IsRefusal (Place place) = Unit {0}
 IsRefusal status = ⊥
 
 -- a status that comes where the whole text was written
@@ -71,6 +74,8 @@ of_read_error reads.ReadFault = ReadFault
 of_read_error reads.TooLong = Input (fault_number faults.TooLong) input_limit
 of_read_error reads.NoMemory = NoMemory
 
-abbrev pub of_input_error : InputError → Status
-of_input_error (inputs.Fault fault at) = Input fault at
-of_input_error inputs.NoMemory = NoMemory
+-- the status for a refusal
+abbrev pub of_refusal : Refusal → Status
+of_refusal (refusals.Fault fault at) = Input fault at
+of_refusal (refusals.NotAsked place) = Place place
+of_refusal refusals.NoMemory = NoMemory

@@ -5,9 +5,9 @@ ghost use Rattle.tau_cli.specs.Status.{number_of};
 use std::fmt;
 use tau_command::WordsError;
 use tau_io::ReadError;
-use tau_output::{End, INPUT_LIMIT};
+use tau_output::{End, INPUT_LIMIT, Refusal};
 use tau_points::Point;
-use tau_text::{InputError, InputFault};
+use tau_text::InputFault;
 
 /// How a command ended (docs/formats.md, "Statuses"). It is displayed as its line on standard error, without the line
 /// feed; `Done` is displayed as nothing.
@@ -40,6 +40,10 @@ pub enum Status {
         point: Point,
         fall: u32,
     },
+    /// No Hold, Drop or Fall stands at this place of the run of which `why` was asked; nothing was written.
+    Place {
+        place: u64,
+    },
 }
 
 /// The number of a status, with which the process ends (docs/formats.md, "Statuses").
@@ -56,6 +60,7 @@ pub fn number(status: &Status) -> u8
         Status::WriteFault => 6,
         Status::NoMemory => 7,
         Status::Broken { .. } => 8,
+        Status::Place { .. } => 11,
     }
 }
 
@@ -115,16 +120,17 @@ impl From<ReadError> for Status {
     }
 }
 
-impl From<InputError> for Status {
+impl From<Refusal> for Status {
     ghost use Rattle.std.specs.Prelude.{◌≡◌};
-    ghost use Rattle.tau_cli.specs.Status.{of_input_error};
+    ghost use Rattle.tau_cli.specs.Status.{of_refusal};
 
-    ghost from_gives = { λ error s. s ≡ of_input_error error };
+    ghost from_gives = { λ refusal s. s ≡ of_refusal refusal };
 
-    fn from(error: InputError) -> Status {
-        match error {
-            InputError::Fault { fault, at } => Status::Input { fault, at },
-            InputError::NoMemory => Status::NoMemory,
+    fn from(refusal: Refusal) -> Status {
+        match refusal {
+            Refusal::Fault { fault, at } => Status::Input { fault, at },
+            Refusal::NotAsked { place } => Status::Place { place },
+            Refusal::NoMemory => Status::NoMemory,
         }
     }
 }
@@ -140,7 +146,7 @@ impl fmt::Display for Status {
             Status::Done => Ok(()),
             Status::Stopped => f.write_str("tau: stopped at the step limit"),
             Status::Words => f.write_str(
-                "tau: usage: tau run|check|audit|report|print|gen N|drill N",
+                "tau: usage: tau run|check|audit|report|print|gen N|drill N|why N",
             ),
             Status::Input { fault, at } => write!(f, "tau: input fault {fault} at {at}"),
             Status::Bad { .. } => f.write_str("tau: a step is not legal"),
@@ -148,6 +154,7 @@ impl fmt::Display for Status {
             Status::WriteFault => f.write_str("tau: writing failed"),
             Status::NoMemory => f.write_str("tau: out of memory"),
             Status::Broken { .. } => f.write_str("tau: a checkpoint is not safe"),
+            Status::Place { place } => write!(f, "tau: no such decision at {place}"),
         }
     }
 }

@@ -31,7 +31,7 @@ abbrev pub seed_rule : Rule
 seed_rule = option_rule (codes "seed") (Unsigned 0 18446744073709551615) (codes "0")
 
 abbrev pub steps_rule : Rule
-steps_rule = option_rule (codes "steps") (Signed (pos 0) (pos 4000)) (codes "1000")
+steps_rule = option_rule (codes "steps") (Signed (pos 0) (pos 200000)) (codes "1000")
 
 -- two positionals and four options, with no program name among the words
 unfoldable pub tau_command : App

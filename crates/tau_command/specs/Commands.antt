@@ -9,7 +9,7 @@ use Rattle.clap.specs.declared.parser.matches.ValueSource.{ValueSource}
 use Rattle.clap.specs.declared.parser.matches.ValueSource.TheVariants.{CommandLine}
 use Rattle.tau_command.specs.Arguments.{tau_command}
 use Rattle.tau_command.specs.declared.commands.Command.{Command}
-use Rattle.tau_command.specs.declared.commands.Command.TheVariants.{Run, Check, Audit, Report, Print, Gen, Drill}
+use Rattle.tau_command.specs.declared.commands.Command.TheVariants.{Run, Check, Audit, Report, Print, Gen, Drill, Why}
 
 -- ---- what the matches say
 
@@ -47,7 +47,7 @@ run_of rows =
     (number_of 32 (codes "steps") rows)) (number_of 64 (codes "seed") rows))
     (number_of 32 (codes "jobs") rows)) (number_of 32 (codes "workers") rows)
 
--- the command with a name; `gen` and `drill` have their number
+-- the command with a name; `gen`, `drill` and `why` have their number
 abbrev pub command_named : Text → List Row → Option Command
 command_named name rows = if bytes_eq name (codes "run") then run_of rows
     else (if bytes_eq name (codes "check") then Some Check
@@ -56,11 +56,12 @@ command_named name rows = if bytes_eq name (codes "run") then run_of rows
     else (if bytes_eq name (codes "print") then Some Print
     else (if bytes_eq name (codes "gen") then option_map (λ n. Gen n) (number_of 64 (codes "number") rows)
     else (if bytes_eq name (codes "drill") then option_map (λ n. Drill n) (number_of 64 (codes "number") rows)
-    else None))))))
+    else (if bytes_eq name (codes "why") then option_map (λ n. Why n) (number_of 64 (codes "number") rows)
+    else None)))))))
 
 -- a command with a number
 abbrev pub takes_number : Text → Bool
-takes_number name = bytes_eq name (codes "gen") || bytes_eq name (codes "drill")
+takes_number name = bytes_eq name (codes "gen") || (bytes_eq name (codes "drill") || bytes_eq name (codes "why"))
 
 -- an option stands with a command other than `run`, or a number with one that takes none
 abbrev pub stands_amiss : Text → List Row → Bool
@@ -87,5 +88,5 @@ command_of words =
 
 -- the numbers of `run` lie in the ranges of its options
 abbrev pub IsInRange : Command → Type 0
-IsInRange (Run workers jobs seed steps) = (1 ≤ workers) × (workers ≤ 32) × (1 ≤ jobs) × (jobs ≤ 16) × (steps ≤ 4000)
+IsInRange (Run workers jobs seed steps) = (1 ≤ workers) × (workers ≤ 32) × (1 ≤ jobs) × (jobs ≤ 16) × (steps ≤ 200000)
 IsInRange command = Unit {0}

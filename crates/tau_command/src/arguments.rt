@@ -70,6 +70,6 @@ fn steps_argument<'a>(alloc: Global) -> Arg<'a>
 {
     Arg::new(alloc, "steps")
         .long("steps")
-        .value_parser(clap::value_parser!(u32).range(0..=4000))
+        .value_parser(clap::value_parser!(u32).range(0..=200_000))
         .default_value("1000")
 }

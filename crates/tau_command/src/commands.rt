@@ -44,6 +44,11 @@ pub enum Command {
         /// The number of the program, which is the seed too.
         number: u64,
     },
+    /// Tells the shortest chain to a cause of a Hold, a Drop or a Fall of a run text.
+    Why {
+        /// The place of the step.
+        place: u64,
+    },
 }
 
 /// Why words name no command (docs/formats.md, "Error types").

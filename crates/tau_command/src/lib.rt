@@ -8,6 +8,3 @@ mod matched;
 
 pub use commands::{Command, WordsError, read_words};
 pub use lines::{Line, Words};
-
-#[cfg(test)]
-mod tests;

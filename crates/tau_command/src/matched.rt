@@ -36,7 +36,7 @@ fn stands_amiss(name: &str, matches: &ArgMatches<'_>) -> bool
 fn takes_number(name: &str) -> bool
     ensures { result ≡ takes_number name.now }
 {
-    name == "gen" || name == "drill"
+    name == "gen" || name == "drill" || name == "why"
 }
 
 /// The command with this name.
@@ -51,6 +51,7 @@ fn command_named(name: &str, matches: &ArgMatches<'_>) -> Option<Command>
         "print" => Some(Command::Print),
         "gen" => long_number(matches, "number").map(|number| Command::Gen { number }),
         "drill" => long_number(matches, "number").map(|number| Command::Drill { number }),
+        "why" => long_number(matches, "number").map(|place| Command::Why { place }),
         _ => None,
     }
 }

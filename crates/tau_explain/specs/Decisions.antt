@@ -1,14 +1,18 @@
 -- What a Hold, a Drop or a Fall has heard, and where chains to a cause of it begin and end (docs/definitions.md, "Cause").
-use Rattle.std.specs.Prelude.{◌≡◌, ℕ, Bool, true, false, Some, IsTrue}
+use Rattle.std.specs.Prelude.{◌≡◌, ℕ, Bool, true, false, List, Some, IsTrue}
 use Rattle.tau_points.specs.declared.point.Point.{Point}
+use Rattle.tau_chains.specs.Chains.{IsChain}
 use Rattle.tau_trace.specs.declared.step.Step.{Step}
 use Rattle.tau_trace.specs.declared.step.Step.TheVariants.{Hold, Drop, Fall}
 use Rattle.tau_trace.specs.Run.{Run, step_at}
 use Rattle.tau_trace.specs.Points.{point_at}
 use Rattle.tau_past.specs.Carried.{SentWith}
 use Rattle.tau_past.specs.Heard.{Heard, HeardTogether}
-use Rattle.tau_past.specs.Pasts.{Is, FellIn, FirmIn}
+use Rattle.tau_past.specs.Pasts.{Link, Is, FellIn, FirmIn}
 use Rattle.tau_past.specs.Decisions.{FallsBy, DropsBy, Free}
+use Rattle.tau_links.specs.Links.{IsFirstTold}
+use Rattle.tau_explain.specs.declared.answers.Why.{Why}
+use Rattle.tau_explain.specs.declared.answers.Why.TheVariants as answers
 
 -- the kinds that are decided by what was heard: Hold, Drop and Fall
 abbrev pub is_decision : Step → Bool
@@ -57,3 +61,14 @@ IsDecision T k = (s : Step) × IsAsked T k s
 -- each decision of the trace has its ground, as in each legal trace
 abbrev pub IsGrounded : Run → Type 0
 IsGrounded T = (k : ℕ) (s : Step) → IsAsked T k s → ¬ IsGroundless T k s
+
+-- a chain from a source of the decision to a cause of it, over links that it has heard of
+abbrev pub IsAnswer : Run → ℕ → Step → List Point → Type 0
+IsAnswer T k s points = IsChain (Link T (HeardAt T k s)) (Source T k s) (Cause T k s) points
+
+-- the answer to why the decision at place k was made: the first of the shortest chains, with the places of the steps that make
+-- its links; or that there is none, and the decision has no ground; or that no decision stands there
+abbrev pub IsWhy : Run → ℕ → Why → Type 0
+IsWhy T k (answers.Chain chain) = (s : Step) × IsAsked T k s × IsFirstTold T (HeardAt T k s) (Source T k s) (Cause T k s) chain
+IsWhy T k answers.NoChain = (s : Step) × IsAsked T k s × ((points : List Point) → ¬ IsAnswer T k s points) × IsGroundless T k s
+IsWhy T k answers.NotAsked = ¬ IsDecision T k

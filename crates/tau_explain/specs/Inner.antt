@@ -1,3 +1,5 @@
 -- What contracts of inner functions say; no clause of a public call rests on these.
 pub mod Hearing
 pub mod Causes
+pub mod Asking
+pub mod Fitting

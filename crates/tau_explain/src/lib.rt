@@ -1,6 +1,13 @@
 //! Why a transactor holds, drops or falls: the shortest chain to a cause (docs/definitions.md, "Cause").
 #![tactic(auto)]
 
+mod answers;
+mod asking;
+mod causes;
 mod hearing;
+mod texts;
 
+pub use answers::Why;
+pub use asking::why;
 pub use hearing::heard_at;
+pub use texts::why_text;

@@ -27,12 +27,13 @@ use Rattle.tau_logs.specs.Takes.{taken, TellsTaken}
 use Rattle.tau_logs.proofs.Latest.{newest_is_latest}
 use Rattle.tau_hearing.specs.declared.own.Own as kept
 use Rattle.tau_hearing.specs.declared.letter.Letter.{Letter}
-use Rattle.tau_hearing.specs.Bounds.{IsNumberAt, TellsBound, TellsBounds, last_number}
-use Rattle.tau_hearing.specs.Logs.{TellsLog, AreLogs}
+use Rattle.tau_hearing.specs.Bounds.{TellsNumber, TellsBounds, last_number}
+use Rattle.tau_search.specs.Logs.{TellsLog, AreLogs}
 use Rattle.tau_hearing.specs.Turns.{TellsTurn}
 use Rattle.tau_hearing.specs.Falls.{falls_at}
 use Rattle.tau_hearing.specs.Hears.{TellsOwn, TellsLetter, Hears}
 use Rattle.tau_hearing.specs.Opened.{IsStartLog, AreStartLogs, IsUnheard, AreStartOwn, IsPost, IsPostThere, ArePosts}
+use Rattle.tau_hearing.proofs.Bounds.{IsNumberAt, number_told}
 use Rattle.tau_hearing.proofs.Turns.{nothing_along}
 
 -- what is said of all items is said of each
@@ -75,6 +76,7 @@ module _ (o : Opening) (sound : IsSound o) (logs : List Told) (own : List kept.O
   tells_log u log e =
       let x = each_of IsStartLog logs u log told.1 e in record {
         opens = (first_version, latest log 0 x);
+        few = omega (arith, ap length x.versions);
         histories = x.tells T u (omega (arith, slice_get_within logs u log e, told.0));
         takes = record { within = within x; told = taken_at x };
       } where
@@ -97,13 +99,8 @@ module _ (o : Opening) (sound : IsSound o) (logs : List Told) (own : List kept.O
   number u lt =
       let x = element logs u lt in record { log = x.0; stands = x.1; version = first_version; latest = latest x.0 0 (each_of IsStartLog logs u x.0 told.1 x.1) }
 
-  nothing_told : (H : ℕ → Type 0) → ((j : ℕ) → ¬ H j) → (u : ℕ) → u < length logs → TellsBound T H 0 logs u 0
-  nothing_told H none u lt = record {
-    place = 0;
-    within = omega arith;
-    is_bound = record { steps = λ j acts. (λ h. absurd (none j h), λ l. absurd (omega (arith, l))); last = inl refl };
-    is_number = number u lt;
-  }
+  nothing_told : (H : ℕ → Type 0) → ((j : ℕ) → ¬ H j) → (u : ℕ) → u < length logs → TellsNumber T H 0 logs u 0
+  nothing_told H none u lt = number_told 0 (omega arith) (record { steps = λ j acts. (λ h. absurd (none j h), λ l. absurd (omega (arith, l))); last = inl refl }) (number u lt)
 
   last_is_first : (u : ℕ) → u < length logs → last_number logs u ≡ 0
   last_is_first u lt =

@@ -22,7 +22,7 @@ use Rattle.tau_logs.specs.Told.{Told, TellsHistories}
 use Rattle.tau_logs.specs.Takes.{taken, TellsTaken}
 use Rattle.tau_logs.proofs.Latest.{newest_is_latest}
 use Rattle.tau_logs.proofs.Taking.{cover_on}
-use Rattle.tau_hearing.specs.Logs.{TellsLog}
+use Rattle.tau_search.specs.Logs.{TellsLog}
 
 -- before its first step, at each place what its point has taken is the same
 module _ (T : Run) (u n a : ℕ) (le : a ≤ suc n) (quiet : (j : ℕ) → j < suc n → ¬ ActsAt T u j) where
@@ -58,6 +58,7 @@ pub newborn_tells : (T : Run) (u n by : ℕ) (log : Told) (points : List Point) 
     → (starts T ≤ u → ((j : ℕ) → j < suc n → ¬ ActsAt T u j) → TellsHistories T u (suc n) log) → TellsTaken T u (suc n) points → TellsLog T u (suc n) log
 newborn_tells T u n by log points known b versions takes tells told = record {
   opens = (first_of (length points), latest);
+  few = omega (arith, ap length versions);
   histories = tells (omega (arith, b.made)) quiet;
   takes = record { within = within; told = taken_at };
 } where

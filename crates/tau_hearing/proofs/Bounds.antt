@@ -23,9 +23,25 @@ use Rattle.tau_logs.specs.Versions.{IsVersionOf, IsLatest}
 use Rattle.tau_logs.specs.Told.{Told, TellsHistories}
 use Rattle.tau_logs.proofs.Latest.{latest_of_the_greater_place}
 use Rattle.tau_hearing.specs.declared.letter.Sender.{Sender}
-use Rattle.tau_hearing.specs.Bounds.{IsNumberAt, TellsBound, TellsBounds, TellsHeardBy, last_number, AreRaised}
-use Rattle.tau_hearing.specs.Logs.{AreLogs, LogsGoOn}
+use Rattle.tau_hearing.specs.Bounds.{TellsNumber, TellsBounds, TellsHeardBy, last_number, AreRaised}
+use Rattle.tau_search.specs.Logs.{AreLogs}
+use Rattle.tau_hearing.specs.Logs.{LogsGoOn}
 use Rattle.tau_hearing.specs.Laws.{LogsFollow, BoundsTogether, TellsNext, BoundsAfterStep, BoundsStepByStep, LettersStay}
+
+-- Numbers at places.
+
+-- the version of u with this number is its latest one at place a
+pub record IsNumberAt (logs : List Told) (u a number : ℕ) : Type 0 where
+  pub log : Told
+  pub stands : slice_get logs u ≡ Some log
+  pub version : Version
+  pub latest : IsLatest log.versions a number version
+
+pub number_of : {T : Run} {H : ℕ → Type 0} {n : ℕ} {logs : List Told} {u i : ℕ} (x : TellsNumber T H n logs u i) → IsNumberAt logs u x.tells.place i
+number_of x = record { log = x.log; stands = x.stands; version = x.tells.version; latest = x.tells.latest }
+
+pub number_told : {T : Run} {H : ℕ → Type 0} {n : ℕ} {logs : List Told} {u i : ℕ} (place : ℕ) → place ≤ n → Bound T H u place → IsNumberAt logs u place i → TellsNumber T H n logs u i
+number_told place within bound x = record { log = x.log; stands = x.stands; tells = record { place = place; within = within; bound = bound; version = x.version; latest = x.latest } }
 
 -- Bounds of sets with the same places.
 
@@ -35,8 +51,8 @@ same_bound T H G u a same x = record {
   last = ⊎_elim (λ z. inl z) (λ s. inr (s.0, s.1, s.2, (same s.0).0 s.3)) x.last;
 }
 
-same_told : (T : Run) (H G : ℕ → Type 0) (n : ℕ) (logs : List Told) (u number : ℕ) → IsSame H G → TellsBound T H n logs u number → TellsBound T G n logs u number
-same_told T H G n logs u number same x = record { place = x.place; within = x.within; is_bound = same_bound T H G u x.place same x.is_bound; is_number = x.is_number }
+same_told : (T : Run) (H G : ℕ → Type 0) (n : ℕ) (logs : List Told) (u number : ℕ) → IsSame H G → TellsNumber T H n logs u number → TellsNumber T G n logs u number
+same_told T H G n logs u number same x = number_told x.tells.place x.tells.within (same_bound T H G u x.tells.place same x.tells.bound) (number_of x)
 
 pub same_bounds : (T : Run) (H G : ℕ → Type 0) (n : ℕ) (logs : List Told) (t v : ℕ) (xs : List ℕ) → IsSame H G → TellsBounds T H n logs t v xs → TellsBounds T G n logs t v xs
 same_bounds T H G n logs t v xs same x = record {
@@ -51,12 +67,12 @@ back H G same j = ((same j).1, (same j).0)
 
 -- Numbers.
 
-same_number : (T : Run) (H : ℕ → Type 0) (n : ℕ) (logs : List Told) (u i j : ℕ) → i ≡ j → TellsBound T H n logs u i → TellsBound T H n logs u j
-same_number T H n logs u i j e x = subst (TellsBound T H n logs u) e x
+same_number : (T : Run) (H : ℕ → Type 0) (n : ℕ) (logs : List Told) (u i j : ℕ) → i ≡ j → TellsNumber T H n logs u i → TellsNumber T H n logs u j
+same_number T H n logs u i j e x = subst (TellsNumber T H n logs u) e x
 
 -- the log of u, which has the number
-has_log : (T : Run) (H : ℕ → Type 0) (n : ℕ) (logs : List Told) (u i : ℕ) → TellsBound T H n logs u i → u < length logs
-has_log T H n logs u i x = slice_get_within logs u x.is_number.log x.is_number.stands
+has_log : (T : Run) (H : ℕ → Type 0) (n : ℕ) (logs : List Told) (u i : ℕ) → TellsNumber T H n logs u i → u < length logs
+has_log T H n logs u i x = slice_get_within logs u x.log x.stands
 
 pub last_of : (logs : List Told) (u : ℕ) (log : Told) → slice_get logs u ≡ Some log → last_number logs u ≡ length log.versions - 1
 last_of logs u log e = ap (λ o. option_map_or (λ (l : Told). length l.versions - 1) o 0) e
@@ -90,13 +106,10 @@ number_of_greater logs u a b i j x y = ⊎_elim second first (either a b) where
       let same : j ≡ max i j = latest_of_the_greater_place x.log.versions a b i j j x.version y.version y.version x.latest other here in
       record { log = x.log; stands = x.stands; version = y.version; latest = let F : ℕ → Type 0 = λ k. IsLatest x.log.versions (max a b) k y.version in subst F same here }
 
-told_together : (T : Run) (H G : ℕ → Type 0) (n : ℕ) (logs : List Told) (u i j : ℕ) → TellsBound T H n logs u i → TellsBound T G n logs u j → TellsBound T (Union H G) n logs u (max i j)
-told_together T H G n logs u i j x y = record {
-  place = max x.place y.place;
-  within = omega (arith, x.within, y.within);
-  is_bound = union_bound H G T u x.place y.place x.is_bound y.is_bound;
-  is_number = number_of_greater logs u x.place y.place i j x.is_number y.is_number;
-}
+told_together : (T : Run) (H G : ℕ → Type 0) (n : ℕ) (logs : List Told) (u i j : ℕ) → TellsNumber T H n logs u i → TellsNumber T G n logs u j → TellsNumber T (Union H G) n logs u (max i j)
+told_together T H G n logs u i j x y =
+    number_told (max x.tells.place y.tells.place) (omega (arith, x.tells.within, y.tells.within)) (union_bound H G T u x.tells.place y.tells.place x.tells.bound y.tells.bound)
+    (number_of_greater logs u x.tells.place y.tells.place i j (number_of x) (number_of y))
 
 -- raised numbers tell what is known in both sets
 pub bounds_of_union : (T : Run) (H G : ℕ → Type 0) (n : ℕ) (logs : List Told) (t who version : ℕ) (xs ys zs : List ℕ) → TellsBounds T H n logs t (last_number logs t) xs → TellsBounds T G n logs who version ys
@@ -117,10 +130,10 @@ bounds_of_union T H G n logs t who version xs ys zs x y z = record {
   theirs : ℕ
   theirs = number t
 
-  of_theirs : (u : ℕ) → u < length logs → TellsBound T G n logs u (number u)
+  of_theirs : (u : ℕ) → u < length logs → TellsNumber T G n logs u (number u)
   of_theirs u lt = by (cases_eq u who) where
-    by : (c : (u ≡ who) ⊎ (u ≢ who)) → TellsBound T G n logs u (⊎_elim (λ (e : u ≡ who). version) (λ ne. get_or ys u 0) c)
-    by (inl e) = let F : ℕ → Type 0 = λ w. TellsBound T G n logs w version in subst F (sym e) y.own
+    by : (c : (u ≡ who) ⊎ (u ≢ who)) → TellsNumber T G n logs u (⊎_elim (λ (e : u ≡ who). version) (λ ne. get_or ys u 0) c)
+    by (inl e) = let F : ℕ → Type 0 = λ w. TellsNumber T G n logs w version in subst F (sym e) y.own
     by (inr ne) = y.others u lt ne
 
   raised : (u : ℕ) → get_or zs u 0 ≡ max (get_or xs u 0) (number u)
@@ -130,7 +143,7 @@ bounds_of_union T H G n logs t who version xs ys zs x y z = record {
     by (inr ne) = z.elsewhere u ne
 
   not_later_theirs : theirs ≤ last_number logs t
-  not_later_theirs = let b = of_theirs t has_own in up_to_last logs t b.place theirs b.is_number
+  not_later_theirs = let b = of_theirs t has_own in up_to_last logs t b.tells.place theirs (number_of b)
 
 -- Logs that go on.
 
@@ -178,26 +191,24 @@ last_tells T u n log v h e =
     record { latest = subst G same here; tells = subst H same x.tells }
 
 -- a transactor that didn't exist at place n has no step in a set that stands up to there
-newborn_told : (T : Run) (H : ℕ → Type 0) (n : ℕ) (logs : List Told) (u : ℕ) → WellFormed T → ((j : ℕ) → H j → j ≤ n) → born T n ≤ u → AreLogs T (suc n) logs → u < length logs → TellsBound T H (suc n) logs u 0
-newborn_told T H n logs u known within late are lt = record {
-  place = 0;
-  within = omega arith;
-  is_bound = record { steps = λ j acts. (λ h. absurd (omega (arith, acts_known T u j known acts, born-grows T j n (within j h), late)), λ l. absurd (omega (arith, l))); last = inl refl };
-  is_number = let x = last_is_number T (suc n) logs u are lt in record { log = x.log; stands = x.stands; version = ((are.each u x.log x.stands).opens).0; latest = ((are.each u x.log x.stands).opens).1 };
-}
+newborn_told : (T : Run) (H : ℕ → Type 0) (n : ℕ) (logs : List Told) (u : ℕ) → WellFormed T → ((j : ℕ) → H j → j ≤ n) → born T n ≤ u → AreLogs T (suc n) logs → u < length logs → TellsNumber T H (suc n) logs u 0
+newborn_told T H n logs u known within late are lt =
+    number_told 0 (omega arith)
+    (record { steps = λ j acts. (λ h. absurd (omega (arith, acts_known T u j known acts, born-grows T j n (within j h), late)), λ l. absurd (omega (arith, l))); last = inl refl })
+    (let x = last_is_number T (suc n) logs u are lt in record { log = x.log; stands = x.stands; version = ((are.each u x.log x.stands).opens).0; latest = ((are.each u x.log x.stands).opens).1 })
 
 module _ (T : Run) (n : ℕ) (old new : List Told) (known : WellFormed T) (follow : LogsFollow T n old new) where
   more : length old ≤ length new
   more = omega (arith, follow.before.count, follow.after.count, born-grows T n (suc n) (omega arith))
 
-  told_on : (H : ℕ → Type 0) (u i : ℕ) → TellsBound T H n old u i → TellsBound T H (suc n) new u i
-  told_on H u i x = record { place = x.place; within = omega (arith, x.within); is_bound = x.is_bound; is_number = number_on n old new u x.place i follow.go_on x.within x.is_number }
+  told_on : (H : ℕ → Type 0) (u i : ℕ) → TellsNumber T H n old u i → TellsNumber T H (suc n) new u i
+  told_on H u i x = number_told x.tells.place (omega (arith, x.tells.within)) x.tells.bound (number_on n old new u x.tells.place i follow.go_on x.tells.within (number_of x))
 
   old_or_new : (u : ℕ) → u < length new → (u < length old) ⊎ (born T n ≤ u)
   old_or_new u lt = grind (arith, follow.before.count)
 
   -- the numbers of others are told in the new logs
-  others_on : (H : ℕ → Type 0) (t v : ℕ) (xs : List ℕ) → ((j : ℕ) → H j → j ≤ n) → TellsBounds T H n old t v xs → (u : ℕ) → u < length new → u ≢ t → TellsBound T H (suc n) new u (get_or xs u 0)
+  others_on : (H : ℕ → Type 0) (t v : ℕ) (xs : List ℕ) → ((j : ℕ) → H j → j ≤ n) → TellsBounds T H n old t v xs → (u : ℕ) → u < length new → u ≢ t → TellsNumber T H (suc n) new u (get_or xs u 0)
   others_on H t v xs within x u lt ne = ⊎_elim
       (λ there. told_on H u (get_or xs u 0) (x.others u there ne))
       (λ late. same_number T H (suc n) new u 0 (get_or xs u 0) (sym (get_or_past xs u 0 (omega (arith, x.few, follow.before.count, late)))) (newborn_told T H n new u known within late follow.after lt))
@@ -211,9 +222,9 @@ module _ (T : Run) (n : ℕ) (old new : List Told) (known : WellFormed T) (follo
   bounds_with H t v xs within acts before x =
       let with_step = bounds_with_step H T t n acts before in
       let has = has_log T H n old t v x.own in record {
-        own = record { place = suc n; within = omega arith; is_bound = with_step.own; is_number = last_is_number T (suc n) new t follow.after (omega (arith, has, more)) };
-        others = λ u lt ne. let y = others_on H t v xs within x u lt ne in record { place = y.place; within = y.within; is_bound = with_step.other u y.place ne y.is_bound; is_number = y.is_number };
-        not_later = omega (arith, x.not_later, up_to_last new t x.own.place v (number_on n old new t x.own.place v follow.go_on x.own.within x.own.is_number));
+        own = number_told (suc n) (omega arith) with_step.own (last_is_number T (suc n) new t follow.after (omega (arith, has, more)));
+        others = λ u lt ne. let y = others_on H t v xs within x u lt ne in number_told y.tells.place y.tells.within (with_step.other u y.tells.place ne y.tells.bound) (number_of y);
+        not_later = omega (arith, x.not_later, up_to_last new t x.own.tells.place v (number_on n old new t x.own.tells.place v follow.go_on x.own.tells.within (number_of x.own)));
         few = omega (arith, x.few, more);
       }
 
@@ -296,9 +307,9 @@ module _ (T : Run) (n : ℕ) (old new : List Told) (known : WellFormed T) (follo
       exists_now : u < length new
       exists_now = omega (arith, follow.after.count, new-rises T n t u b, b.made)
 
-      at : (v : ℕ) → v < length new → (v ≡ t) ⊎ (v ≢ t) → TellsBound T (With (Heard T t n) n) (suc n) new v (get_or zs v 0)
+      at : (v : ℕ) → v < length new → (v ≡ t) ⊎ (v ≢ t) → TellsNumber T (With (Heard T t n) n) (suc n) new v (get_or zs v 0)
       at v lt (inl e) =
-          let F : ℕ → Type 0 = λ w. TellsBound T (With (Heard T t n) n) (suc n) new w (get_or zs w 0) in
+          let F : ℕ → Type 0 = λ w. TellsNumber T (With (Heard T t n) n) (suc n) new w (get_or zs w 0) in
           subst F (sym e) (same_number T (With (Heard T t n) n) (suc n) new t (last_number new t) (get_or zs t 0) (omega (arith, z.at_who, theirs.not_later, get_or_past {X = ℕ} [] t 0 (omega arith))) theirs.own)
       at v lt (inr ne) = same_number T (With (Heard T t n) n) (suc n) new v (get_or xs v 0) (get_or zs v 0) (omega (arith, z.elsewhere v ne, get_or_past {X = ℕ} [] v 0 (omega arith))) (theirs.others v lt ne)
 

@@ -31,7 +31,8 @@ use Rattle.tau_hearing.specs.After.{Leads}
 use Rattle.tau_hearing.specs.Changed.{TellsOn, HasRoomToHear, roots_after, touched_after, depended_after}
 use Rattle.tau_hearing.specs.Facts.{HearsRightly}
 use Rattle.tau_hearing.specs.Laws.{WithoutClosed}
-use Rattle.tau_hearing.specs.Logs.{TellsLog, KeepsLatest}
+use Rattle.tau_search.specs.Logs.{TellsLog}
+use Rattle.tau_hearing.specs.Logs.{KeepsLatest}
 use Rattle.tau_hearing.specs.Moves.{IsAdded}
 use Rattle.tau_hearing.specs.Next.{IsNext, actor_change, turn_change, only_touches, only_ends, falls_if_volatile, IsLast, IsMoved, IsOnlyOne}
 use Rattle.tau_hearing.specs.Turns.{TellsTurn}

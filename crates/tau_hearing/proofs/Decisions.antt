@@ -1,6 +1,7 @@
 -- What is kept as what a decision rests on.
-use Rattle.std.proofs.Common.{◌≡◌, ◌↔◌, inl, inr, ⊎_elim, ℕ, ◌-◌, ◌<◌, Bool, true, false, not, IsTrue, List, [], ◌∷◌, ◌++◌, length, get_or, Some, None, refl, sym, ap₂, ◌∙◌, subst, arith}
+use Rattle.std.proofs.Common.{◌≡◌, ◌↔◌, inl, inr, ⊎_elim, ℕ, ◌-◌, ◌<◌, ◌≤◌, Bool, true, false, not, IsTrue, List, [], ◌∷◌, ◌++◌, length, get_or, Option, Some, None, refl, sym, ap, ap₂, ◌∙◌, subst, arith}
 use Rattle.std.specs.Prelude.{slice_get, Contains}
+use Rattle.std.specs.Option.{option_map_or}
 use Rattle.std.proofs.lemmas.Bool.{cases_lt}
 use Rattle.std.proofs.lemmas.List.{get_or_past}
 use Rattle.std.proofs.lemmas.Option.{slice_get_within, slice_get_cases}
@@ -16,9 +17,10 @@ use Rattle.tau_past.specs.Heard.{Heard, HeardBy, HeardTogether}
 use Rattle.tau_past.specs.Safety.{KeepsRules}
 use Rattle.tau_past.specs.Decisions.{take, FallsBy, DropsBy, Free}
 use Rattle.tau_logs.specs.declared.version.Version.{Version}
-use Rattle.tau_logs.specs.Versions.{IsVersionOf, IsLatest}
+use Rattle.tau_logs.specs.Versions.{IsVersionOf}
 use Rattle.tau_logs.specs.Told.{Told}
 use Rattle.tau_search.specs.Logs as search
+use Rattle.tau_search.specs.Logs.{AreLogs}
 use Rattle.tau_search.specs.Numbered.{with_version, later}
 use Rattle.tau_search.specs.Searching.{Finds, is_fallen, is_not_firm}
 use Rattle.tau_search.proofs.Deciding.{listed_numbers_tell, numbers_together, own_search_tells_falls, root_search_tells_drops, own_search_tells_freedom, searches_join}
@@ -26,11 +28,10 @@ use Rattle.tau_hearing.specs.declared.own.Own.{Own}
 use Rattle.tau_hearing.specs.declared.letter.Letter.{Letter}
 use Rattle.tau_hearing.specs.declared.letter.Sender.{Sender}
 use Rattle.tau_hearing.specs.declared.hearing.Hearing.{Hearing}
-use Rattle.tau_hearing.specs.Bounds.{TellsBound, TellsBounds, TellsHeardBy, last_number}
+use Rattle.tau_hearing.specs.Bounds.{TellsNumber, TellsBounds, TellsHeardBy, last_number}
 use Rattle.tau_hearing.specs.Falls.{falling_steps}
 use Rattle.tau_hearing.specs.Hears.{Knows}
 use Rattle.tau_hearing.specs.Laws.{NoneCountedAllIsTaken}
-use Rattle.tau_hearing.specs.Logs.{AreLogs}
 use Rattle.tau_hearing.proofs.Bounds.{last_tells}
 use Rattle.tau_hearing.proofs.Counting.{none_counted_nothing_falls}
 use Rattle.tau_hearing.proofs.Turns.{leaves_ends}
@@ -48,15 +49,11 @@ none_counted_all_is_taken T t m none = take (λ x. nothing_falls T none x.cause.
 
 -- What is kept as the search asks for it.
 
-search_logs : (T : Run) (n : ℕ) (logs : List Told) → AreLogs T n logs → search.AreLogs T n logs
-search_logs T n logs x = record { count = x.count; histories = λ u log e. (x.each u log e).histories; takes = λ u log e. (x.each u log e).takes }
-
-search_bound : (T : Run) (H : ℕ → Type 0) (n : ℕ) (logs : List Told) (u i : ℕ) (log : Told) → slice_get logs u ≡ Some log → TellsBound T H n logs u i → search.TellsBound T H n u log i
+search_bound : (T : Run) (H : ℕ → Type 0) (n : ℕ) (logs : List Told) (u i : ℕ) (log : Told) → slice_get logs u ≡ Some log → TellsNumber T H n logs u i → search.TellsBound T H n u log i
 search_bound T H n logs u i log e x =
-    let F : Told → Type 0 = λ l. IsLatest l.versions x.place i x.is_number.version in
-    record { place = x.place; within = x.within; bound = x.is_bound; version = x.is_number.version; latest = subst F (same_some (sym x.is_number.stands ∙ e)) x.is_number.latest }
+    let F : Told → Type 0 = λ l. search.TellsBound T H n u l i in subst F (same_some (sym x.stands ∙ e)) x.tells
 
-search_bounds : (T : Run) (H : ℕ → Type 0) (n who version : ℕ) (logs : List Told) (numbers : List ℕ) → TellsBounds T H n logs who version numbers → search.TellBounds T H n logs (with_version who version numbers)
+pub search_bounds : (T : Run) (H : ℕ → Type 0) (n who version : ℕ) (logs : List Told) (numbers : List ℕ) → TellsBounds T H n logs who version numbers → search.TellBounds T H n logs (with_version who version numbers)
 search_bounds T H n who version logs numbers x = listed_numbers_tell H T n who version logs numbers (λ log e. search_bound T H n logs who version log e x.own)
     (λ u log ne e. search_bound T H n logs u (get_or numbers u 0) log e (x.others u (slice_get_within logs u log e) ne))
 
@@ -72,6 +69,13 @@ sender_bounds T m n logs s who version numbers a b d x =
     let G : ℕ → Type 0 = λ v. search.TellBounds T (HeardBy T m) n logs (with_version s.who v numbers) in
     let H : List ℕ → Type 0 = λ xs. search.TellBounds T (HeardBy T m) n logs (with_version s.who s.version xs) in
     subst F (sym a) (subst G (sym b) (subst H (sym d) (search_bounds T (HeardBy T m) n s.who s.version logs s.numbers.value.items x.1)))
+
+-- there are no more numbers than steps
+pub few_numbers : (T : Run) (n : ℕ) (logs : List Told) (u : ℕ) → AreLogs T n logs → last_number logs u ≤ n
+few_numbers T n logs u x = ⊎_elim
+    (λ s. let F : Option Told → ℕ = λ o. option_map_or (λ (l : Told). length l.versions - 1) o 0 in omega (arith, ap F s.2, (x.each u s.0 s.2).few))
+    (λ p. let F : Option Told → ℕ = λ o. option_map_or (λ (l : Told). length l.versions - 1) o 0 in omega (arith, ap F p.1))
+    (slice_get_cases logs u).1
 
 turned : (b : Bool) (X F : Type 0) → (IsTrue b ↔ X) → ((¬ X) ↔ F) → IsTrue (not b) ↔ F
 turned true X F found free = (λ e. absurd (cc), λ f. absurd (free.1 f (found.0 refl)))
@@ -106,12 +110,12 @@ module _ (T : Run) (h : Hearing) (knows : Knows h T) (t : ℕ) (exists : t < bor
     pub freedom : (found : Bool) → (IsTrue found ↔ Finds is_not_firm h.logs.items own (Contains (p ∷ []))) → IsTrue (not found) ↔ Free T t (len T)
     freedom found finds =
         let F : Point → Type 0 = λ q. (¬ Finds is_not_firm h.logs.items own (Contains (q ∷ []))) ↔ Free T t (len T) in
-        let law = own_search_tells_freedom T t (len T) h.logs.items own exists (record { well_formed = known; rules = rules; logs_are = search_logs T (len T) h.logs.items knows.logs_are; numbers_tell = heard }) in
+        let law = own_search_tells_freedom T t (len T) h.logs.items own exists (record { well_formed = known; rules = rules; logs_are = knows.logs_are; numbers_tell = heard }) in
         turned found (Finds is_not_firm h.logs.items own (Contains (p ∷ []))) (Free T t (len T)) finds (subst F (sym me) law)
 
     module _ (m : ℕ) (flies : InFlight T m (len T)) (l : Letter) (stands : slice_get h.letters.items m ≡ Some (Some l)) (theirs : ℕ → ℕ) (tell : search.TellBounds T (HeardBy T m) (len T) h.logs.items theirs) where
       told : search.IsTold T (HeardTogether T t (len T) m) (len T) h.logs.items (later own theirs)
-      told = record { well_formed = known; rules = rules; logs_are = search_logs T (len T) h.logs.items knows.logs_are; numbers_tell = numbers_together T t (len T) m h.logs.items own theirs heard tell }
+      told = record { well_formed = known; rules = rules; logs_are = knows.logs_are; numbers_tell = numbers_together T t (len T) m h.logs.items own theirs heard tell }
 
       pub falls_found : (b : Bool) → (IsTrue b ↔ Finds is_fallen h.logs.items (later own theirs) (Contains (p ∷ []))) → IsTrue b ↔ FallsBy T t (len T) m
       falls_found b finds =

@@ -29,7 +29,8 @@ use Rattle.tau_hearing.specs.Facts.{HearsRightly, ActorFollows, FollowsActor, Fo
 use Rattle.tau_hearing.specs.Falls.{falls_at, falling_steps}
 use Rattle.tau_hearing.specs.Hears.{TellsOwn, TellsLetter, Hears}
 use Rattle.tau_hearing.specs.Laws.{LogsFollow, TellsNext, BoundsAfterStep, TurnAfterStep}
-use Rattle.tau_hearing.specs.Logs.{TellsLog, AreLogs, KeepsLatest, LogsGoOn}
+use Rattle.tau_search.specs.Logs.{TellsLog, AreLogs}
+use Rattle.tau_hearing.specs.Logs.{KeepsLatest, LogsGoOn}
 use Rattle.tau_hearing.specs.Turns.{TellsTurn}
 use Rattle.tau_hearing.proofs.Bounds.{bounds_step_by_step, letters_stay}
 use Rattle.tau_hearing.proofs.Moves.{logs_step_by_step}

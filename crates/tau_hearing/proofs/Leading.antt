@@ -42,7 +42,8 @@ use Rattle.tau_hearing.specs.Changed.{roots_after, touched_after, depended_after
 use Rattle.tau_hearing.specs.Facts.{ActorFollows, IsChange}
 use Rattle.tau_hearing.specs.Falls.{falls_at}
 use Rattle.tau_hearing.specs.Hears.{Hears}
-use Rattle.tau_hearing.specs.Logs.{TellsLog, KeepsLatest}
+use Rattle.tau_search.specs.Logs.{TellsLog}
+use Rattle.tau_hearing.specs.Logs.{KeepsLatest}
 use Rattle.tau_hearing.specs.Next.{IsNext, actor_change, only_touches, IsLast, IsMoved}
 use Rattle.tau_hearing.specs.Turns.{TellsTurn}
 use Rattle.tau_hearing.proofs.Bounds.{last_tells}

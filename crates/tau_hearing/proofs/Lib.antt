@@ -6,6 +6,7 @@ pub mod Counting
 pub mod Decisions
 pub mod Following
 pub mod Leading
+pub mod LeavingOut
 pub mod Moves
 pub mod Places
 pub mod Ranges

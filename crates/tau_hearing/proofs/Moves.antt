@@ -1,5 +1,5 @@
 -- Logs, step by step.
-use Rattle.std.proofs.Common.{◌≡◌, ◌⊎◌, ⊎_elim, ℕ, suc, ◌<◌, ◌≤◌, List, sym, ap, ◌∙◌, subst, arith}
+use Rattle.std.proofs.Common.{◌≡◌, ◌⊎◌, ⊎_elim, ℕ, suc, ◌<◌, ◌≤◌, List, [], ◌∷◌, length, sym, ap, ◌∙◌, subst, arith, length-append}
 use Rattle.tau_history.specs.Timeline.{Timeline, interval, keep, moved}
 use Rattle.tau_points.specs.declared.point.Point.{Point}
 use Rattle.tau_trace.specs.Run.{Run, step_at, ActsAt, Does}
@@ -18,7 +18,8 @@ use Rattle.tau_logs.specs.Takes.{taken, TellsTaken}
 use Rattle.tau_logs.proofs.Latest.{latest_stays_latest}
 use Rattle.tau_logs.proofs.Taking.{taken_stays, takes_go_on}
 use Rattle.tau_logs.proofs.Telling.{logs_stay}
-use Rattle.tau_hearing.specs.Logs.{TellsLog, KeepsLatest}
+use Rattle.tau_search.specs.Logs.{TellsLog}
+use Rattle.tau_hearing.specs.Logs.{KeepsLatest}
 use Rattle.tau_hearing.specs.Moves.{IsAdded, LogAfterStep, LogsStepByStep}
 
 -- by a step that isn't a Set of it, the point of a transactor that exists takes nothing
@@ -29,7 +30,7 @@ takes_nothing T u n none there q (by_new {by = by} {u = w} b e c ne) = omega (ar
 module _ (T : Run) (u n : ℕ) (old : Told) (known : WellFormed T) (x : TellsLog T u n old) where
   -- without a version more
   same : history T u (suc n) ≡ history T u n → ((i : ℕ) (v : Version) → IsLatest old.versions n i v → TellsTaken T u n (taken old.takes v) → TellsTaken T u (suc n) (taken old.takes v)) → TellsLog T u (suc n) old
-  same stays taken_on = record { opens = x.opens; histories = logs_stay T u n old stays x.histories; takes = record { within = x.takes.within; told = told } } where
+  same stays taken_on = record { opens = x.opens; few = omega (arith, x.few); histories = logs_stay T u n old stays x.histories; takes = record { within = x.takes.within; told = told } } where
     last : (a : ℕ) → a ≤ suc n → (a ≤ n) ⊎ (a ≡ suc n)
     last a le = grind (arith, le)
 
@@ -56,6 +57,7 @@ module _ (T : Run) (u n : ℕ) (old : Told) (known : WellFormed T) (x : TellsLog
   added new v more a from histories tells = (
     record {
       opens = (x.opens.0, keeps 0 0 x.opens.0 (omega arith) x.opens.1);
+      few = omega (arith, x.few, ap length a.versions, length-append old.versions (v ∷ []));
       histories = histories;
       takes = takes_go_on T u n old new v more a.versions a.takes from a.ordered a.within tells x.takes;
     },

@@ -24,11 +24,12 @@ use Rattle.tau_logs.specs.Told.{Told}
 use Rattle.tau_logs.specs.Takes.{Covered, is_listed, is_closed, through, TellsTaken, TellsTakes, TellsPending, TellsSent}
 use Rattle.tau_logs.proofs.Telling.{logs_are_local}
 use Rattle.tau_hearing.specs.declared.letter.Sender.{Sender}
-use Rattle.tau_hearing.specs.Bounds.{TellsBound, TellsBounds, TellsHeardBy, last_number}
-use Rattle.tau_hearing.specs.Logs.{AreLogs}
+use Rattle.tau_hearing.specs.Bounds.{TellsNumber, TellsBounds, TellsHeardBy, last_number}
+use Rattle.tau_search.specs.Logs.{AreLogs}
 use Rattle.tau_hearing.specs.Turns.{with_own, TellsTurn}
 use Rattle.tau_hearing.specs.Falls.{falls_at, falling_steps}
 use Rattle.tau_hearing.specs.Moves.{HearsIsLocal}
+use Rattle.tau_hearing.proofs.Bounds.{number_of, number_told}
 
 acts-same : (T U : Run) (t j : ℕ) → step_at T j ≡ step_at U j → ActsAt T t j → ActsAt U t j
 acts-same T U t j e a = ap (option_and_then actor) (sym e) ∙ a
@@ -106,8 +107,8 @@ module _ (T U : Run) (k : ℕ) (w : WellFormed T) (z : WellFormed U) (agree : Ag
       last = ⊎_elim (λ e. inl e) (λ s. inr (s.0, s.1, acts-same T U u s.0 (agree.steps s.0 (below s.0 s.3)) s.2, (same s.0).0 s.3)) b.last;
     }
 
-    told-same : (logs : List Told) (u i : ℕ) → TellsBound T H k logs u i → TellsBound U G k logs u i
-    told-same logs u i x = record { place = x.place; within = x.within; is_bound = bound-same u x.place x.is_bound; is_number = x.is_number }
+    told-same : (logs : List Told) (u i : ℕ) → TellsNumber T H k logs u i → TellsNumber U G k logs u i
+    told-same logs u i x = number_told x.tells.place x.tells.within (bound-same u x.tells.place x.tells.bound) (number_of x)
 
     bounds-same : (logs : List Told) (who version : ℕ) (xs : List ℕ) → TellsBounds T H k logs who version xs → TellsBounds U G k logs who version xs
     bounds-same logs who version xs x = record {
@@ -146,6 +147,7 @@ module _ (T U : Run) (k : ℕ) (w : WellFormed T) (z : WellFormed U) (agree : Ag
         let y = x.each u log e in
         let there = slice_get_within logs u log e in record {
           opens = y.opens;
+          few = y.few;
           histories = logs_are_local T U u k log agree y.histories;
           takes = takes_told-same u log (omega (arith, there, x.count)) (omega (arith, there, x.count, born-same k agree)) y.takes;
         };

@@ -1,6 +1,8 @@
 -- Takes added at the end of a log.
-use Rattle.std.proofs.Common.{◌≡◌, ◌≢◌, ◌⊎◌, inl, inr, ⊎_elim, ℕ, zero, suc, ◌+◌, ◌-◌, ◌<◌, ◌≤◌, List, [], ◌∷◌, ◌++◌, length, take, drop, Some, refl, sym, ap, ap₂, ◌∙◌, subst, arith, length-append, length-drop}
+use Rattle.std.proofs.Common.{◌≡◌, ◌≢◌, ◌⊎◌, inl, inr, ⊎_elim, ℕ, zero, suc, ◌+◌, ◌*◌, ◌-◌, ◌<◌, ◌≤◌, Bool, filter, List, [], ◌∷◌, ◌++◌, length, take, drop, Some, refl, sym, ap, ap₂, ◌∙◌, subst, arith, length-append, length-drop}
 use Rattle.std.specs.Prelude.{slice_get, Contains}
+use Rattle.std.specs.List.{count_by}
+use Rattle.std.proofs.lemmas.List.Sums.{length-filter, count_by-le-length}
 use Rattle.std.proofs.lemmas.List.{take_all, take_more, drop-append-le}
 use Rattle.std.proofs.lemmas.List.Elements.{Contains-append_left, Contains-push, Contains-push_cases}
 use Rattle.std.proofs.lemmas.Option.{slice_get_within, get_or_from_slice_get}
@@ -22,9 +24,11 @@ from_on : (xs ys : List Point) (a k : ℕ) → a ≤ length xs → k ≡ length 
 from_on xs ys a k le e = ap (take k) (drop-append-le a xs ys le) ∙ take_all k (drop a xs ++ ys) (omega (arith, e, length-append (drop a xs) ys, length-drop a xs))
 
 -- the fresh points alone
-pub added_alone : (l : Told) (v w : Version) (fresh points : List Point) → v.first ≤ v.last → v.last ≡ length l.takes → points ≡ fresh → w.first ≡ v.first → w.last ≡ length l.takes + length points
-    → ((g : Timeline) → IsVersionOf v g → IsVersionOf w g) → IsAdding l v fresh points w
-added_alone l v w fresh points ordered at is first last tells = record {
+pub added_alone : (unclosed : Point → Bool) (l : Told) (v w : Version) (fresh points : List Point) → length (taken l.takes v) ≤ 2 * count_by unclosed (taken l.takes v) + 8 → v.first ≤ v.last → v.last ≡ length l.takes → points ≡ fresh → w.first ≡ v.first → w.last ≡ length l.takes + length points
+    → ((g : Timeline) → IsVersionOf v g → IsVersionOf w g) → IsAdding unclosed l v fresh points w
+added_alone unclosed l v w fresh points few ordered at is first last tells = record {
+  kept = taken l.takes v;
+  is_kept = record { cases = inl refl; few_closed = few };
   taken_is = taken_is;
   ordered = omega (arith, first, last, ordered, at);
   within = omega (arith, last, length-append l.takes points);
@@ -37,14 +41,16 @@ added_alone l v w fresh points ordered at is first last tells = record {
   taken_is : taken (l.takes ++ points) w ≡ taken l.takes v ++ fresh
   taken_is = ap (λ a. take (w.last - a) (drop a (l.takes ++ points))) first ∙ from_on l.takes points v.first (w.last - v.first) (omega (arith, ordered, at)) (omega (arith, last)) ∙ ap₂ (λ xs ys. xs ++ ys) (sym old) is
 
--- all that the point has taken, again
-pub added_again : (l : Told) (v w : Version) (fresh points : List Point) → points ≡ taken l.takes v ++ fresh → w.first ≡ length l.takes → w.last ≡ length l.takes + length points
-    → ((g : Timeline) → IsVersionOf v g → IsVersionOf w g) → IsAdding l v fresh points w
-added_again l v w fresh points is first last tells = record {
+-- all that the point has taken and isn't closed, again
+pub added_again : (unclosed : Point → Bool) (l : Told) (v w : Version) (fresh points : List Point) → points ≡ filter unclosed (taken l.takes v) ++ fresh → w.first ≡ length l.takes → w.last ≡ length l.takes + length points
+    → ((g : Timeline) → IsVersionOf v g → IsVersionOf w g) → IsAdding unclosed l v fresh points w
+added_again unclosed l v w fresh points is first last tells = record {
+  kept = filter unclosed (taken l.takes v);
+  is_kept = record { cases = inr refl; few_closed = omega (arith, length-filter unclosed (taken l.takes v)) };
   taken_is = ap (λ a. take (w.last - a) (drop a (l.takes ++ points))) first ∙ from_on l.takes points (length l.takes) (w.last - length l.takes) (omega arith) (omega (arith, last)) ∙ ap (λ xs. xs ++ points) (drop_all l.takes) ∙ is;
   ordered = omega (arith, first, last);
   within = omega (arith, last, length-append l.takes points);
-  few = omega (arith, ap length is, length-append (taken l.takes v) fresh);
+  few = omega (arith, ap length is, length-append (filter unclosed (taken l.takes v)) fresh, length-filter unclosed (taken l.takes v), count_by-le-length unclosed (taken l.takes v));
   tells = tells;
 }
 

@@ -1,6 +1,9 @@
 -- Whichever room what is kept has, it says the same.
-use Rattle.std.proofs.Common.{◌≡◌, ◌≢◌, ⊎_elim, ℕ, zero, suc, ◌-◌, ◌<◌, List, [], ◌∷◌, length, get_or, Option, Some, None, refl, sym, ap, ◌∙◌, subst, arith, length-set}
-use Rattle.std.specs.Prelude.{slice_get, slice_set}
+use Rattle.std.proofs.Common.{◌≡◌, ◌≢◌, ⊎_elim, ℕ, zero, suc, ◌-◌, ◌<◌, Bool, List, [], ◌∷◌, length, get_or, Option, Some, None, refl, sym, ap, ◌∙◌, subst, arith, length-set}
+use Rattle.std.specs.Prelude.{slice_get, slice_set, vec_len}
+use Rattle.std.specs.Vec.{vec_capacity}
+use Rattle.std.specs.declared.alloc.Global.{Global}
+use Rattle.std.specs.declared.vec.Vec.{Vec}
 use Rattle.std.specs.Option.{option_map_or}
 use Rattle.std.proofs.lemmas.Bool.{cases_eq}
 use Rattle.std.proofs.lemmas.Option.{slice_get_within}
@@ -10,20 +13,23 @@ use Rattle.tau_trace.specs.Steps.{actor}
 use Rattle.tau_trace.specs.Run.{Run, len}
 use Rattle.tau_trace.specs.Known.{MayFollow, WellFormed}
 use Rattle.tau_knowledge.specs.Knowing.{IsReady}
+use Rattle.tau_past.specs.Carried.{is_set}
 use Rattle.tau_past.specs.Heard.{heard_by, Heard, HeardBy}
 use Rattle.tau_trace.proofs.Lists.{same_some, slice_get-set_same, slice_get-set_other}
 use Rattle.tau_logs.specs.declared.version.Version.{Version}
 use Rattle.tau_logs.specs.Versions.{IsLatest}
 use Rattle.tau_logs.specs.Told.{Told}
 use Rattle.tau_hearing.specs.declared.own.Own.{Own}
+use Rattle.tau_hearing.specs.declared.letter.Letter.{Letter}
 use Rattle.tau_hearing.specs.declared.letter.Sender.{Sender}
 use Rattle.tau_hearing.specs.declared.hearing.Hearing.{Hearing}
-use Rattle.tau_hearing.specs.Bounds.{IsNumberAt, TellsBound, TellsBounds, TellsHeardBy, last_number}
+use Rattle.tau_hearing.specs.Bounds.{TellsNumber, TellsBounds, TellsHeardBy, last_number}
 use Rattle.tau_hearing.specs.Changed.{HasRoomToHear}
 use Rattle.tau_hearing.specs.Hears.{TellsOwn, Hears, Knows}
 use Rattle.tau_hearing.specs.Kept.{IsSameLog, AreSameLogs, IsSameOwn, AreSameOwn, IsSameKept, HasListRoom, HasActorStepRoom}
-use Rattle.tau_hearing.specs.Logs.{TellsLog, AreLogs}
-use Rattle.tau_hearing.specs.Next.{IsNext, HasRoomNext}
+use Rattle.tau_search.specs.Logs.{TellsLog, AreLogs}
+use Rattle.tau_hearing.specs.Next.{IsNext, HasStepRoom, HasRoomNext}
+use Rattle.tau_hearing.proofs.Bounds.{IsNumberAt, number_of, number_told}
 
 element : {A : Type 0} (xs : List A) (i : ℕ) → i < length xs → (x : A) × (slice_get xs i ≡ Some x)
 element [] i l = absurd (omega arith)
@@ -42,6 +48,7 @@ tells_log T u n old new same x =
     let H : List ℕ → Type 0 = λ cs. TellsLog T u n (with_room new.versions new.takes cs new) in
     subst H (sym same.2) (subst G (sym same.1) (subst F (sym same.0) (record {
       opens = x.opens;
+      few = x.few;
       histories = record { begun = x.histories.begun; told = x.histories.told; closed_is = x.histories.closed_is };
       takes = record { within = x.takes.within; told = x.takes.told };
     })))
@@ -62,8 +69,8 @@ module _ (L G : List Told) (same : AreSameLogs L G) where
       let F : List Version → Type 0 = λ vs. IsLatest vs a i x.version in
       record { log = z.0; stands = z.1; version = x.version; latest = subst F (sym z.2.0) x.latest }
 
-  told_same : (T : Run) (H : ℕ → Type 0) (n u i : ℕ) → TellsBound T H n L u i → TellsBound T H n G u i
-  told_same T H n u i x = record { place = x.place; within = x.within; is_bound = x.is_bound; is_number = number_same u x.place i x.is_number }
+  told_same : (T : Run) (H : ℕ → Type 0) (n u i : ℕ) → TellsNumber T H n L u i → TellsNumber T H n G u i
+  told_same T H n u i x = number_told x.tells.place x.tells.within x.tells.bound (number_same u x.tells.place i (number_of x))
 
   bounds_same : (T : Run) (H : ℕ → Type 0) (n who version : ℕ) (xs : List ℕ) → TellsBounds T H n L who version xs → TellsBounds T H n G who version xs
   bounds_same T H n who version xs x = record {
@@ -179,14 +186,15 @@ pub next_of : (h g : Hearing) (T : Run) (s : Step) → Knows h T → WellFormed 
 next_of h g T s knows known follows ready same room = record { knows = hears_same T (len T) h g same knows; well_formed = known; follows = follows; ready = ready; room = room }
 
 -- room for the transactor that makes the step is room for the step
-pub room_next : (g : Hearing) (s : Step) (who : ℕ) (message : Option ℕ) → HasListRoom g → who < length g.logs.items → actor s ≡ Some who → message ≡ heard_by s → HasActorStepRoom g who message → HasRoomNext g s
-room_next g s who message lists there by heard room = record {
+pub room_next : (g : Hearing) (s : Step) (who : ℕ) (sets : Bool) (message : Option ℕ) → HasListRoom g → who < length g.logs.items → actor s ≡ Some who → sets ≡ is_set s → message ≡ heard_by s → HasActorStepRoom g who sets message → HasRoomNext g s
+room_next g s who sets message lists there by set heard room = record {
   logs = lists.0;
   own = lists.1;
   letters = lists.2;
   log = λ t log x a e f.
       let same : t ≡ who = same_some (sym a ∙ by) in
-      (room log x (ap (slice_get g.logs.items) (sym same) ∙ e) (ap (slice_get g.own.items) (sym same) ∙ f)).0;
+      let F : Bool → Type 0 = λ b. HasStepRoom b log x in
+      subst F set (room log x (ap (slice_get g.logs.items) (sym same) ∙ e) (ap (slice_get g.own.items) (sym same) ∙ f)).0;
   hears = λ t m x a h f.
       let same : t ≡ who = same_some (sym a ∙ by) in
       let l = element g.logs.items who there in
@@ -203,3 +211,32 @@ nobody_next g s lists none = record {
   log = λ t log x a e f. let both : None ≡ Some t = sym none ∙ a in absurd (cc);
   hears = λ t m x a h f. let both : None ≡ Some t = sym none ∙ a in absurd (cc);
 }
+
+-- where the step hears of nothing, the numbers of the transactors need no room
+module _ (h g : Hearing) (T : Run) (s : Step) (next : IsNext h T s) (none : heard_by s ≡ None) (logs : g.logs ≡ h.logs) (own : AreSameOwn h.own.items g.own.items)
+    (room : (vec_len g.own ≡ vec_len h.own) × (vec_capacity g.own ≡ vec_capacity h.own)) (letters : g.letters ≡ h.letters) (falls : g.falls ≡ h.falls) where
+  same_kept : IsSameKept h g
+  same_kept = record {
+    logs = let F : Vec Told Global → Type 0 = λ v. AreSameLogs h.logs.items v.items in subst F (sym logs) (logs_are_same h.logs.items);
+    own = own;
+    letters = ap (λ v. v.items) letters;
+    falls = falls;
+  }
+
+  step_room : (t : ℕ) (log : Told) (x : Own) → actor s ≡ Some t → slice_get g.logs.items t ≡ Some log → slice_get g.own.items t ≡ Some x → HasStepRoom (is_set s) log x
+  step_room t log x a e f =
+      let y = element h.own.items t (omega (arith, slice_get_within g.own.items t x f, own.count)) in
+      let w = own.each t y.0 y.1 in
+      let F : Vec Told Global → Type 0 = λ v. slice_get v.items t ≡ Some log in
+      let z = next.room.log t log y.0 a (subst F logs e) y.1 in
+      let same : x ≡ w.0 = same_some (sym f ∙ w.1) in
+      record { versions = z.versions; takes = λ d. omega (arith, z.takes d, ap length (ap (λ o. o.roots) same ∙ w.2.roots)); closed = z.closed }
+
+  pub shared_next : IsNext g T s
+  shared_next = next_of h g T s next.knows next.well_formed next.follows next.ready same_kept (record {
+    logs = let F : Vec Told Global → Type 0 = λ v. vec_len v < vec_capacity v in subst F (sym logs) next.room.logs;
+    own = omega (arith, next.room.own, room.0, room.1);
+    letters = let F : Vec (Option Letter) Global → Type 0 = λ v. vec_len v < vec_capacity v in subst F (sym letters) next.room.letters;
+    log = step_room;
+    hears = λ t m x a e f. let both : None ≡ Some m = sym none ∙ e in absurd (cc);
+  })

@@ -17,7 +17,7 @@ use Rattle.tau_trace.specs.Points.{point_at}
 use Rattle.tau_trace.proofs.Agreement.{agree_appended, history-same}
 use Rattle.tau_trace.proofs.Lists.{same_some}
 use Rattle.tau_past.specs.Carried.{is_set, touches}
-use Rattle.tau_past.specs.Heard.{heard_by}
+use Rattle.tau_past.specs.Heard.{heard_by, Heard}
 use Rattle.tau_logs.specs.declared.version.Version.{Version}
 use Rattle.tau_logs.specs.Versions.{IsLatest, IsVersionOf}
 use Rattle.tau_logs.specs.Told.{Told}
@@ -31,10 +31,13 @@ use Rattle.tau_hearing.specs.declared.change.LogChange.TheVariants as log
 use Rattle.tau_hearing.specs.declared.change.TurnChange.TheVariants as turn
 use Rattle.tau_hearing.specs.After.{Leads}
 use Rattle.tau_hearing.specs.Changed.{TellsOn}
-use Rattle.tau_hearing.specs.Logs.{TellsLog, KeepsLatest}
+use Rattle.tau_hearing.specs.Laws.{WithoutClosed}
+use Rattle.tau_search.specs.Logs.{TellsLog}
+use Rattle.tau_hearing.specs.Logs.{KeepsLatest}
 use Rattle.tau_hearing.specs.Next.{IsNext, actor_change, turn_change, IsLast, AreFresh, IsAdding}
 use Rattle.tau_hearing.specs.Turns.{with_own, TellsTurn}
 use Rattle.tau_hearing.proofs.Bounds.{last_tells}
+use Rattle.tau_hearing.proofs.LeavingOut.{taken_then_without}
 use Rattle.tau_hearing.proofs.Leading as lead
 use Rattle.tau_hearing.proofs.Moves.{logs_step_by_step}
 use Rattle.tau_hearing.proofs.Turns.{turns_step_by_step, roots_among}
@@ -132,10 +135,10 @@ module _ (h : Hearing) (T : Run) (s : Step) (next : IsNext h T s) (t : ℕ) (by 
               subst G (append-nil (taken old.takes w)) (taken_then x (taken old.takes w) [] turn (subst F one are) told)
 
   -- a Set by which it takes the fresh roots
-  pub taking_leads : (v w : Version) (points : List Point) (more : Vec Point Global) → more.items ≡ points → IsLast h t v → w.from ≡ suc n
-      → ((l : Told) (x : Own) → slice_get h.logs.items t ≡ Some l → slice_get h.own.items t ≡ Some x → (fresh : List Point) × AreFresh x.roots me (taken l.takes v) fresh × IsAdding l v fresh points w)
+  pub taking_leads : (unclosed : Point → Bool) (v w : Version) (points : List Point) (more : Vec Point Global) → more.items ≡ points → IsLast h t v → w.from ≡ suc n
+      → ((l : Told) (x : Own) → slice_get h.logs.items t ≡ Some l → slice_get h.own.items t ≡ Some x → (fresh : List Point) × AreFresh x.roots me (taken l.takes v) fresh × ((add : IsAdding unclosed l v fresh points w) × WithoutClosed U (Heard U t n) (taken l.takes v) add.kept))
       → Leads h (actor_change (record { who = t; hears = None; log = log.Takes more w; turn = turn.Depends }) None false) U
-  taking_leads v w points more is last from takes = lead.actor_leads h T s next (record { who = t; hears = None; log = log.Takes more w; turn = turn.Depends }) None false by (of_set is_new false (λ u z. refl) s set)
+  taking_leads unclosed v w points more is last from takes = lead.actor_leads h T s next (record { who = t; hears = None; log = log.Takes more w; turn = turn.Depends }) None false by (of_set is_new false (λ u z. refl) s set)
       (of_set makes_message false (λ u z. refl) s set) none_gone (ap is_fall (keeps (history T t n).stable))
       (record {
         acts = lead.acting h T s next t by;
@@ -157,9 +160,9 @@ module _ (h : Hearing) (T : Run) (s : Step) (next : IsNext h T s) (t : ℕ) (by 
             let F : Timeline → Type 0 = IsVersionOf w in
             let before = tells.takes.told n (length old.versions - 1) v (omega arith) told.latest in
             let G : List Point → Type 0 = TellsTaken U t (suc n) in
-            (logs_step_by_step U t n old (lead.known h T s next) tells).added new w points (record { versions = versions; takes = grown; ordered = y.2.ordered; within = omega (arith, y.2.within, ap length grown) }) from
-            (tells_on U t n from (subst F (sym history_stays) (y.2.tells (history U t n) told.tells)) (ap (λ g. g.closed) history_stays ∙ sym (append-nil (history U t n).closed)) tells.histories)
-            (subst G (sym (ap (λ ps. taken ps w) grown ∙ y.2.taken_is)) (taken_then x (taken old.takes v) y.0 turn y.1 before))
+            (logs_step_by_step U t n old (lead.known h T s next) tells).added new w points (record { versions = versions; takes = grown; ordered = y.2.0.ordered; within = omega (arith, y.2.0.within, ap length grown) }) from
+            (tells_on U t n from (subst F (sym history_stays) (y.2.0.tells (history U t n) told.tells)) (ap (λ g. g.closed) history_stays ∙ sym (append-nil (history U t n).closed)) tells.histories)
+            (subst G (sym (ap (λ ps. taken ps w) grown ∙ y.2.0.taken_is)) (taken_then_without U t n (taken old.takes v) y.2.0.kept y.0 y.2.1 (taken_then x (taken old.takes v) y.0 turn y.1 before)))
 
         fits : (l : Told) → slice_get h.logs.items t ≡ Some l → (1 ≤ l.spare_versions) × (length more.items ≤ l.spare_takes)
         fits l e =
@@ -167,4 +170,4 @@ module _ (h : Hearing) (T : Run) (s : Step) (next : IsNext h T s) (t : ℕ) (by 
             let room = next.room.log t l x.0 by e x.1 in
             let y = takes l x.0 e x.1 in
             let same : takes_told l (length l.versions - 1) ≡ taken l.takes v = ap (λ o. option_map_or (taken l.takes) o []) (last l e) in
-            (room.versions, omega (arith, room.takes, ap length is, y.1.few, y.2.few, ap length same))
+            (room.versions, omega (arith, room.takes set, ap length is, y.1.few, y.2.0.few, ap length same))

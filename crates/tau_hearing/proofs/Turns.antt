@@ -24,7 +24,7 @@ use Rattle.tau_trace.proofs.Quiet.{acts}
 use Rattle.tau_past.specs.Carried.{touches, is_set, Pending, Carried, SentWith, TakesBy, by_set}
 use Rattle.tau_past.specs.Heard.{heard_by, Own, own_step, own_birth, Heard, HeardBy}
 use Rattle.tau_past.specs.KnownLaws.{KeepsPending, keeps_pending}
-use Rattle.tau_past.specs.Pasts.{ClosesAt, checkpoint, opening}
+use Rattle.tau_past.specs.Pasts.{ClosesAt}
 use Rattle.tau_past.proofs.Known.{acts_known, heard_closed}
 use Rattle.tau_past.proofs.HeardLemmas.{absorbs_message, heard_grows, heard_with_sender}
 use Rattle.tau_past.proofs.PendingLemmas.{pending_turn, pending_after_step}
@@ -33,6 +33,7 @@ use Rattle.tau_logs.proofs.Taking.{cover_on}
 use Rattle.tau_logs.proofs.Newborns.{newborns_take_what_is_carried}
 use Rattle.tau_hearing.specs.Turns.{with_own, taken_along, IsAlong, TellsTurn}
 use Rattle.tau_hearing.specs.Laws.{WithoutClosed, TurnAfterStep, TurnsStepByStep, CarriedStays}
+use Rattle.tau_hearing.proofs.LeavingOut.{closed_on}
 
 -- Which steps leave the point.
 
@@ -75,10 +76,6 @@ point_stays T t n test none d = (points_grow T t n).stays (λ l. apart (leaves_e
       cc
 
 -- What is covered.
-
-closed_on : (T : Run) (H G : ℕ → Type 0) (t i : ℕ) (q : Point) → ((j : ℕ) → H j → G j) → ClosesAt T H t i q → ClosesAt T G t i q
-closed_on T H G t i q grows (checkpoint {j = j} h c e f) = checkpoint (grows j h) c e f
-closed_on T H G t i q grows (opening a b c) = opening a b c
 
 own_on : (T : Run) (t n j : ℕ) → Own T t n j → Own T t (suc n) j
 own_on T t n j (own_step a lt) = own_step a (omega (arith, lt))

@@ -3,31 +3,22 @@ use Rattle.std.specs.Prelude.{◌≡◌, ◌≢◌, ℕ, ◌<◌, ◌≤◌, ◌
 use Rattle.std.specs.Option.{option_map_or}
 use Rattle.tau_trace.specs.Run.{Run}
 use Rattle.tau_trace.specs.Numbering.{HasSender}
-use Rattle.tau_past.specs.Heard.{HeardBy, Bound}
-use Rattle.tau_logs.specs.declared.version.Version.{Version}
-use Rattle.tau_logs.specs.Versions.{IsLatest}
+use Rattle.tau_past.specs.Heard.{HeardBy}
 use Rattle.tau_logs.specs.Told.{Told}
+use Rattle.tau_search.specs.Logs.{TellsBound}
 use Rattle.tau_hearing.specs.declared.letter.Sender.{Sender}
 
--- the version of u with this number is its latest one at place a
-pub record IsNumberAt (logs : List Told) (u a number : ℕ) : Type 0 where
+-- there is a log of u, and the number is that of its latest version that is known in H
+pub record TellsNumber (T : Run) (H : ℕ → Type 0) (n : ℕ) (logs : List Told) (u number : ℕ) : Type 0 where
   pub log : Told
   pub stands : slice_get logs u ≡ Some log
-  pub version : Version
-  pub latest : IsLatest log.versions a number version
-
--- the version of u with this number is its latest one that is known in H
-pub record TellsBound (T : Run) (H : ℕ → Type 0) (n : ℕ) (logs : List Told) (u number : ℕ) : Type 0 where
-  pub place : ℕ
-  pub within : place ≤ n
-  pub is_bound : Bound T H u place
-  pub is_number : IsNumberAt logs u place number
+  pub tells : TellsBound T H n u log number
 
 -- a version of `who`, and for each other transactor the number in a list, 0 where none stands, tell what is known in H; what
 -- the list has for `who` isn't later than that version
 pub record TellsBounds (T : Run) (H : ℕ → Type 0) (n : ℕ) (logs : List Told) (who version : ℕ) (numbers : List ℕ) : Type 0 where
-  pub own : TellsBound T H n logs who version
-  pub others : (u : ℕ) → u < length logs → u ≢ who → TellsBound T H n logs u (get_or numbers u 0)
+  pub own : TellsNumber T H n logs who version
+  pub others : (u : ℕ) → u < length logs → u ≢ who → TellsNumber T H n logs u (get_or numbers u 0)
   pub not_later : get_or numbers who 0 ≤ version
   pub few : length numbers ≤ length logs
 
@@ -37,7 +28,7 @@ last_number logs u = option_map_or (λ log. length log.versions - 1) (slice_get 
 
 -- what a message has heard is what its sender had heard, with the Send; a post has heard nothing
 abbrev pub TellsHeardBy : Run → ℕ → ℕ → List Told → Option Sender → Type 0
-TellsHeardBy T m n logs None = (u : ℕ) → u < length logs → TellsBound T (HeardBy T m) n logs u 0
+TellsHeardBy T m n logs None = (u : ℕ) → u < length logs → TellsNumber T (HeardBy T m) n logs u 0
 TellsHeardBy T m n logs (Some s) = HasSender T m s.who × TellsBounds T (HeardBy T m) n logs s.who s.version s.numbers.value.items
 
 -- numbers raised by others and by a version of `who`: each is the greater one

@@ -19,7 +19,8 @@ use Rattle.tau_hearing.specs.declared.change.LogChange.TheVariants as log
 use Rattle.tau_hearing.specs.declared.change.HearingChange.{HearingChange}
 use Rattle.tau_hearing.specs.Changed.{IsLogAfter, roots_after, touched_after, depended_after}
 use Rattle.tau_hearing.specs.Bounds.{last_number, AreRaised}
-use Rattle.tau_hearing.specs.Logs.{TellsLog, KeepsLatest}
+use Rattle.tau_search.specs.Logs.{TellsLog}
+use Rattle.tau_hearing.specs.Logs.{KeepsLatest}
 use Rattle.tau_hearing.specs.Turns.{IsAlong, TellsTurn}
 use Rattle.tau_hearing.specs.Falls.{falls_at}
 use Rattle.tau_hearing.specs.Hears.{Hears}

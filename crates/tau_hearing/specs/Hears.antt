@@ -8,7 +8,7 @@ use Rattle.tau_logs.specs.Takes.{TellsSent}
 use Rattle.tau_hearing.specs.declared.own.Own.{Own}
 use Rattle.tau_hearing.specs.declared.letter.Letter.{Letter}
 use Rattle.tau_hearing.specs.declared.hearing.Hearing.{Hearing}
-use Rattle.tau_hearing.specs.Logs.{AreLogs}
+use Rattle.tau_search.specs.Logs.{AreLogs}
 use Rattle.tau_hearing.specs.Bounds.{TellsBounds, TellsHeardBy, last_number}
 use Rattle.tau_hearing.specs.Turns.{TellsTurn}
 use Rattle.tau_hearing.specs.Falls.{falling_steps}

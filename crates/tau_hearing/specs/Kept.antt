@@ -1,5 +1,5 @@
 -- What is kept is the same, whichever room it has.
-use Rattle.std.specs.Prelude.{◌≡◌, ℕ, ◌<◌, ◌≤◌, List, Option, Some, length, slice_get, vec_len}
+use Rattle.std.specs.Prelude.{◌≡◌, ℕ, ◌<◌, ◌≤◌, Bool, List, Option, Some, length, slice_get, vec_len}
 use Rattle.std.specs.Vec.{vec_capacity}
 use Rattle.tau_logs.specs.Told.{Told}
 use Rattle.tau_hearing.specs.declared.own.Own.{Own}
@@ -48,5 +48,5 @@ abbrev pub HasListRoom : Hearing → Type 0
 HasListRoom h = (vec_len h.logs < vec_capacity h.logs) × (vec_len h.own < vec_capacity h.own) × (vec_len h.letters < vec_capacity h.letters)
 
 -- there is room for what a step of a transactor may add, and for what it hears of
-abbrev pub HasActorStepRoom : Hearing → ℕ → Option ℕ → Type 0
-HasActorStepRoom h who message = (l : Told) (x : Own) → slice_get h.logs.items who ≡ Some l → slice_get h.own.items who ≡ Some x → HasStepRoom l x × HasRoomToHear message h.letters.items x.numbers
+abbrev pub HasActorStepRoom : Hearing → ℕ → Bool → Option ℕ → Type 0
+HasActorStepRoom h who sets message = (l : Told) (x : Own) → slice_get h.logs.items who ≡ Some l → slice_get h.own.items who ≡ Some x → HasStepRoom sets l x × HasRoomToHear message h.letters.items x.numbers

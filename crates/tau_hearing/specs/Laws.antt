@@ -17,7 +17,8 @@ use Rattle.tau_logs.specs.Told.{Told}
 use Rattle.tau_logs.specs.Takes.{ClosedIn, TellsTaken, TellsSent}
 use Rattle.tau_hearing.specs.declared.letter.Sender.{Sender}
 use Rattle.tau_hearing.specs.Bounds.{TellsBounds, TellsHeardBy, last_number, AreRaised}
-use Rattle.tau_hearing.specs.Logs.{AreLogs, LogsGoOn}
+use Rattle.tau_search.specs.Logs.{AreLogs}
+use Rattle.tau_hearing.specs.Logs.{LogsGoOn}
 use Rattle.tau_hearing.specs.Turns.{IsAlong, TellsTurn}
 use Rattle.tau_hearing.specs.Falls.{falling_steps}
 

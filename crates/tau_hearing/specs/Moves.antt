@@ -12,7 +12,8 @@ use Rattle.tau_logs.specs.Told.{Told, TellsHistories}
 use Rattle.tau_logs.specs.Takes.{taken, TellsTaken}
 use Rattle.tau_hearing.specs.declared.own.Own.{Own}
 use Rattle.tau_hearing.specs.declared.letter.Letter.{Letter}
-use Rattle.tau_hearing.specs.Logs.{TellsLog, KeepsLatest}
+use Rattle.tau_search.specs.Logs.{TellsLog}
+use Rattle.tau_hearing.specs.Logs.{KeepsLatest}
 use Rattle.tau_hearing.specs.Hears.{Hears}
 
 -- a version was added to a log, and takes to its takes

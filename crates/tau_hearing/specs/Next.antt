@@ -1,5 +1,5 @@
 -- A step that follows a run, and the changes by its kind.
-use Rattle.std.specs.Prelude.{◌≡◌, ◌≢◌, ◌⊎◌, ℕ, suc, ◌+◌, ◌-◌, ◌<◌, ◌≤◌, Bool, true, false, List, [], ◌∷◌, ◌++◌, length, Option, Some, None, slice_get, vec_len, Contains}
+use Rattle.std.specs.Prelude.{◌≡◌, ◌≢◌, ◌⊎◌, ℕ, suc, ◌+◌, ◌-◌, ◌<◌, ◌≤◌, Bool, true, false, IsTrue, List, [], ◌∷◌, ◌++◌, length, Option, Some, None, slice_get, vec_len, Contains}
 use Rattle.std.specs.Vec.{vec_capacity}
 use Rattle.tau_history.specs.Timeline.{Timeline, Move, close, fall, moved}
 use Rattle.tau_points.specs.declared.point.Point.{Point}
@@ -8,6 +8,7 @@ use Rattle.tau_trace.specs.declared.step.Step.TheVariants.{Get, Skip, Ask, Hold,
 use Rattle.tau_trace.specs.Steps.{actor}
 use Rattle.tau_trace.specs.Run.{Run, ActsAt, starts}
 use Rattle.tau_trace.specs.Known.{MayFollow, WellFormed}
+use Rattle.tau_past.specs.Carried.{is_set}
 use Rattle.tau_past.specs.Heard.{heard_by}
 use Rattle.tau_knowledge.specs.Knowing.{IsReady}
 use Rattle.tau_logs.specs.declared.version.Version.{Version}
@@ -23,12 +24,14 @@ use Rattle.tau_hearing.specs.declared.change.TurnChange.{TurnChange}
 use Rattle.tau_hearing.specs.declared.change.TurnChange.TheVariants as turn
 use Rattle.tau_hearing.specs.declared.change.HearingChange.{HearingChange}
 use Rattle.tau_hearing.specs.Changed.{HasRoomToHear}
+use Rattle.tau_hearing.specs.Closing.{IsKept}
 use Rattle.tau_hearing.specs.Hears.{Knows}
 
--- the log has room for what a step may add to it: a version, the roots of the turn and what the point has taken, a closed interval
-pub record HasStepRoom (log : Told) (x : Own) : Type 0 where
+-- the log has room for what a step may add to it: a version, a closed interval and, by a Set, the roots of the turn and what the
+-- point has taken
+pub record HasStepRoom (sets : Bool) (log : Told) (x : Own) : Type 0 where
   pub versions : 1 ≤ log.spare_versions
-  pub takes : length x.roots + length (takes_told log (length log.versions - 1)) ≤ log.spare_takes
+  pub takes : IsTrue sets → length x.roots + length (takes_told log (length log.versions - 1)) ≤ log.spare_takes
   pub closed : 1 ≤ log.spare_closed
 
 -- what is kept has room for the step
@@ -36,7 +39,7 @@ pub record HasRoomNext (h : Hearing) (s : Step) : Type 0 where
   pub logs : vec_len h.logs < vec_capacity h.logs
   pub own : vec_len h.own < vec_capacity h.own
   pub letters : vec_len h.letters < vec_capacity h.letters
-  pub log : (t : ℕ) (log : Told) (x : Own) → actor s ≡ Some t → slice_get h.logs.items t ≡ Some log → slice_get h.own.items t ≡ Some x → HasStepRoom log x
+  pub log : (t : ℕ) (log : Told) (x : Own) → actor s ≡ Some t → slice_get h.logs.items t ≡ Some log → slice_get h.own.items t ≡ Some x → HasStepRoom (is_set s) log x
   pub hears : (t m : ℕ) (x : Own) → actor s ≡ Some t → heard_by s ≡ Some m → slice_get h.own.items t ≡ Some x → HasRoomToHear (Some m) h.letters.items x.numbers
 
 -- what is kept is right for the run, the step may follow it, and there is room
@@ -105,9 +108,11 @@ pub record AreFresh (roots : List Point) (me : Point) (taken fresh : List Point)
   pub all : (q : Point) → Contains roots q → q ≢ me → Contains taken q ⊎ Contains fresh q
   pub few : length fresh ≤ length roots
 
--- with the points at the end of the log's takes, the second version's point has taken what the first one's has, and the fresh ones
-pub record IsAdding (l : Told) (old : Version) (fresh points : List Point) (new : Version) : Type 0 where
-  pub taken_is : taken (l.takes ++ points) new ≡ taken l.takes old ++ fresh
+-- with the points at the end of the log's takes, the second version's point has taken what the first one's keeps, and the fresh ones
+pub record IsAdding (unclosed : Point → Bool) (l : Told) (old : Version) (fresh points : List Point) (new : Version) : Type 0 where
+  pub kept : List Point
+  pub is_kept : IsKept unclosed (taken l.takes old) kept
+  pub taken_is : taken (l.takes ++ points) new ≡ kept ++ fresh
   pub ordered : new.first ≤ new.last
   pub within : new.last ≤ length (l.takes ++ points)
   pub few : length points ≤ length (taken l.takes old) + length fresh

@@ -1,23 +1,28 @@
 //! What a step changes, by its kind.
-ghost use Rattle.std.specs.Prelude.{◌≡◌, IfOk, Some, slice_get};
+ghost use Rattle.std.specs.Prelude.{◌≡◌, ◌<◌, IfOk, IsTrue, Some, length, slice_get, vec_len};
+ghost use Rattle.std.specs.Vec.{vec_capacity};
 ghost use Rattle.tau_trace.specs.Run.{appended};
-ghost use Rattle.tau_trace.specs.Steps.{actor};
+ghost use Rattle.tau_trace.specs.Steps.{actor, is_send};
 ghost use Rattle.tau_hearing.specs.declared.own.Own.{Own};
 ghost use Rattle.tau_hearing.specs.After.{Leads};
+ghost use Rattle.tau_hearing.specs.Hears.{Knows};
+ghost use Rattle.tau_hearing.specs.Kept.{AreSameOwn};
 ghost use Rattle.tau_hearing.specs.Next.{IsNext};
 
 use crate::change::HearingChange;
 use crate::hearing::Hearing;
-use std::alloc::{AllocError, Global};
+use crate::room::share_numbers_of;
+use std::alloc::AllocError;
 use std::sync::Arc;
 use tau_trace::{Step, Trace};
 
 impl Hearing {
-    /// What a step at the end of the run changes, for which there is room (docs/rules.md, "Steps"). The error is want of
-    /// memory.
-    pub fn change_of(&self, trace: &Trace, step: &Step) -> Result<HearingChange, AllocError>
-        requires next { IsNext self.now trace.now.run step.now }
-        ensures { IfOk result (λ c. Leads self.now c (appended trace.now.run step.now)) }
+    /// What a step at the end of the run changes, for which there is room (docs/rules.md, "Steps"). What is kept says the same
+    /// after it: by a Send the numbers of its sender are shared with the message. The error is want of memory.
+    pub fn change_of(&mut self, trace: &Trace, step: &Step) -> Result<HearingChange, AllocError>
+        requires next { IsNext self.old trace.now.run step.now }
+        ensures ok { IfOk result (λ c. Leads self.new c (appended trace.now.run step.now)) }
+        ensures kept { Knows self.new trace.now.run }
     {
         match step {
             Step::Take { who, message } => self.by_take(trace, step, *who, *message),
@@ -30,10 +35,7 @@ impl Hearing {
             }
             Step::Set { who, .. } => self.by_set(trace, step, *who),
             Step::Stabilize { who } => Ok(self.by_stabilize(trace, step, *who)),
-            Step::Send { who, .. } => {
-                let numbers = self.copied_numbers(trace, step, *who)?;
-                self.by_send(trace, step, *who, numbers)
-            }
+            Step::Send { who, .. } => self.share_and_send(trace, step, *who),
             Step::New { who, .. } => self.by_new(trace, step, *who),
             Step::Checkpoint { who } => Ok(self.by_close(trace, step, *who)),
             Step::Rollback { who } => Ok(self.by_rollback(trace, step, *who)),
@@ -44,27 +46,31 @@ impl Hearing {
         }
     }
 
-    /// A copy of the numbers of the transactor that makes a step. The error is want of memory.
-    fn copied_numbers(
-        &self,
+    /// A Send, by numbers that the message shares with its sender. The error is want of memory.
+    fn share_and_send(
+        &mut self,
         trace: &Trace,
         step: &Step,
         who: u32,
-    ) -> Result<Arc<Vec<u32>>, AllocError>
-        requires next { IsNext self.now trace.now.run step.now }
+    ) -> Result<HearingChange, AllocError>
+        requires next { IsNext self.old trace.now.run step.now }
         requires by { actor step.now ≡ Some who }
-        ensures { IfOk result (λ a. (x : Own) → slice_get self.now.own.items who ≡ Some x → a.value.items ≡ x.numbers.numbers) }
+        requires kind { IsTrue (is_send step.now) }
+        ensures ok { IfOk result (λ c. Leads self.new c (appended trace.now.run step.now)) }
+        ensures kept { Knows self.new trace.now.run }
     {
-        let own = self.own_of(trace, step, who);
-        let copy = copied(self.alloc, own.numbers.items())?;
-        Ok(copy)
+        let numbers = self.share_numbers(who)?;
+        self.by_send(trace, step, who, numbers)
     }
-}
 
-/// A shared copy of a list. The error is want of memory.
-fn copied(alloc: Global, numbers: &[u32]) -> Result<Arc<Vec<u32>>, AllocError>
-    ensures { IfOk result (λ a. a.value.items ≡ numbers.now) }
-{
-    let copy = Vec::from_slice(alloc, numbers)?;
-    Ok(Arc::new(alloc, copy)?)
+    /// Makes the numbers of a transactor shared, and gives another owner of them. The error is want of memory.
+    fn share_numbers(&mut self, who: u32) -> Result<Arc<Vec<u32>>, AllocError>
+        requires exists { who < length self.old.own.items }
+        ensures own { AreSameOwn self.old.own.items self.new.own.items }
+        ensures room { (vec_len self.new.own ≡ vec_len self.old.own) × (vec_capacity self.new.own ≡ vec_capacity self.old.own) }
+        ensures others { (self.new.logs ≡ self.old.logs) × (self.new.letters ≡ self.old.letters) × (self.new.falls ≡ self.old.falls) }
+        ensures numbers { IfOk result (λ a. (x : Own) → slice_get self.new.own.items who ≡ Some x → a.value.items ≡ x.numbers.numbers) }
+    {
+        share_numbers_of(&mut self.own, who)
+    }
 }

@@ -56,7 +56,7 @@ impl Hearing {
         // Its contract says that the trace is well-formed.
         let _steps = trace.len();
         let letter = self.letter_of(trace, message);
-        let own = self.heard_of(trace, who)?;
+        let own = self.heard_of(trace, who);
         let heard = Together {
             own,
             message: heard_by(letter),
@@ -81,7 +81,7 @@ impl Hearing {
     {
         // Its contract says that the trace is well-formed.
         let _steps = trace.len();
-        let heard = self.heard_of(trace, who)?;
+        let heard = self.heard_of(trace, who);
         let me = self.point_of(trace, who);
         let found = finds_not_firm(alloc, &self.logs, &heard, &[me])?;
         Ok(!found)

@@ -1,39 +1,78 @@
 //! What a transactor and a message have heard, as a search asks for it.
-ghost use Rattle.std.specs.Prelude.{◌≡◌, ◌<◌, ◌-◌, ℕ, List, length, slice_get, Some, IfOk};
-ghost use Rattle.tau_trace.specs.Run.{Run, len};
+ghost use Rattle.std.specs.Prelude.{◌≡◌, ◌<◌, ◌-◌, ℕ, List, length, slice_get, Some};
+ghost use Rattle.tau_trace.specs.Run.{Run, len, appended};
+ghost use Rattle.tau_trace.specs.Steps.{actor};
 ghost use Rattle.tau_trace.specs.Numbering.{born, InFlight};
 ghost use Rattle.tau_trace.specs.Points.{point_at};
-ghost use Rattle.tau_past.specs.Heard.{Heard, HeardBy};
+ghost use Rattle.tau_past.specs.Heard.{heard_by, Heard, HeardBy, HeardTogether};
 ghost use Rattle.tau_logs.specs.Told.{Told};
 ghost use Rattle.tau_logs.specs.declared.version.Version.{Version};
 ghost use Rattle.tau_search.specs.Logs.{TellBounds};
-ghost use Rattle.tau_search.specs.Numbered.{with_version};
+ghost use Rattle.tau_search.specs.Numbered.{with_version, later};
 ghost use Rattle.tau_hearing.specs.Bounds.{TellsHeardBy, last_number};
 ghost use Rattle.tau_hearing.specs.Hears.{Knows};
+ghost use Rattle.tau_hearing.specs.Next.{IsNext};
 
 use crate::hearing::Hearing;
 use crate::letter::{Letter, Sender};
 use crate::own::Own;
-use std::alloc::AllocError;
 use tau_logs::Log;
 use tau_points::Point;
-use tau_search::Numbered;
-use tau_trace::Trace;
+use tau_search::{Numbered, Together};
+use tau_trace::{Step, Trace};
 
 impl Hearing {
-    /// What a transactor that exists has heard. The error comes where it has more versions than a number can tell.
-    pub(crate) fn heard_of(&self, trace: &Trace, who: u32) -> Result<Numbered<'_>, AllocError>
+    /// What a transactor that exists has heard.
+    pub(crate) fn heard_of(&self, trace: &Trace, who: u32) -> Numbered<'_>
         requires knows { Knows self.now trace.now.run }
         requires exists { who < born trace.now.run (len trace.now.run) }
-        ensures { IfOk result (λ h. TellBounds trace.now.run (Heard trace.now.run who (len trace.now.run)) (len trace.now.run) self.now.logs.items (with_version h.who h.version h.numbers.now)) }
+        ensures { TellBounds trace.now.run (Heard trace.now.run who (len trace.now.run)) (len trace.now.run) self.now.logs.items (with_version result.who result.version result.numbers.now) }
     {
-        let version = self.last_number(who)?;
+        let version = self.last_number(trace, who);
         let own = self.kept_of(trace, who);
-        Ok(Numbered {
+        Numbered {
             who,
             version,
             numbers: own.numbers.items(),
-        })
+        }
+    }
+
+    /// What the transactor that makes a step has heard before it.
+    pub(crate) fn heard_before(&self, trace: &Trace, step: &Step, who: u32) -> Numbered<'_>
+        requires next { IsNext self.now trace.now.run step.now }
+        requires by { actor step.now ≡ Some who }
+        ensures { TellBounds (appended trace.now.run step.now) (Heard (appended trace.now.run step.now) who (len trace.now.run)) (len trace.now.run) self.now.logs.items
+            (with_version result.who result.version result.numbers.now) }
+    {
+        let version = self.last_number(trace, who);
+        let own = self.own_of(trace, step, who);
+        Numbered {
+            who,
+            version,
+            numbers: own.numbers.items(),
+        }
+    }
+
+    /// What the transactor and the message that it hears of have heard, together, before the step.
+    pub(crate) fn heard_together(
+        &self,
+        trace: &Trace,
+        step: &Step,
+        who: u32,
+        message: u32,
+    ) -> Together<'_>
+        requires next { IsNext self.now trace.now.run step.now }
+        requires by { actor step.now ≡ Some who }
+        requires hears { heard_by step.now ≡ Some message }
+        ensures { TellBounds (appended trace.now.run step.now) (HeardTogether (appended trace.now.run step.now) who (len trace.now.run) message) (len trace.now.run) self.now.logs.items
+            (later (with_version result.own.who result.own.version result.own.numbers.now) (with_version result.message.who result.message.version result.message.numbers.now)) }
+    {
+        let own = self.heard_before(trace, step, who);
+        let letter = self.letter(trace, step, message);
+        Together {
+            own,
+            message: heard_by(letter),
+        }
     }
 
     /// What is kept of a transactor that exists.

@@ -1,18 +1,23 @@
 //! What each kind of step changes.
-ghost use Rattle.std.specs.Prelude.{◌≡◌, IfOk, IsTrue, Some};
+ghost use Rattle.std.specs.Prelude.{◌≡◌, suc, IfOk, IsTrue, Some, slice_get};
 ghost use Rattle.tau_trace.specs.declared.step.Step.TheVariants.{Take, Drop, Fall, Void, Stabilize, Checkpoint, Rollback, Lose};
-ghost use Rattle.tau_trace.specs.Run.{appended};
+ghost use Rattle.tau_trace.specs.Run.{len, appended};
 ghost use Rattle.tau_trace.specs.Steps.{actor};
+ghost use Rattle.tau_past.specs.Heard.{heard_by, Heard};
+ghost use Rattle.tau_hearing.specs.declared.letter.Letter.{Letter};
 ghost use Rattle.tau_hearing.specs.After.{Leads};
+ghost use Rattle.tau_hearing.specs.Laws.{WithoutClosed};
 ghost use Rattle.tau_hearing.specs.Next.{IsNext, only_touches, only_ends, falls_if_volatile};
 
 use crate::change::{ActorChange, HearingChange, LogChange, TurnChange};
 use crate::hearing::Hearing;
+use crate::roots::Roots;
 use std::alloc::AllocError;
 use tau_trace::{Step, Trace};
 
 impl Hearing {
-    /// A Take: the numbers are raised, and the turn begins with what the message carries.
+    /// A Take: the numbers are raised, and the turn begins with what the message carries and isn't closed by what its receiver
+    /// and it have heard. The error is want of memory.
     pub(crate) fn by_take(
         &self,
         trace: &Trace,
@@ -24,10 +29,30 @@ impl Hearing {
         requires kind { step.now ≡ Take who message }
         ensures { IfOk result (λ c. Leads self.now c (appended trace.now.run step.now)) }
     {
-        let roots = self.letter(trace, step, message).roots.share()?;
+        let roots = self.roots_taken(trace, step, who, message)?;
         let hears = self.news(trace, step, who, message);
         let actor = ActorChange::of(who, hears, LogChange::Stays, TurnChange::Begins(roots));
         Ok(HearingChange::of_actor(actor, Some(message), false))
+    }
+
+    /// What the message that a step hears of carries and isn't closed. The error is want of memory.
+    fn roots_taken(
+        &self,
+        trace: &Trace,
+        step: &Step,
+        who: u32,
+        message: u32,
+    ) -> Result<Roots, AllocError>
+        requires next { IsNext self.now trace.now.run step.now }
+        requires by { actor step.now ≡ Some who }
+        requires hears { heard_by step.now ≡ Some message }
+        ensures { IfOk result (λ r. (l : Letter) → slice_get self.now.letters.items message ≡ Some (Some l)
+            → WithoutClosed (appended trace.now.run step.now) (Heard (appended trace.now.run step.now) who (suc (len trace.now.run))) l.roots r) }
+    {
+        let heard = self.heard_together(trace, step, who, message);
+        let letter = self.letter(trace, step, message);
+        let roots = letter.roots.unclosed(self.alloc, &self.logs, &heard)?;
+        Ok(roots)
     }
 
     /// A Drop: the numbers are raised.

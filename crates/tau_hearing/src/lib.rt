@@ -12,6 +12,7 @@ mod along;
 mod applying;
 mod change;
 mod choosing;
+mod closing;
 mod deciding;
 mod heard;
 mod hearing;

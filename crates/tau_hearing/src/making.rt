@@ -20,7 +20,8 @@ use tau_logs::Log;
 use tau_trace::{Step, Trace};
 
 impl Hearing {
-    /// A Set: the own point takes each root that it hasn't taken, and is touched. The error is want of memory.
+    /// A Set: the own point takes each root that it hasn't taken, and is touched. Where many points that it has taken are closed, they
+    /// are left out. The error is want of memory.
     pub(crate) fn by_set(
         &self,
         trace: &Trace,
@@ -43,12 +44,15 @@ impl Hearing {
             &own.roots,
             me,
             log.taken(log.len().saturating_sub(1)),
+            self.logs.len(),
         )?;
         if is_none(&fresh) {
             return Ok(HearingChange::of_turn(who, TurnChange::Depends));
         }
         let version = self.last_version(trace, step, who);
-        let added = adding(self.alloc, log, version, fresh, trace.len() + 1)?;
+        let heard = self.heard_before(trace, step, who);
+        let from = trace.len() + 1;
+        let added = adding(self.alloc, &self.logs, &heard, log, version, fresh, from)?;
         let change = LogChange::Takes(added.points, added.version);
         let actor = ActorChange::of(who, None, change, TurnChange::Depends);
         Ok(HearingChange::of_actor(actor, None, false))
@@ -69,7 +73,7 @@ impl Hearing {
         ensures { IfOk result (λ c. Leads self.now c (appended trace.now.run step.now)) }
     {
         let roots = self.along(trace, step, who)?;
-        let version = self.last_number(who)?;
+        let version = self.last_number(trace, who);
         let sender = Sender {
             who,
             version,
@@ -105,7 +109,7 @@ impl Hearing {
         if u32::try_from(takes.len()).is_err() {
             return Err(AllocError);
         }
-        let version = self.last_number(who)?;
+        let version = self.last_number(trace, who);
         let creator = self.own_of(trace, step, who);
         let numbers = inherited(self.alloc, creator.numbers.items(), who, version)?;
         let newborn = Newborn {

@@ -1,9 +1,10 @@
 //! What a step changes, with room for it.
-ghost use Rattle.std.specs.Prelude.{◌≡◌, ◌<◌, ◌+◌, ◌-◌, ℕ, length, slice_get, Some, IfOk, OnOk, vec_len};
+ghost use Rattle.std.specs.Prelude.{◌≡◌, ◌<◌, ◌+◌, ◌-◌, ℕ, length, slice_get, Some, IsTrue, IfOk, OnOk, vec_len};
 ghost use Rattle.std.specs.Vec.{vec_capacity};
 ghost use Rattle.tau_trace.specs.Run.{appended};
 ghost use Rattle.tau_trace.specs.Steps.{actor};
 ghost use Rattle.tau_trace.specs.Known.{MayFollow};
+ghost use Rattle.tau_past.specs.Carried.{is_set};
 ghost use Rattle.tau_past.specs.Heard.{heard_by};
 ghost use Rattle.tau_knowledge.specs.Knowing.{IsReady};
 ghost use Rattle.tau_logs.specs.Told.{Told};
@@ -49,7 +50,7 @@ impl Hearing {
         self.make_list_room()?;
         match step.actor() {
             Some(who) => {
-                self.make_actor_room(who, heard_by(step))?;
+                self.make_actor_room(who, is_set(step), heard_by(step))?;
                 Ok(())
             }
             None => Ok(()),
@@ -69,24 +70,34 @@ impl Hearing {
         self.letters.reserve(1)
     }
 
-    /// Makes room for what a step of a transactor may add to its log, and for what it hears of. The error is want of memory.
-    fn make_actor_room(&mut self, who: u32, message: Option<u32>) -> Result<(), AllocError>
+    /// Makes room for what a step of a transactor, a Set or another one, may add to its log, and for what it hears of. The error is
+    /// want of memory.
+    fn make_actor_room(
+        &mut self,
+        who: u32,
+        sets: bool,
+        message: Option<u32>,
+    ) -> Result<(), AllocError>
         requires logs { who < length self.old.logs.items }
         requires own { who < length self.old.own.items }
         ensures kept { IsSameKept self.old self.new }
         ensures lists { HasListRoom self.old → HasListRoom self.new }
-        ensures ok { OnOk result (HasActorStepRoom self.new who message) }
+        ensures ok { OnOk result (HasActorStepRoom self.new who sets message) }
     {
-        let takes = self.takes_needed(who)?;
+        let takes = self.takes_needed(who, sets)?;
         make_log_room(&mut self.logs, who, takes)?;
         make_message_room(&mut self.own, &self.letters, who, message)
     }
 
-    /// How many takes a step of a transactor may add to its log. The error comes where no list can hold so many.
-    fn takes_needed(&self, who: u32) -> Result<usize, AllocError>
-        ensures { IfOk result (λ k. (l : Told) (x : Own) → slice_get self.now.logs.items who ≡ Some l → slice_get self.now.own.items who ≡ Some x
+    /// How many takes a step of a transactor may add to its log, none where it isn't a Set. The error comes where no list can hold
+    /// so many.
+    fn takes_needed(&self, who: u32, sets: bool) -> Result<usize, AllocError>
+        ensures { IfOk result (λ k. (l : Told) (x : Own) → IsTrue sets → slice_get self.now.logs.items who ≡ Some l → slice_get self.now.own.items who ≡ Some x
             → length x.roots + length (takes_told l (length l.versions - 1)) ≡ k) }
     {
+        if !sets {
+            return Ok(0);
+        }
         let roots = self.roots_len(who);
         let taken = self.taken_len(who);
         match roots.checked_add(taken) {
@@ -114,6 +125,13 @@ impl Hearing {
             None => 0,
         }
     }
+}
+
+/// Whether a step is a Set.
+fn is_set(step: &Step) -> bool
+    ensures { result ≡ is_set step.now }
+{
+    matches!(step, Step::Set { .. })
 }
 
 /// The message of which a step hears.

@@ -1,5 +1,5 @@
 //! What the change of a step reads of what is kept.
-ghost use Rattle.std.specs.Prelude.{◌≡◌, ◌-◌, ◌≤◌, ◌+◌, ℕ, length, slice_get, Some, IfOk, option_and_then};
+ghost use Rattle.std.specs.Prelude.{◌≡◌, ◌-◌, ◌≤◌, ◌+◌, ℕ, length, slice_get, Some, option_and_then};
 ghost use Rattle.std.specs.Option.{option_map};
 ghost use Rattle.tau_trace.specs.Run.{len, appended};
 ghost use Rattle.tau_trace.specs.Points.{point_at};
@@ -8,13 +8,13 @@ ghost use Rattle.tau_past.specs.Heard.{heard_by};
 ghost use Rattle.tau_logs.specs.Told.{Told};
 ghost use Rattle.tau_hearing.specs.Bounds.{last_number};
 ghost use Rattle.tau_hearing.specs.Facts.{HearsRightly};
+ghost use Rattle.tau_hearing.specs.Hears.{Knows};
 ghost use Rattle.tau_history.specs.Timeline.{close, fall};
 ghost use Rattle.tau_logs.specs.declared.version.Version.{Version};
 ghost use Rattle.tau_hearing.specs.Next.{IsNext, IsLast, IsMoved, IsOnlyOne};
 
 use crate::hearing::Hearing;
 use crate::letter::Letter;
-use std::alloc::AllocError;
 use tau_logs::{Log, Version};
 use tau_trace::{Step, Trace};
 
@@ -60,18 +60,17 @@ impl Hearing {
         }
     }
 
-    /// The number of the last version of a transactor, 0 where it doesn't exist. The error comes where there are more versions
-    /// than a number can tell.
-    pub(crate) fn last_number(&self, who: u32) -> Result<u32, AllocError>
-        ensures { IfOk result (λ v. v ≡ last_number self.now.logs.items who) }
+    /// The number of the last version of a transactor, 0 where it doesn't exist. It is at most that of the steps.
+    pub(crate) fn last_number(&self, trace: &Trace, who: u32) -> u32
+        requires knows { Knows self.now trace.now.run }
+        ensures { result ≡ last_number self.now.logs.items who }
     {
-        let Ok(number) = u32::try_from(self.count_of_last(who)) else {
-            return Err(AllocError);
-        };
-        Ok(number)
+        // Its contract says that there are few steps.
+        let _steps = trace.len();
+        self.count_of_last(who) as u32
     }
 
-    /// The same number, however great.
+    /// The same number as a place in a list.
     fn count_of_last(&self, who: u32) -> usize
         ensures { result ≡ last_number self.now.logs.items who }
     {

@@ -1,5 +1,5 @@
-//! Room for a step.
-ghost use Rattle.std.specs.Prelude.{◌≡◌, ◌≢◌, ◌<◌, ◌≤◌, ◌+◌, ◌-◌, ℕ, length, slice_get, Some, OnOk, vec_len};
+//! Room for a step, and numbers that are shared by it.
+ghost use Rattle.std.specs.Prelude.{◌≡◌, ◌≢◌, ◌<◌, ◌≤◌, ◌+◌, ◌-◌, ℕ, length, slice_get, Some, IfOk, OnOk, vec_len};
 ghost use Rattle.std.specs.Vec.{vec_capacity};
 ghost use Rattle.tau_logs.specs.Told.{Told};
 ghost use Rattle.tau_hearing.specs.declared.own.Own.{Own};
@@ -9,6 +9,7 @@ ghost use Rattle.tau_hearing.specs.Kept.{IsSameLog, IsSameOwn, HasLogSpare, AreE
 use crate::letter::Letter;
 use crate::own::Own;
 use std::alloc::AllocError;
+use std::sync::Arc;
 use tau_logs::Log;
 
 /// Makes room in the log of a transactor for a version, for these many takes and for a closed interval. The error is want
@@ -85,4 +86,24 @@ fn needed(letters: &[Option<Letter>], message: u32) -> usize
         Some(sender) => sender.numbers.len().max(sender.who as usize + 1),
         None => 0,
     }
+}
+
+/// Makes the numbers of a transactor shared, and gives another owner of them. They aren't copied. The error is want of memory.
+pub(crate) fn share_numbers_of(own: &mut Vec<Own>, who: u32) -> Result<Arc<Vec<u32>>, AllocError>
+    requires exists { who < length own.old.items }
+    ensures own { (x : Own) → slice_get own.old.items who ≡ Some x → (y : Own) × (slice_get own.new.items who ≡ Some y) × IsSameOwn x y }
+    ensures others { (t : ℕ) → t ≢ who → slice_get own.new.items t ≡ slice_get own.old.items t }
+    ensures length { length own.new.items ≡ length own.old.items }
+    ensures room { (vec_len own.new ≡ vec_len own.old) × (vec_capacity own.new ≡ vec_capacity own.old) }
+    ensures ok { IfOk result (λ a. (y : Own) → slice_get own.new.items who ≡ Some y → a.value.items ≡ y.numbers.numbers) }
+{
+    share_own(&mut own[who as usize])
+}
+
+/// The same of what is kept of one transactor.
+fn share_own(own: &mut Own) -> Result<Arc<Vec<u32>>, AllocError>
+    ensures same { IsSameOwn own.old own.new }
+    ensures ok { IfOk result (λ a. a.value.items ≡ own.new.numbers.numbers) }
+{
+    own.numbers.share()
 }

@@ -1,12 +1,16 @@
 //! The points that a turn or a message takes along.
-ghost use Rattle.std.specs.Prelude.{◌≡◌, ◌↔◌, [], ◌∷◌, ◌++◌, length, slice_get, Contains, IsTrue, IfOk};
+ghost use Rattle.std.specs.Prelude.{◌≡◌, ◌↔◌, [], ◌∷◌, ◌++◌, length, filter, slice_get, Contains, IsTrue, IfOk};
 ghost use Rattle.std.specs.Option.{option_map_or};
+ghost use Rattle.tau_hearing.specs.Closing.{is_unclosed};
 ghost use Rattle.tau_hearing.specs.Listed.{shared};
 
+use crate::closing::{count_unclosed, is_unclosed, unclosed};
 use std::alloc::{AllocError, Global};
 use std::marker::Model;
 use std::sync::Arc;
+use tau_logs::Log;
 use tau_points::Point;
+use tau_search::HeardVersions;
 
 /// Points that a turn or a message takes along. A list of many is shared by all that have it.
 ///
@@ -82,6 +86,21 @@ impl Roots {
             many,
             one: Some(point),
         })
+    }
+
+    /// Those of the points that aren't closed by what was heard. A list of which none is closed is shared. The error is want of
+    /// memory.
+    pub(crate) fn unclosed<V: HeardVersions>(
+        &self,
+        alloc: Global,
+        logs: &[Log],
+        heard: &V,
+    ) -> Result<Roots, AllocError>
+        ensures { IfOk result (λ r. r ≡ filter (is_unclosed logs.now (V.numbers heard.now)) self.now) }
+    {
+        let many = list_unclosed(alloc, logs, heard, &self.many)?;
+        let one = one_unclosed(logs, heard, self.one);
+        Ok(Roots { many, one })
     }
 
     /// The points as one shared list. The error is want of memory.
@@ -166,5 +185,36 @@ fn share_list(many: &Option<Arc<Vec<Point>>>) -> Result<Option<Arc<Vec<Point>>>,
     match many {
         Some(many) => Ok(Some(Arc::try_clone(many)?)),
         None => Ok(None),
+    }
+}
+
+/// Those of the points of a list that may be missing which aren't closed. The error is want of memory.
+fn list_unclosed<V: HeardVersions>(
+    alloc: Global,
+    logs: &[Log],
+    heard: &V,
+    many: &Option<Arc<Vec<Point>>>,
+) -> Result<Option<Arc<Vec<Point>>>, AllocError>
+    ensures { IfOk result (λ list. shared list ≡ filter (is_unclosed logs.now (V.numbers heard.now)) (shared many.now)) }
+{
+    let points = points_of(many);
+    let count = count_unclosed(logs, heard, points);
+    if count == points.len() {
+        return share_list(many);
+    }
+    if count == 0 {
+        return Ok(None);
+    }
+    let left = unclosed(alloc, logs, heard, points)?;
+    Ok(Some(Arc::new(alloc, left)?))
+}
+
+/// A point that may be missing, unless it is closed.
+fn one_unclosed<V: HeardVersions>(logs: &[Log], heard: &V, one: Option<Point>) -> Option<Point>
+    ensures { option_map_or (λ p. p ∷ []) result [] ≡ filter (is_unclosed logs.now (V.numbers heard.now)) (option_map_or (λ p. p ∷ []) one []) }
+{
+    match one {
+        Some(point) if is_unclosed(logs, heard, &point) => Some(point),
+        _ => None,
     }
 }

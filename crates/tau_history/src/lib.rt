@@ -9,6 +9,3 @@ pub mod laws;
 
 pub use fate::Fate;
 pub use history::History;
-
-#[cfg(test)]
-mod tests;

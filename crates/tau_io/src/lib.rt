@@ -9,8 +9,6 @@ mod sinks;
 mod sources;
 mod standard;
 mod steady;
-#[cfg(test)]
-mod tests;
 mod writing;
 
 pub use memory_sink::MemorySink;

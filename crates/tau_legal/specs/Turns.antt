@@ -1,4 +1,4 @@
--- What the program gives a turn: its body, its message, the replies so far, and so its next effect.
+-- What the program gives a turn: its body, its message, the replies so far, and so its next effect (docs/definitions.md, "Meaning of behaviours").
 use Rattle.std.specs.Prelude.{◌≡◌, ℕ, suc, ◌≤◌, List, [], ◌∷◌, ◌++◌, Some, slice_get}
 use Rattle.tau_value.specs.declared.shared.Value.{Value}
 use Rattle.tau_value.specs.Val as val

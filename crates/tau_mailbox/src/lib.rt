@@ -11,5 +11,3 @@ mod mail;
 mod mailboxes;
 mod order;
 mod parts;
-#[cfg(test)]
-mod tests;

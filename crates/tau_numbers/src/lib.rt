@@ -5,5 +5,3 @@ pub use numbers::Numbers;
 
 mod numbers;
 mod raising;
-#[cfg(test)]
-mod tests;

@@ -20,16 +20,16 @@ two_lines T n none one two a b count first second e f g =
     added ∙ ap (λ (x : Tree). x ∷ b ∷ []) (first ∙ ap steps_form count) ∙ ap (λ (x : Tree). steps_form (len T) ∷ x ∷ []) second
 
 -- what is written for a number is told of the serial run of its program
-pub drills_as : (number : ℕ) (P : Program) (T : Run) (is_complete : Bool) (text : List ℕ) → P ≡ generated number → IsSerialRun P 1 number 4000 T → EndsAt 4000 P T is_complete → text ≡ printed (drill_lines T)
+pub drills_as : (number : ℕ) (P : Program) (T : Run) (is_complete : Bool) (text : List ℕ) → P ≡ generated number → IsSerialRun P 1 number 200000 T → EndsAt 200000 P T is_complete → text ≡ printed (drill_lines T)
     → DrillsAs number (end_of_run is_complete) text
 drills_as number P T is_complete text same serial ends_at is_text =
-    let there : EndsAt 4000 (generated number) T is_complete = subst (λ (Q : Program). EndsAt 4000 Q T is_complete) same ends_at in
+    let there : EndsAt 200000 (generated number) T is_complete = subst (λ (Q : Program). EndsAt 200000 Q T is_complete) same ends_at in
     record {
       run = T;
       well_formed = there.well_formed;
-      serial = subst (λ (Q : Program). IsSerialRun Q 1 number 4000 T) same serial;
+      serial = subst (λ (Q : Program). IsSerialRun Q 1 number 200000 T) same serial;
       legal = there.legal;
       safe = legal_safe (generated number) T there.well_formed there.legal;
-      ends = ends 4000 (generated number) T is_complete there;
+      ends = ends 200000 (generated number) T is_complete there;
       is_text = is_text;
     }

@@ -11,23 +11,31 @@ use Rattle.tau_past.specs.Audits.{IsBrokenAt, IsLeastBreak, RollsBackAt, IsBroke
 use Rattle.tau_check.specs.Legality.{IsFirstIllegal}
 use Rattle.tau_report.specs.Report.{IsReportText}
 use Rattle.tau_report.proofs.Uniqueness.{report_once}
+use Rattle.tau_explain.specs.Decisions.{IsDecision, IsWhy}
+use Rattle.tau_explain.specs.Texts.{why_forms}
+use Rattle.tau_explain.proofs.OneAnswer.{one_answer}
 use Rattle.tau_command.specs.declared.commands.Command.{Command}
-use Rattle.tau_command.specs.declared.commands.Command.TheVariants.{Run as RunCommand, Check, Audit, Report, Print, Gen, Drill}
+use Rattle.tau_command.specs.declared.commands.Command.TheVariants.{Run as RunCommand, Check, Audit, Report, Print, Gen, Drill, Why}
 use Rattle.tau_text.specs.declared.errors.InputError.{InputError}
-use Rattle.tau_text.specs.declared.errors.InputError.TheVariants.{Fault, NoMemory}
+use Rattle.tau_text.specs.declared.errors.InputError.TheVariants as inputs
 use Rattle.tau_text.specs.Errors.{TellsInputFault}
 use Rattle.tau_text.proofs.FaultLemmas.{program_unique, run_unique, print_unique}
 use Rattle.tau_output.specs.declared.outputs.End.{End}
 use Rattle.tau_output.specs.declared.outputs.Output.{Output}
 use Rattle.tau_output.specs.declared.outputs.End.TheVariants.{Done, Stopped, Bad, Broken}
+use Rattle.tau_output.specs.declared.refusals.Refusal.{Refusal}
+use Rattle.tau_output.specs.declared.refusals.Refusal.TheVariants.{Fault, NotAsked, NoMemory}
+use Rattle.tau_output.specs.Refusals.{of_input_error, TellsFault, TellsNotAsked}
 use Rattle.tau_output.specs.Faults.{input_limit, reads_input, IsFaultOf, IsInputFault, too_long, within}
+use Rattle.tau_output.specs.Explaining.{ExplainsAs, IsNotAsked, AsksInVain}
+use Rattle.tau_output.specs.Inner.Ends.{refused_by}
 use Rattle.tau_output.specs.Checks.{IsChecked, bad_line, ChecksAs}
 use Rattle.tau_output.specs.Audits.{IsAudited, broken_line, AuditsAs}
 use Rattle.tau_output.specs.Writing.{Answers, Writes, by_one_worker, WritesSerially}
 use Rattle.tau_output.specs.Reports.{ReportsAs}
 use Rattle.tau_output.specs.Printing.{PrintsAs}
 use Rattle.tau_output.proofs.SerialLemmas.{runs_once, drills_once}
-use Rattle.tau_output.specs.Laws.{WritesOnce, WritesWithoutFault, FailsOnce}
+use Rattle.tau_output.specs.Laws.{WritesOnce, WritesWithoutFault, WritesWhereAsked, FailsOnce}
 
 -- bytes have one fault as a command takes them
 one_fault_of : (command : Command) (bytes : List ℕ) (a b c d : ℕ) → IsFaultOf command bytes a b → IsFaultOf command bytes c d → (a ≡ c) × (b ≡ d)
@@ -38,6 +46,7 @@ one_fault_of Report bytes a b c d f g = (run_unique bytes).one_fault a b c d f g
 one_fault_of Print bytes a b c d f g = (print_unique bytes).one_fault a b c d f g
 one_fault_of (Gen number) bytes a b c d f g = absurd f
 one_fault_of (Drill number) bytes a b c d f g = absurd f
+one_fault_of (Why place) bytes a b c d f g = (run_unique bytes).one_fault a b c d f g
 
 pub fails_once : (bytes : List ℕ) → FailsOnce bytes
 fails_once bytes command a b c d (too_long r l p q) (too_long s m v w) = (p ∙ sym v, q ∙ sym w)
@@ -54,29 +63,87 @@ clean Report bytes end text a b w f = (run_unique bytes).not_both (w.0.program, 
 clean Print bytes end text a b w f = (print_unique bytes).not_both w.0.program a b w.0.read f
 clean (Gen number) bytes end text a b w f = absurd f
 clean (Drill number) bytes end text a b w f = absurd f
+clean (Why place) bytes end text a b w f = (run_unique bytes).not_both (w.0.program, w.0.run) a b w.0.read f
 
 pub writes_without_fault : (bytes : List ℕ) → WritesWithoutFault bytes
 writes_without_fault bytes command end text a b w (too_long r l p q) = let few : length bytes ≤ input_limit = w.few r in omega arith
 writes_without_fault bytes command end text a b w (within l f) = clean command bytes end text a b w.answers f
 
--- an answer for an input with a fault tells the fault, or want of memory
-pub told_once : (command : Command) (bytes : List ℕ) (e : InputError) (a b : ℕ) → TellsInputFault (IsInputFault command bytes) e → IsInputFault command bytes a b → (e ≡ Fault a b) ⊎ (e ≡ NoMemory)
-told_once command bytes (Fault c d) a b t f = let same = fails_once bytes command c d a b t f in inl (ap (λ x. Fault x d) same.0 ∙ ap (λ x. Fault a x) same.1)
-told_once command bytes NoMemory a b t f = inr refl
+-- nor for a place that is not asked
+not_both_asked : (place : ℕ) (bytes text : List ℕ) → ExplainsAs place bytes text → IsNotAsked place bytes → ⊥
+not_both_asked place bytes text w n =
+    let same = (run_unique bytes).one_meaning (w.program, w.run) (n.program, n.run) w.read n.read in
+    n.not_asked (subst (λ (x : Program × Run). IsDecision x.1 place) same w.asked)
 
-fault_told : (command : Command) (bytes : List ℕ) (r : Result Output InputError) → IfOk r (λ o. Writes command bytes o.end o.text.items) → IfErr r (TellsInputFault (IsInputFault command bytes))
-    → (a b : ℕ) → IsInputFault command bytes a b → (r ≡ Err (Fault a b)) ⊎ (r ≡ Err NoMemory)
-fault_told command bytes (Ok o) w t a b f = absurd (writes_without_fault bytes command o.end o.text.items a b w f)
-fault_told command bytes (Err e) w t a b f = elim (told_once command bytes e a b t f) [ inl same ↦ inl (ap Err same) | inr same ↦ inr (ap Err same) ]
+pub writes_where_asked : (bytes : List ℕ) → WritesWhereAsked bytes
+writes_where_asked bytes place end text w n = not_both_asked place bytes text w.answers.0 n
 
--- the fault of bytes that aren't too many is that of the input
-tells_within : (command : Command) (bytes : List ℕ) (e : InputError) → length bytes ≤ input_limit → TellsInputFault (IsFaultOf command bytes) e → TellsInputFault (IsInputFault command bytes) e
-tells_within command bytes (Fault a b) l t = within l t
-tells_within command bytes NoMemory l t = tt
+-- and an input whose place is not asked has no fault
+asked_in_vain : (command : Command) (bytes : List ℕ) (place a b : ℕ) → command ≡ Why place → IsNotAsked place bytes → IsInputFault command bytes a b → ⊥
+asked_in_vain command bytes place a b same n (too_long r l p q) = let few : length bytes ≤ input_limit = n.few in omega arith
+asked_in_vain command bytes place a b same n (within l f) =
+    (run_unique bytes).not_both (n.program, n.run) a b n.read (subst (λ x. IsFaultOf x bytes a b) same f)
 
-pub fault_within : (command : Command) (bytes : List ℕ) (r : Result Output InputError) → length bytes ≤ input_limit → IfErr r (TellsInputFault (IsFaultOf command bytes)) → IfErr r (TellsInputFault (IsInputFault command bytes))
+-- a refusal of an input with a fault tells the fault, or want of memory
+pub told_once : (command : Command) (bytes : List ℕ) (e : Refusal) (a b : ℕ) → TellsFault (IsInputFault command bytes) e → TellsNotAsked (AsksInVain command bytes) e → IsInputFault command bytes a b
+    → (e ≡ Fault a b) ⊎ (e ≡ NoMemory)
+told_once command bytes (Fault c d) a b t n f = let same = fails_once bytes command c d a b t f in inl (ap (λ x. Fault x d) same.0 ∙ ap (λ x. Fault a x) same.1)
+told_once command bytes (NotAsked place) a b t n f = absurd (asked_in_vain command bytes place a b n.0 n.1 f)
+told_once command bytes NoMemory a b t n f = inr refl
+
+-- and one of a place that is not asked tells the place, or want of memory
+told_place : (command : Command) (bytes : List ℕ) (e : Refusal) (place : ℕ) → TellsFault (IsInputFault command bytes) e → TellsNotAsked (AsksInVain command bytes) e → command ≡ Why place → IsNotAsked place bytes
+    → (e ≡ NotAsked place) ⊎ (e ≡ NoMemory)
+told_place command bytes (Fault c d) place t n same asked = absurd (asked_in_vain command bytes place c d same asked t)
+told_place command bytes (NotAsked k) place t n same asked =
+    let both : Why k ≡ Why place = sym n.0 ∙ same in
+    let k_is : k ≡ place = cc in
+    inl (ap NotAsked k_is)
+told_place command bytes NoMemory place t n same asked = inr refl
+
+-- what a command gives for bytes: its text and end, or a refusal that tells exactly what is wrong
+pub record Gives (command : Command) (bytes : List ℕ) (found : Result Output Refusal) : Type 0 where
+  pub fault : IfErr found (TellsFault (IsInputFault command bytes))
+  pub faulty : (a b : ℕ) → IsInputFault command bytes a b → (found ≡ Err (Fault a b)) ⊎ (found ≡ Err NoMemory)
+  pub not_asked : IfErr found (TellsNotAsked (AsksInVain command bytes))
+  pub unasked : (place : ℕ) → command ≡ Why place → IsNotAsked place bytes → (found ≡ Err (NotAsked place)) ⊎ (found ≡ Err NoMemory)
+
+pub gives : (command : Command) (bytes : List ℕ) (found : Result Output Refusal) → IfOk found (λ o. Writes command bytes o.end o.text.items) → IfErr found (TellsFault (IsInputFault command bytes))
+    → IfErr found (TellsNotAsked (AsksInVain command bytes)) → Gives command bytes found
+gives command bytes (Ok o) w t n = record {
+  fault = tt;
+  faulty = λ a b f. absurd (writes_without_fault bytes command o.end o.text.items a b w f);
+  not_asked = tt;
+  unasked = λ place same asked. absurd (writes_where_asked bytes place o.end o.text.items (subst (λ x. Writes x bytes o.end o.text.items) same w) asked);
+}
+gives command bytes (Err e) w t n = record {
+  fault = t;
+  faulty = λ a b f. elim (told_once command bytes e a b t n f) [ inl same ↦ inl (ap Err same) | inr same ↦ inr (ap Err same) ];
+  not_asked = n;
+  unasked = λ place same asked. elim (told_place command bytes e place t n same asked) [ inl is ↦ inl (ap Err is) | inr is ↦ inr (ap Err is) ];
+}
+
+-- the refusal for an error tells the fault that the error tells, and no place
+pub tells_within : (command : Command) (bytes : List ℕ) (e : InputError) → length bytes ≤ input_limit → TellsInputFault (IsFaultOf command bytes) e → TellsFault (IsInputFault command bytes) (of_input_error e)
+tells_within command bytes (inputs.Fault a b) l t = within l t
+tells_within command bytes inputs.NoMemory l t = tt
+
+pub tells_no_place : (U : ℕ → Type 0) (e : InputError) → TellsNotAsked U (of_input_error e)
+tells_no_place U (inputs.Fault a b) = tt
+tells_no_place U inputs.NoMemory = tt
+
+pub fault_within : (command : Command) (bytes : List ℕ) (r : Result Output InputError) → length bytes ≤ input_limit → IfErr r (TellsInputFault (IsFaultOf command bytes))
+    → IfErr (refused_by r) (TellsFault (IsInputFault command bytes))
 fault_within command bytes (Ok o) l t = tt
 fault_within command bytes (Err e) l t = tells_within command bytes e l t
+
+pub no_place : (U : ℕ → Type 0) (r : Result Output InputError) → IfErr (refused_by r) (TellsNotAsked U)
+no_place U (Ok o) = tt
+no_place U (Err e) = tells_no_place U e
+
+pub ok_refused : (P : Output → Type 0) (r : Result Output InputError) → IfOk r P → IfOk (refused_by r) P
+ok_refused P (Ok o) h = h
+ok_refused P (Err e) h = tt
 
 -- what one worker alone writes, or one of the other commands, is what the command writes with as many workers as it is told
 serially_answered : (command : Command) (bytes : List ℕ) (end : End) (text : List ℕ) → Answers (by_one_worker command) bytes end text → Answers command bytes end text
@@ -87,6 +154,7 @@ serially_answered Report bytes end text w = w
 serially_answered Print bytes end text w = w
 serially_answered (Gen number) bytes end text w = w
 serially_answered (Drill number) bytes end text w = w
+serially_answered (Why place) bytes end text w = w
 
 -- a command on one thread reads an input where the command reads one
 same_reading : (command : Command) → IsTrue (reads_input command) → IsTrue (reads_input (by_one_worker command))
@@ -97,21 +165,53 @@ same_reading Report reads = reads
 same_reading Print reads = reads
 same_reading (Gen number) reads = reads
 same_reading (Drill number) reads = reads
+same_reading (Why place) reads = reads
 
-pub serially_written : (command : Command) (bytes : List ℕ) (r : Result Output InputError) → IfOk r (λ o. WritesSerially command bytes o.end o.text.items) → IfOk r (λ o. Writes command bytes o.end o.text.items)
+pub serially_written : (command : Command) (bytes : List ℕ) (found : Result Output Refusal) → IfOk found (λ o. WritesSerially command bytes o.end o.text.items) → IfOk found (λ o. Writes command bytes o.end o.text.items)
 serially_written command bytes (Ok o) w =
     record { few = λ reads. w.few (same_reading command reads); answers = serially_answered command bytes o.end o.text.items w.answers }
 serially_written command bytes (Err e) w = tt
 
-answered : (kind : Command) (bytes : List ℕ) (r : Result Output InputError) → length bytes ≤ input_limit → IfOk r (λ o. Answers kind bytes o.end o.text.items) → IfOk r (λ o. Writes kind bytes o.end o.text.items)
+answered : (kind : Command) (bytes : List ℕ) (found : Result Output Refusal) → length bytes ≤ input_limit → IfOk found (λ o. Answers kind bytes o.end o.text.items) → IfOk found (λ o. Writes kind bytes o.end o.text.items)
 answered kind bytes (Ok o) l w = record { few = λ reads. l; answers = w }
 answered kind bytes (Err e) l w = tt
 
--- and so of what a command answers for bytes that aren't too many
-pub answer_told : (command kind : Command) (bytes : List ℕ) (r : Result Output InputError) → command ≡ kind → length bytes ≤ input_limit → IfOk r (λ o. Answers (by_one_worker kind) bytes o.end o.text.items)
-    → IfErr r (TellsInputFault (IsFaultOf kind bytes)) → (a b : ℕ) → IsInputFault command bytes a b → (r ≡ Err (Fault a b)) ⊎ (r ≡ Err NoMemory)
-answer_told command kind bytes r same l w t a b f =
-    fault_told kind bytes r (serially_written kind bytes r (answered (by_one_worker kind) bytes r l w)) (fault_within kind bytes r l t) a b (subst (λ x. IsInputFault x bytes a b) same f)
+-- and so of what a command answers on one thread for bytes that aren't too many
+pub record GivesSerially (command : Command) (bytes : List ℕ) (found : Result Output Refusal) : Type 0 where
+  pub output : IfOk found (λ o. WritesSerially command bytes o.end o.text.items)
+  pub gives : Gives command bytes found
+
+pub given : (command kind : Command) (bytes : List ℕ) (found : Result Output Refusal) → command ≡ kind → length bytes ≤ input_limit → IfOk found (λ o. Answers (by_one_worker kind) bytes o.end o.text.items)
+    → IfErr found (TellsFault (IsInputFault kind bytes)) → IfErr found (TellsNotAsked (AsksInVain kind bytes)) → GivesSerially command bytes found
+unfolding gives
+given command kind bytes found same l w t n =
+    let written : IfOk found (λ o. WritesSerially kind bytes o.end o.text.items) = answered (by_one_worker kind) bytes found l w in
+    subst (λ x. GivesSerially x bytes found) (sym same)
+    (record { output = written; gives = gives kind bytes found (serially_written kind bytes found written) t n })
+
+pub answer_told : (command kind : Command) (bytes : List ℕ) (r : Result Output InputError) (found : Result Output Refusal) → command ≡ kind → found ≡ refused_by r → length bytes ≤ input_limit
+    → IfOk r (λ o. Answers (by_one_worker kind) bytes o.end o.text.items) → IfErr r (TellsInputFault (IsFaultOf kind bytes)) → GivesSerially command bytes found
+unfolding given
+answer_told command kind bytes r found same is l w t = subst (GivesSerially command bytes) (sym is)
+    (given command kind bytes (refused_by r) same l (ok_refused (λ o. Answers (by_one_worker kind) bytes o.end o.text.items) r w) (fault_within kind bytes r l t) (no_place (AsksInVain kind bytes) r))
+
+-- what `why` gives
+tells_why : (place : ℕ) (bytes : List ℕ) (found : Result Output Refusal) → length bytes ≤ input_limit → IfErr found (TellsFault (IsFaultOf (Why place) bytes)) → IfErr found (TellsFault (IsInputFault (Why place) bytes))
+tells_why place bytes (Ok o) l t = tt
+tells_why place bytes (Err (Fault a b)) l t = within l t
+tells_why place bytes (Err (NotAsked k)) l t = tt
+tells_why place bytes (Err NoMemory) l t = tt
+
+tells_the_place : (place : ℕ) (bytes : List ℕ) (found : Result Output Refusal) → IfErr found (TellsNotAsked (λ k. (k ≡ place) × IsNotAsked place bytes)) → IfErr found (TellsNotAsked (AsksInVain (Why place) bytes))
+tells_the_place place bytes (Ok o) t = tt
+tells_the_place place bytes (Err (Fault a b)) t = tt
+tells_the_place place bytes (Err (NotAsked k)) t = (ap Why (sym t.0), subst (λ x. IsNotAsked x bytes) (sym t.0) t.1)
+tells_the_place place bytes (Err NoMemory) t = tt
+
+pub why_told : (command : Command) (place : ℕ) (bytes : List ℕ) (found : Result Output Refusal) → command ≡ Why place → length bytes ≤ input_limit → IfOk found (λ o. ExplainsAs place bytes o.text.items × (o.end ≡ Done))
+    → IfErr found (TellsFault (IsFaultOf (Why place) bytes)) → IfErr found (TellsNotAsked (λ k. (k ≡ place) × IsNotAsked place bytes)) → GivesSerially command bytes found
+unfolding given
+why_told command place bytes found same l w t n = given command (Why place) bytes found same l w (tells_why place bytes found l t) (tells_the_place place bytes found n)
 
 -- ---- checks
 
@@ -198,6 +298,13 @@ print_text_once : (bytes text other : List ℕ) → PrintsAs bytes text → Prin
 print_text_once bytes text other v w =
     v.is_text ∙ ap (λ p. printed (forms.printed p)) ((print_unique bytes).one_meaning v.program w.program v.read w.read) ∙ sym w.is_text
 
+explain_once : (place : ℕ) (bytes text other : List ℕ) → ExplainsAs place bytes text → ExplainsAs place bytes other → text ≡ other
+explain_once place bytes text other v w =
+    let same = (run_unique bytes).one_meaning (v.program, v.run) (w.program, w.run) v.read w.read in
+    let explains : IsWhy v.run place w.answer = subst (λ (x : Program × Run). IsWhy x.1 place w.answer) (sym same) w.explains in
+    let answer = one_answer v.run place v.answer w.answer v.explains explains in
+    v.is_text ∙ ap (λ a. printed (why_forms v.run.opening a)) answer ∙ ap (λ (x : Program × Run). printed (why_forms x.1.opening w.answer)) same ∙ sym w.is_text
+
 answers_once : (command : Command) (bytes : List ℕ) (end another : End) (text other : List ℕ) → Answers (by_one_worker command) bytes end text → Answers (by_one_worker command) bytes another other → (end ≡ another) × (text ≡ other)
 answers_once (RunCommand workers jobs seed steps) bytes end another text other v w = runs_once jobs seed steps bytes end another text other v w
 answers_once Check bytes end another text other v w = check_once bytes end another text other v w
@@ -206,6 +313,7 @@ answers_once Report bytes end another text other v w = (v.1 ∙ sym w.1, report_
 answers_once Print bytes end another text other v w = (v.1 ∙ sym w.1, print_text_once bytes text other v.0 w.0)
 answers_once (Gen number) bytes end another text other v w = (v.1 ∙ sym w.1, v.0.is_text ∙ sym w.0.is_text)
 answers_once (Drill number) bytes end another text other v w = drills_once number end another text other v w
+answers_once (Why place) bytes end another text other v w = (v.1 ∙ sym w.1, explain_once place bytes text other v.0 w.0)
 
 pub writes_once : (bytes : List ℕ) → WritesOnce bytes
 writes_once bytes command end another text other v w = answers_once command bytes end another text other v.answers w.answers

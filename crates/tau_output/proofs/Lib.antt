@@ -2,6 +2,8 @@ pub mod RunLemmas
 pub mod CheckLemmas
 pub mod AuditLemmas
 pub mod LawLemmas
+pub mod GroundLemmas
+pub mod ExplainLemmas
 pub mod TogetherLemmas
 pub mod DrillLemmas
 pub mod SerialLemmas

@@ -61,5 +61,5 @@ runs_once jobs seed steps bytes end another text other v w =
 pub drills_once : (number : ℕ) (end another : End) (text other : List ℕ) → DrillsAs number end text → DrillsAs number another other → (end ≡ another) × (text ≡ other)
 drills_once number end another text other v w =
     let P = generated number in
-    let run : v.run ≡ w.run = one_serial_run P 1 number 4000 v.run w.run v.serial w.serial in
-    (end_of_same 4000 P P v.run w.run end another refl run v.ends w.ends, v.is_text ∙ ap (λ T. printed (drill_lines T)) run ∙ sym w.is_text)
+    let run : v.run ≡ w.run = one_serial_run P 1 number 200000 v.run w.run v.serial w.serial in
+    (end_of_same 200000 P P v.run w.run end another refl run v.ends w.ends, v.is_text ∙ ap (λ T. printed (drill_lines T)) run ∙ sym w.is_text)

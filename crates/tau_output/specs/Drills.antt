@@ -25,12 +25,12 @@ pub record DrillsAs (number : ℕ) (end : End) (text : List ℕ) : Type 0 where
   -- there is a run, each step of which names what exists before it
   pub run : Run
   pub well_formed : WellFormed run
-  -- it is the serial run of the generated program of the number, with one job at most, this seed and at most 4,000 steps
-  pub serial : IsSerialRun (generated number) 1 number 4000 run
+  -- it is the serial run of the generated program of the number, with one job at most, this seed and at most 200,000 steps
+  pub serial : IsSerialRun (generated number) 1 number 200000 run
   -- each step of it is legal after the steps before it, and no checkpoint's causal past holds a point that is rolled back in it
   pub legal : Legal (generated number) run
   pub safe : Safe run
-  -- with Done it is complete and has at most 4,000 steps; with Stopped it has exactly so many and is not complete
-  pub ends : EndsAs 4000 (generated number) run end
+  -- with Done it is complete and has at most 200,000 steps; with Stopped it has exactly so many and is not complete
+  pub ends : EndsAs 200000 (generated number) run end
   -- the text is that of the two lines, printed
   pub is_text : text ≡ printed (drill_lines run)

@@ -1,13 +1,14 @@
--- What holds of all inputs: a command writes one text, none for an input with a fault, an input has one fault, and what `run` writes
--- determines its program and its run, and is accepted by the other commands.
+-- What holds of all inputs: a command writes one text, none for an input with a fault or a place that is not asked, an input has one
+-- fault, and what `run` writes determines its program and its run, and is accepted by the other commands.
 use Rattle.std.specs.Prelude.{◌≡◌, ℕ, ◌≤◌, List, [], length, codes}
 use Rattle.tau_sexpr.specs.Printing.{printed}
 use Rattle.tau_forms.specs.Printed as forms
 use Rattle.tau_command.specs.declared.commands.Command.{Command}
-use Rattle.tau_command.specs.declared.commands.Command.TheVariants.{Check, Audit, Print}
+use Rattle.tau_command.specs.declared.commands.Command.TheVariants.{Check, Audit, Print, Why}
 use Rattle.tau_output.specs.declared.outputs.End.{End}
 use Rattle.tau_output.specs.declared.outputs.End.TheVariants.{Done, Stopped}
 use Rattle.tau_output.specs.Faults.{input_limit, IsInputFault}
+use Rattle.tau_output.specs.Explaining.{IsNotAsked}
 use Rattle.tau_output.specs.Runs.{RunsAs}
 use Rattle.tau_output.specs.Writing.{Writes, WritesSerially}
 
@@ -18,6 +19,10 @@ WritesOnce bytes = (command : Command) (end another : End) (text other : List �
 -- a command writes nothing for bytes with a fault
 abbrev pub WritesWithoutFault : List ℕ → Type 0
 WritesWithoutFault bytes = (command : Command) (end : End) (text : List ℕ) (fault at : ℕ) → Writes command bytes end text → ¬ IsInputFault command bytes fault at
+
+-- `why` writes nothing for a place that is not asked
+abbrev pub WritesWhereAsked : List ℕ → Type 0
+WritesWhereAsked bytes = (place : ℕ) (end : End) (text : List ℕ) → Writes (Why place) bytes end text → ¬ IsNotAsked place bytes
 
 -- the bytes of an input have one fault at most
 abbrev pub FailsOnce : List ℕ → Type 0

@@ -5,6 +5,8 @@ pub mod Audits
 pub mod Reports
 pub mod Printing
 pub mod Drills
+pub mod Refusals
+pub mod Explaining
 pub mod Writing
 pub mod Laws
 pub mod Inner

@@ -18,10 +18,10 @@ use tau_tree::Program;
 use tau_value::word_of_count;
 
 /// The most steps that a drill does (docs/limits.md).
-const DRILL_LIMIT: u32 = 4_000;
+const DRILL_LIMIT: u32 = 200_000;
 
 /// The number of steps and the counts of the serial run of the generated program of a number, by one worker with room for
-/// one job and this number as its seed, with at most 4,000 steps (docs/formats.md, "Drills").
+/// one job and this number as its seed, with at most 200,000 steps (docs/formats.md, "Drills").
 pub(crate) fn drill_program(alloc: Global, number: u64) -> Result<Output, AllocError>
     ensures { IfOk result (λ o. DrillsAs number o.end o.text.items) }
 {

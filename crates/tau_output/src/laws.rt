@@ -1,11 +1,12 @@
 //! Laws of inputs and of what is written. The calls do nothing: what they ensure holds of all bytes.
-ghost use Rattle.tau_output.specs.Laws.{WritesOnce, WritesWithoutFault, FailsOnce, TextsTellRuns, RunTextsAreAccepted};
+ghost use Rattle.tau_output.specs.Laws.{WritesOnce, WritesWithoutFault, WritesWhereAsked, FailsOnce, TextsTellRuns, RunTextsAreAccepted};
 
 /// For an input a command writes one text on one thread, or the input has one fault, and not both (docs/formats.md, "Input
-/// faults"). So `run` with one worker writes the same each time, and so does `drill`.
+/// faults"); nor does `why` write for a place that isn't asked. So `run` with one worker writes the same each time, and so does `drill`.
 pub fn output_is_unique(_bytes: &[u8])
     ensures once { WritesOnce _bytes.now }
     ensures without_fault { WritesWithoutFault _bytes.now }
+    ensures asked { WritesWhereAsked _bytes.now }
     ensures one_fault { FailsOnce _bytes.now }
 {}
 

@@ -4,14 +4,17 @@
 mod auditing;
 mod checking;
 mod drilling;
+mod explaining;
 mod generating;
 mod laws;
 mod outputs;
 mod printing;
+mod refusals;
 mod reporting;
 mod running;
 mod together;
 
 pub use laws::{output_is_unique, run_texts_are_accepted, run_texts_tell};
 pub use outputs::{End, INPUT_LIMIT, Output, output_of, reads_input};
+pub use refusals::Refusal;
 pub use together::output_by_workers;

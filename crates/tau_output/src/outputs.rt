@@ -1,12 +1,17 @@
 //! What commands write.
 ghost use Rattle.std.specs.Prelude.{◌≡◌, ◌⊎◌, ℕ, ◌≤◌, length, IfOk, IfErr, Err};
-ghost use Rattle.tau_text.specs.Errors.{TellsInputFault};
+ghost use Rattle.tau_command.specs.declared.commands.Command.TheVariants.{Why};
 ghost use Rattle.tau_output.specs.Faults.{input_limit, reads_input as reads, IsInputFault};
+ghost use Rattle.tau_output.specs.Refusals.{TellsFault, TellsNotAsked};
+ghost use Rattle.tau_output.specs.Explaining.{IsNotAsked, AsksInVain};
 ghost use Rattle.tau_output.specs.Writing.{WritesSerially, HasLimit};
+ghost use Rattle.tau_output.specs.Inner.Ends.{refused_by};
 
+use crate::Refusal;
 use crate::auditing::audit_run;
 use crate::checking::check_run;
 use crate::drilling::drill_program;
+use crate::explaining::explain_run;
 use crate::generating::generate_program;
 use crate::printing::print_program;
 use crate::reporting::report_run;
@@ -58,20 +63,26 @@ pub fn reads_input(command: &Command) -> bool
         Command::Print => true,
         Command::Gen { .. } => false,
         Command::Drill { .. } => false,
+        Command::Why { .. } => true,
     }
 }
 
 /// What a command writes on one thread for the bytes of its input (docs/formats.md, "Command line"): `run` with one worker,
 /// however many it is told. The bytes are passed over where it reads none.
-/// `Fault` comes exactly where the input has a fault, with the first one (docs/formats.md, "Input faults").
-pub fn output_of(alloc: Global, command: Command, bytes: &[u8]) -> Result<Output, InputError>
+/// `Fault` comes exactly where the input has a fault, with the first one (docs/formats.md, "Input faults"), and `NotAsked` exactly
+/// where the input has none and `why` asks for a place at which no Hold, Drop or Fall stands.
+pub fn output_of(alloc: Global, command: Command, bytes: &[u8]) -> Result<Output, Refusal>
     requires bytes { length bytes.now ≤ input_limit }
     requires limit { HasLimit command }
     ensures output { IfOk result (λ o. WritesSerially command bytes.now o.end o.text.items) }
 
-    ensures fault { IfErr result (TellsInputFault (IsInputFault command bytes.now)) }
+    ensures fault { IfErr result (TellsFault (IsInputFault command bytes.now)) }
     ensures faulty { (fault at : ℕ) → IsInputFault command bytes.now fault at
-        → (result ≡ Err (InputError.Fault fault at)) ⊎ (result ≡ Err InputError.NoMemory) }
+        → (result ≡ Err (Refusal.Fault fault at)) ⊎ (result ≡ Err Refusal.NoMemory) }
+
+    ensures not_asked { IfErr result (TellsNotAsked (AsksInVain command bytes.now)) }
+    ensures unasked { (place : ℕ) → command ≡ Why place → IsNotAsked place bytes.now
+        → (result ≡ Err (Refusal.NotAsked place)) ⊎ (result ≡ Err Refusal.NoMemory) }
 {
     match command {
         Command::Run {
@@ -79,12 +90,20 @@ pub fn output_of(alloc: Global, command: Command, bytes: &[u8]) -> Result<Output
             seed,
             steps,
             ..
-        } => write_serial_run(alloc, bytes, jobs, seed, steps),
-        Command::Check => check_run(alloc, bytes),
-        Command::Audit => audit_run(alloc, bytes),
-        Command::Report => report_run(alloc, bytes),
-        Command::Print => print_program(alloc, bytes),
+        } => refused_by(write_serial_run(alloc, bytes, jobs, seed, steps)),
+        Command::Check => refused_by(check_run(alloc, bytes)),
+        Command::Audit => refused_by(audit_run(alloc, bytes)),
+        Command::Report => refused_by(report_run(alloc, bytes)),
+        Command::Print => refused_by(print_program(alloc, bytes)),
         Command::Gen { number } => Ok(generate_program(alloc, number)?),
         Command::Drill { number } => Ok(drill_program(alloc, number)?),
+        Command::Why { place } => explain_run(alloc, bytes, place),
     }
+}
+
+/// The same output, or the refusal for the error.
+pub(crate) fn refused_by(written: Result<Output, InputError>) -> Result<Output, Refusal>
+    ensures { result ≡ refused_by written }
+{
+    Ok(written?)
 }

@@ -3,12 +3,16 @@ ghost use Rattle.std.specs.Prelude.{◌≡◌, ◌⊎◌, ℕ, ◌<◌, ◌≤�
 ghost use Rattle.tau_value.specs.declared.limits.TheConstants.{STEP_LIMIT};
 ghost use Rattle.tau_text.specs.Errors.{TellsInputFault};
 ghost use Rattle.tau_text.specs.Faults.{IsProgramFault};
+ghost use Rattle.tau_command.specs.declared.commands.Command.TheVariants.{Why};
 ghost use Rattle.tau_output.specs.Faults.{input_limit, IsInputFault};
+ghost use Rattle.tau_output.specs.Refusals.{TellsFault, TellsNotAsked};
+ghost use Rattle.tau_output.specs.Explaining.{IsNotAsked, AsksInVain};
 ghost use Rattle.tau_output.specs.Runs.{RunsAs};
 ghost use Rattle.tau_output.specs.Writing.{Writes, HasLimit};
 
+use crate::outputs::refused_by;
 use crate::running::end_of;
-use crate::{Output, output_of};
+use crate::{Output, Refusal, output_of};
 use std::alloc::Global;
 use std::sync::Wait;
 use std::thread::Threads;
@@ -24,14 +28,18 @@ pub fn output_by_workers<R: Threads + Wait + Sync, G: Gate + Sync>(
     command: Command,
     bytes: &[u8],
     gate: &G,
-) -> Result<Output, InputError>
+) -> Result<Output, Refusal>
     requires bytes { length bytes.now ≤ input_limit }
     requires limit { HasLimit command }
     ensures output { IfOk result (λ o. Writes command bytes.now o.end o.text.items) }
 
-    ensures fault { IfErr result (TellsInputFault (IsInputFault command bytes.now)) }
+    ensures fault { IfErr result (TellsFault (IsInputFault command bytes.now)) }
     ensures faulty { (fault at : ℕ) → IsInputFault command bytes.now fault at
-        → (result ≡ Err (InputError.Fault fault at)) ⊎ (result ≡ Err InputError.NoMemory) }
+        → (result ≡ Err (Refusal.Fault fault at)) ⊎ (result ≡ Err Refusal.NoMemory) }
+
+    ensures not_asked { IfErr result (TellsNotAsked (AsksInVain command bytes.now)) }
+    ensures unasked { (place : ℕ) → command ≡ Why place → IsNotAsked place bytes.now
+        → (result ≡ Err (Refusal.NotAsked place)) ⊎ (result ≡ Err Refusal.NoMemory) }
 {
     match command {
         Command::Run {
@@ -46,7 +54,7 @@ pub fn output_by_workers<R: Threads + Wait + Sync, G: Gate + Sync>(
                 seed,
                 limit: steps,
             };
-            write_workers_run(rt, alloc, bytes, settings, gate)
+            refused_by(write_workers_run(rt, alloc, bytes, settings, gate))
         }
         _ => output_of(alloc, command, bytes),
     }

@@ -13,6 +13,4 @@ mod point_set;
 mod reaching;
 mod relation;
 mod sorted;
-#[cfg(test)]
-mod tests;
 mod visited;

@@ -75,7 +75,7 @@ module _ (T : Run) (H : ℕ → Type 0) (n : ℕ) (logs : List Told) (numbers : 
   fate_is q log e =
       let b = told.numbers_tell q.who log e in
       let G : Option Told → Fate = λ o. option_map_or (λ (l : Told). fate_told l (numbers q.who) q.interval q.incarnation) o Ahead in
-      ap G e ∙ fate_told_is T q.who n b.place (numbers q.who) q.interval q.incarnation log b.version (told.logs_are.histories q.who log e) b.within b.latest
+      ap G e ∙ fate_told_is T q.who n b.place (numbers q.who) q.interval q.incarnation log b.version (told.logs_are.each q.who log e).histories b.within b.latest
 
   known : (q : Point) (log : Told) (e : slice_get logs q.who ≡ Some log) → TellsKnown T H q (told.numbers_tell q.who log e).place
   known q log e = let b = told.numbers_tell q.who log e in fates_at_bounds_tell_the_known H T q b.place b.bound
@@ -111,7 +111,7 @@ module _ (T : Run) (H : ℕ → Type 0) (n : ℕ) (logs : List Told) (numbers : 
       let b = told.numbers_tell u log e in
       let G : Option Told → List Point = λ o. option_map_or (λ (l : Told). takes_told l (numbers u)) o [] in
       let same : takes_of logs numbers u ≡ taken log.takes b.version = ap G e ∙ takes_told_are b.place (numbers u) log b.version b.latest in
-      subst (TellsTaken T u b.place) (sym same) ((told.logs_are.takes u log e).told b.place (numbers u) b.version b.within b.latest)
+      subst (TellsTaken T u b.place) (sym same) ((told.logs_are.each u log e).takes.told b.place (numbers u) b.version b.within b.latest)
 
   -- the takes of such a point cover all that it takes in H
   cover : (q : Point) (r : Reached T H logs numbers q) → IsTrue (goes_on (fate_of logs numbers q)) → (j : ℕ) (x : Point) → H j → TakesBy T j q x → Covered T H (takes_of logs numbers q.who) j x

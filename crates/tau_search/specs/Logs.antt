@@ -1,5 +1,5 @@
 -- The logs of all transactors, and the versions that were heard of.
-use Rattle.std.specs.Prelude.{◌≡◌, ℕ, ◌≤◌, List, Some, length, slice_get}
+use Rattle.std.specs.Prelude.{◌≡◌, ℕ, suc, ◌≤◌, List, Some, length, slice_get}
 use Rattle.tau_trace.specs.Run.{Run}
 use Rattle.tau_trace.specs.Numbering.{born}
 use Rattle.tau_trace.specs.Known.{WellFormed}
@@ -10,12 +10,18 @@ use Rattle.tau_logs.specs.Versions.{IsLatest}
 use Rattle.tau_logs.specs.Told.{Told, TellsHistories}
 use Rattle.tau_logs.specs.Takes.{TellsTakes}
 
--- the logs are right up to place n of the run: one for each transactor that exists there, which tells its histories and what
--- its points have taken
+-- the log of u tells its histories, and what its points have taken, up to place n; its first version is that of the opening, and
+-- there is at most one more for each step
+pub record TellsLog (T : Run) (u n : ℕ) (log : Told) : Type 0 where
+  pub opens : (v : Version) × IsLatest log.versions 0 0 v
+  pub few : length log.versions ≤ suc n
+  pub histories : TellsHistories T u n log
+  pub takes : TellsTakes T u n log
+
+-- the logs are right up to place n of the run: there is such a log of each transactor that exists there
 pub record AreLogs (T : Run) (n : ℕ) (logs : List Told) : Type 0 where
   pub count : length logs ≡ born T n
-  pub histories : (u : ℕ) (log : Told) → slice_get logs u ≡ Some log → TellsHistories T u n log
-  pub takes : (u : ℕ) (log : Told) → slice_get logs u ≡ Some log → TellsTakes T u n log
+  pub each : (u : ℕ) (log : Told) → slice_get logs u ≡ Some log → TellsLog T u n log
 
 -- the number is that of the version of u that is latest at the bound of H
 pub record TellsBound (T : Run) (H : ℕ → Type 0) (n u : ℕ) (log : Told) (number : ℕ) : Type 0 where

@@ -19,7 +19,7 @@ pub trait HeardVersions {
 }
 
 /// The fate of a point by the version heard of its transactor; Ahead where there is no such transactor.
-pub(crate) fn fate_of<V: HeardVersions>(logs: &[Log], heard: &V, point: &Point) -> Fate
+pub fn fate_of<V: HeardVersions>(logs: &[Log], heard: &V, point: &Point) -> Fate
     ensures { result ≡ fate_of logs.now (V.numbers heard.now) point.now }
 {
     match logs.get(point.who as usize) {

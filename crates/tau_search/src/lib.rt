@@ -2,7 +2,7 @@
 //! (docs/rules.md, "Known past", "Verdict", "Free").
 #![tactic(auto)]
 
-pub use heard::HeardVersions;
+pub use heard::{HeardVersions, fate_of};
 pub use numbered::{Numbered, Together};
 pub use search::{Search, finds_not_firm};
 
@@ -11,6 +11,4 @@ pub mod laws;
 mod numbered;
 mod search;
 mod seen;
-#[cfg(test)]
-mod tests;
 mod walk;

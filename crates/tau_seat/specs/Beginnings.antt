@@ -11,7 +11,7 @@ use Rattle.tau_legal.specs.Traces.{IsLegal}
 use Rattle.tau_legal.proofs.TraceLemmas.{below_length, legal_same}
 use Rattle.tau_seat.specs.Keys.{Key, run_of, IsSound}
 
-get_front : (xs ys : List Step) (j : ℕ) → j < length xs → slice_get (xs ++ ys) j ≡ slice_get xs j
+pub get_front : (xs ys : List Step) (j : ℕ) → j < length xs → slice_get (xs ++ ys) j ≡ slice_get xs j
 get_front [] ys j lt = absurd (omega (arith, lt))
 get_front (x ∷ xs) ys zero lt = refl
 get_front (x ∷ xs) ys (suc j) lt = get_front xs ys j (omega (arith, lt))

@@ -1,15 +1,19 @@
 -- What contracts see of a seat as a worker's place.
-use Rattle.std.specs.Prelude.{◌≡◌, ℕ, Bool, true, false, List, Option, Some, None, length, map}
+use Rattle.std.specs.Prelude.{◌≡◌, ◌<◌, ◌≤◌, ℕ, Bool, true, false, List, Option, Some, None, length, map}
 use Rattle.atomic_table.specs.Seated.{TableId}
 use Rattle.tau_tree.specs.declared.programs.Program.{Program}
 use Rattle.tau_trace.specs.declared.step.Step.{Step}
+use Rattle.tau_trace.specs.Run.{len}
+use Rattle.tau_trace.specs.Turns.{Turn}
 use Rattle.tau_legal.specs.Traces.{Complete}
+use Rattle.tau_eval.specs.Turn.{TurnSoFar}
+use Rattle.tau_scripted.specs.OpenTurns.{IsOpenFrom}
 use Rattle.tau_book.specs.declared.answers.Next.{Next}
 use Rattle.tau_book.specs.declared.answers.Next.TheVariants as nexts
 use Rattle.tau_book.specs.Places.{End, complete, stopped}
 use Rattle.tau_seat.specs.Lists.{bare, Begins}
 use Rattle.tau_seat.specs.Keys.{run_of}
-use Rattle.tau_seat.specs.Seated.{Seated}
+use Rattle.tau_seat.specs.Seated.{Seated, seen_run}
 
 -- the end of a run: whether it is complete
 abbrev pub end_of : Option Bool → Option End
@@ -37,6 +41,15 @@ abbrev pub HasEnded : Seated → Option Bool → Type 0
 HasEnded s None = Unit {0}
 HasEnded s (Some true) = (front : List (Step × ℕ)) × Begins front s.seen × Complete s.program (run_of s.program (bare front))
 HasEnded s (Some false) = (front : List (Step × ℕ)) × Begins front s.seen × (¬ Complete s.program (run_of s.program (bare front))) × (length front ≡ s.limit)
+
+-- in the run that it has seen there is a moment, not before what it had seen at first, at which the turn of the job isn't open; where that
+-- turn had begun by then, it isn't open at the end either
+pub record IsSeenOver (old new : Seated) (job : TurnSoFar) : Type 0 where
+  pub moment : ℕ
+  pub since : len (seen_run old) ≤ moment
+  pub until : moment ≤ len (seen_run new)
+  pub over : (who message : ℕ) → ¬ Turn (seen_run new) who moment job.place message
+  pub stays : job.place < moment → ¬ IsOpenFrom (seen_run new) job.place
 
 -- whether the trace is complete, where the answer tells the end
 abbrev pub completeness_told : Next → Option Bool

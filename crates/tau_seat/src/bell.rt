@@ -1,7 +1,8 @@
-//! How a seat that found nothing to do waits until another's call has changed the book.
-use std::sync::{Condvar, Mutex, Wait};
+//! Where seats wait: for a turn, and, where they found nothing to do, for a change of the book.
+use std::sync::{Condvar, Mutex, MutexGuard, Wait};
 
-/// A count of the changes, at which seats wait.
+/// A lock in front of the tickets, and what wakes seats that wait for a change of the book (docs/rules.md, "Seats"). No clause rests on it:
+/// the tickets keep turns apart. It spares that each turn goes to a thread that sleeps.
 #[derive(Drop)]
 pub struct Bell {
     idlers: Mutex<Idlers>,
@@ -10,9 +11,7 @@ pub struct Bell {
 
 /// What lies under the lock.
 #[derive(Drop)]
-struct Idlers {
-    // How often the book was changed, and one more.
-    changes: u64,
+pub struct Idlers {
     // How many seats wait for a change.
     waiting: u32,
     // Whether one of them was woken and hasn't asked again yet.
@@ -23,7 +22,6 @@ impl Bell {
     pub fn new() -> Bell {
         Bell {
             idlers: Mutex::new(Idlers {
-                changes: 1,
                 waiting: 0,
                 is_waking: false,
             }),
@@ -31,34 +29,35 @@ impl Bell {
         }
     }
 
-    /// Waits unless there were changes since this count, and tells the count then. A seat asks the book between two such calls, so that no
-    /// change falls between its question and its sleep.
-    pub fn wait<R: Wait>(&self, rt: &R, changes: u64) -> u64 {
-        let mut idlers = self.idlers.lock(rt);
-        if idlers.changes == changes {
-            idlers.waiting = idlers.waiting.saturating_add(1);
-            idlers = self.changed.wait(rt, idlers);
-            idlers.waiting = idlers.waiting.saturating_sub(1);
-            idlers.is_waking = false;
-        }
-        idlers.changes
+    /// Waits until no other seat has the lock. A seat has it from before it draws a ticket until it has given up its turn.
+    pub fn enter<R: Wait>(&self, rt: &R) -> MutexGuard<'_, Idlers> {
+        self.idlers.lock(rt)
     }
 
-    /// Counts a change and wakes a seat that waits, unless one was woken that hasn't asked again yet: that one sees this change too, and
+    /// Waits for a change of the book. The lock is free only inside the wait, so that no change falls between the question and the wait.
+    pub fn wait<'b, R: Wait>(
+        &self,
+        rt: &R,
+        mut idlers: MutexGuard<'b, Idlers>,
+    ) -> MutexGuard<'b, Idlers> {
+        idlers.waiting = idlers.waiting.saturating_add(1);
+        let mut idlers = self.changed.wait(rt, idlers);
+        idlers.waiting = idlers.waiting.saturating_sub(1);
+        idlers.is_waking = false;
+        idlers
+    }
+
+    /// Wakes a seat that waits for a change, unless one was woken that hasn't asked again yet: that one asks after this change too, and
     /// where it finds something to do, it wakes another.
-    pub fn ring<R: Wait>(&self, rt: &R) {
-        let mut idlers = self.idlers.lock(rt);
-        idlers.changes = idlers.changes.wrapping_add(1);
+    pub fn ring(&self, idlers: &mut Idlers) {
         if idlers.waiting > 0 && !idlers.is_waking {
             idlers.is_waking = true;
             self.changed.notify_one();
         }
     }
 
-    /// Counts a change and wakes all seats.
-    pub fn ring_all<R: Wait>(&self, rt: &R) {
-        let mut idlers = self.idlers.lock(rt);
-        idlers.changes = idlers.changes.wrapping_add(1);
+    /// Wakes all seats that wait for a change.
+    pub fn ring_all(&self) {
         self.changed.notify_all();
     }
 }

@@ -4,7 +4,7 @@ ghost use Rattle.tau_book.specs.Places.{IsNotIdle, LeavesRoom};
 ghost use Rattle.tau_book.specs.Lefts.{IsLeftOf};
 ghost use Rattle.tau_seat.specs.Lists.{Begins};
 ghost use Rattle.tau_seat.specs.Seated.{Stays, EndsWith};
-ghost use Rattle.tau_seat.specs.SeatPlaces.{HasEnded, completeness_told};
+ghost use Rattle.tau_seat.specs.SeatPlaces.{HasEnded, IsSeenOver, completeness_told};
 
 use crate::seat_book::{BookSeat, SeatBook};
 use std::alloc::AllocError;
@@ -65,7 +65,7 @@ impl<'a, 'p, K: Knowledge + Drop> SeatPlace<'a, 'p, K> {
 impl<'a, 'p, K: Knowledge + Drop> StepPlace<'p> for SeatPlace<'a, 'p, K> {
     ghost use Rattle.std.specs.Prelude.{Bool, true, Option};
     ghost use Rattle.tau_book.specs.Places.{End};
-    ghost use Rattle.tau_seat.specs.SeatPlaces.{PlaceKey, key_of_place, end_of};
+    ghost use Rattle.tau_seat.specs.SeatPlaces.{PlaceKey, key_of_place, end_of, IsSeenOver};
 
     ghost Key = { PlaceKey };
 
@@ -74,6 +74,8 @@ impl<'a, 'p, K: Knowledge + Drop> StepPlace<'p> for SeatPlace<'a, 'p, K> {
     ghost tells_end = { true };
 
     ghost end = { λ p. end_of p.is_complete };
+
+    ghost sees_over = { λ p q job. IsSeenOver p.seat q.seat job };
 
     fn next<R: Wait>(&mut self, rt: &R, hand: &mut Hand<'p>) -> Result<Next<'p>, AllocError> {
         match self.is_complete {
@@ -113,13 +115,13 @@ fn ask<'p, K: Knowledge + Drop, R: Wait>(
     ensures end { IfOk result (EndsWith seat.new) }
     ensures never_idle { IfOk result IsNotIdle }
     ensures room { IfOk result (LeavesRoom hand.new) }
-    ensures hand_on_err { OnErr result (IsLeftOf hand.old hand.new) }
+    ensures hand_on_err { OnErr result (IsLeftOf (IsSeenOver seat.old seat.new) hand.old hand.new) }
     ensures size { hand.new.size ≡ hand.old.size }
 {
-    let mut changes = 0;
+    let mut idlers = table.enter(rt);
     for _ in rt.forever() {
-        match table.next(rt, seat, hand)? {
-            Next::Idle { .. } => changes = table.wait_for_change(rt, changes),
+        match table.next_entered(rt, &mut idlers, seat, hand)? {
+            Next::Idle { .. } => idlers = table.wait_for_change(rt, idlers),
             answer => return Ok(answer),
         }
     }

@@ -9,13 +9,13 @@ ghost use Rattle.tau_seat.specs.Keys.{IsSound};
 ghost use Rattle.tau_seat.specs.Seated.{key_at, mine_of, Stays, Watches, Grows, IsBookAt, IsTurn, EndsWith};
 ghost use Rattle.tau_seat.specs.Answers.{has_stepped, has_made};
 
-use crate::bell::Bell;
+use crate::bell::{Bell, Idlers};
 use crate::book_key::BookKey;
 use crate::kept::Kept;
 use crate::table::{Pass, SeatTable};
 use std::alloc::{AllocError, Global};
 use std::marker::Model;
-use std::sync::Wait;
+use std::sync::{MutexGuard, Wait};
 use tau_book::{Book, Hand, Next, Told};
 use tau_eval::Pending;
 use tau_knowledge::Knowledge;
@@ -153,11 +153,39 @@ impl<'p, K: Knowledge + Drop> SeatBook<'p, K> {
         ensures size { hand.new.size ≡ hand.old.size }
         ensures hand_on_err { OnErr result (hand.new ≡ hand.old) }
     {
+        let mut idlers = self.bell.enter(rt);
+        self.next_entered(rt, &mut idlers, seat, hand)
+    }
+
+    /// Waits until no other seat is between drawing its ticket and giving up its turn.
+    pub(crate) fn enter<R: Wait>(&self, rt: &R) -> MutexGuard<'_, Idlers> {
+        self.bell.enter(rt)
+    }
+
+    /// `next` of a seat that has entered.
+    pub(crate) fn next_entered<R: Wait>(
+        &self,
+        rt: &R,
+        idlers: &mut Idlers,
+        seat: &mut BookSeat<'p, K>,
+        hand: &mut Hand<'p>,
+    ) -> Result<Next<'p>, AllocError>
+        requires table { seat.old.table ≡ self.now.table }
+        ensures stays { Stays seat.old seat.new }
+        ensures sound { IsSound (key_at seat.new) (bare seat.new.seen) }
+        ensures prefix { Begins seat.old.seen seat.new.seen }
+        ensures step { Grows (has_stepped result) seat.old seat.new }
+        ensures answer { IfOk result (λ a. IsTurn seat.old seat.new (λ b c. IsNext b c hand.old hand.new a)) }
+        ensures end { IfOk result (EndsWith seat.new) }
+        ensures room { IfOk result (LeavesRoom hand.new) }
+        ensures size { hand.new.size ≡ hand.old.size }
+        ensures hand_on_err { OnErr result (hand.new ≡ hand.old) }
+    {
         let mut book = self.table.take(rt, &mut seat.pass);
         let answer = book.next(hand);
         let grew = has_stepped(&answer);
         self.table.put_back(&mut seat.pass, book, grew);
-        self.tell(rt, &answer);
+        self.tell(idlers, &answer);
         answer
     }
 
@@ -182,11 +210,12 @@ impl<'p, K: Knowledge + Drop> SeatBook<'p, K> {
         ensures pending_on_err { IfErr result (λ e. e.0 ≡ pending.entry) }
         ensures hand_on_err { OnErr result (hand.new ≡ hand.old) }
     {
+        let mut idlers = self.bell.enter(rt);
         let mut book = self.table.take(rt, &mut seat.pass);
         let answer = book.act(hand, pending);
         let grew = has_made(&answer);
         self.table.put_back(&mut seat.pass, book, grew);
-        self.bell.ring(rt);
+        self.bell.ring(&mut idlers);
         answer
     }
 
@@ -201,27 +230,32 @@ impl<'p, K: Knowledge + Drop> SeatBook<'p, K> {
         ensures empty { hand.new.jobs ≡ [] }
         ensures size { hand.new.size ≡ hand.old.size }
     {
+        let mut idlers = self.bell.enter(rt);
         let mut book = self.table.take(rt, &mut seat.pass);
         // What holds of the book before and after.
         let _before = book.system();
         book.give_back(hand);
         let _after = book.system();
         self.table.put_back(&mut seat.pass, book, false);
-        self.bell.ring(rt);
+        self.bell.ring(&mut idlers);
     }
 
     /// Wakes seats that wait for a change of the book, as the answer asks for.
-    fn tell<R: Wait>(&self, rt: &R, answer: &Result<Next<'p>, AllocError>) {
+    fn tell(&self, idlers: &mut Idlers, answer: &Result<Next<'p>, AllocError>) {
         match answer {
-            Ok(Next::Complete | Next::Stopped) => self.bell.ring_all(rt),
-            Ok(Next::Work(_) | Next::Stepped) => self.bell.ring(rt),
+            Ok(Next::Complete | Next::Stopped) => self.bell.ring_all(),
+            Ok(Next::Work(_) | Next::Stepped) => self.bell.ring(idlers),
             Ok(Next::Idle { .. }) | Err(_) => {}
         }
     }
 
-    /// Waits for a change of the book, unless there were changes since this count, and tells the count then. 0 comes before each count.
-    pub(crate) fn wait_for_change<R: Wait>(&self, rt: &R, changes: u64) -> u64 {
-        self.bell.wait(rt, changes)
+    /// Waits for a change of the book, of which the seat that has entered was told Idle.
+    pub(crate) fn wait_for_change<'b, R: Wait>(
+        &self,
+        rt: &R,
+        idlers: MutexGuard<'b, Idlers>,
+    ) -> MutexGuard<'b, Idlers> {
+        self.bell.wait(rt, idlers)
     }
 
     /// The book comes back from the seat that has all numbers. Its trace is what the seat has seen, and each of its places is the seat's.

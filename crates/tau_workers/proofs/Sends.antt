@@ -5,7 +5,7 @@ use Rattle.tau_value.proofs.shared.Values.TheLaws.TheKnot.{both_sync-Values}
 use Rattle.tau_tree.specs.contracts.programs.Program as program
 use Rattle.tau_states.specs.contracts.states.States as states
 use Rattle.tau_rules.specs.contracts.records.Record as kept
-use Rattle.tau_compact.specs.contracts.pruned.PrunedView as pruned
+use Rattle.tau_hearing.specs.contracts.hearing.Hearing as hearing
 use Rattle.tau_scripted.specs.contracts.index.Index as index
 use Rattle.tau_script.specs.contracts.cursor.Cursor as cursor
 use Rattle.tau_tree.proofs.expressions.Expr.TheLaws.TheKnot.{both_sync-Expr}
@@ -79,8 +79,8 @@ states_send = search (crosses, sendable, value_send) depth 200 fits 100000
 pub record_send : IsSend (kept.the_field).row
 record_send = search (crosses, sendable, value_send, values_send) depth 200 fits 100000
 
-pub pruned_send : IsSend (pruned.the_field).row
-pruned_send = search (crosses, sendable, both_send-Chunk, both_sync-Chunk) depth 200 fits 100000
+pub hearing_send : IsSend (hearing.the_field).row
+hearing_send = search (crosses, sendable, both_send-Chunk, both_sync-Chunk) depth 200 fits 100000
 
 pub index_send : IsSend (index.the_field).row
 index_send = search (crosses, sendable) depth 200 fits 100000

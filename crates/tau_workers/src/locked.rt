@@ -73,7 +73,7 @@ impl<'p, K: Knowledge + Drop> Desk<'p, K> {
     fn next<R: Wait>(&self, rt: &R, hand: &mut Hand<'p>) -> Result<Next<'p>, AllocError>
         ensures never_idle { IfOk result IsNotIdle }
         ensures room { IfOk result (LeavesRoom hand.new) }
-        ensures hand_on_err { OnErr result (IsLeftOf hand.old hand.new) }
+        ensures hand_on_err { OnErr result (IsLeftOf (λ _. Unit {0}) hand.old hand.new) }
         ensures size { hand.new.size ≡ hand.old.size }
     {
         let mut shared = self.shared.lock(rt);
@@ -160,6 +160,9 @@ impl<'p, K: Knowledge + Drop + Send> StepPlace<'p> for &LockedBook<'p, K> {
     ghost tells_end = { false };
 
     ghost end = { λ _. None };
+
+    // Of a book under a lock nobody sees the trace, so of the jobs that are given up nothing is told.
+    ghost sees_over = { λ _ _ _. Unit {0} };
 
     fn next<R: Wait>(&mut self, rt: &R, hand: &mut Hand<'p>) -> Result<Next<'p>, AllocError> {
         self.desk.next(rt, hand)

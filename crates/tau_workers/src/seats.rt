@@ -10,19 +10,18 @@ use std::alloc::{AllocError, Global};
 use std::sync::Wait;
 use std::thread::Threads;
 use tau_book::Hand;
-use tau_compact::PrunedView;
+use tau_hearing::Hearing;
 use tau_seat::{BookSeat, SeatBook, SeatPlace};
-use tau_views::Views;
 
 /// Lets workers work on a book, each with one number of the seat, and joins their seats.
 pub fn work<'b, 'p, R: Threads + Wait + Sync, G: Gate + Sync>(
     rt: &R,
     alloc: Global,
-    table: &'b SeatBook<'p, Views<PrunedView>>,
-    seat: BookSeat<'p, Views<PrunedView>>,
+    table: &'b SeatBook<'p, Hearing>,
+    seat: BookSeat<'p, Hearing>,
     settings: Settings,
     gate: &G,
-) -> Result<BookSeat<'p, Views<PrunedView>>, AllocError>
+) -> Result<BookSeat<'p, Hearing>, AllocError>
     requires seat { IsSeatOf table.now seat }
     requires numbers { length seat.numbers ≡ settings.workers }
     requires some { 1 ≤ settings.workers }
@@ -39,10 +38,10 @@ pub fn work<'b, 'p, R: Threads + Wait + Sync, G: Gate + Sync>(
 /// The workers, by number, before their first step.
 fn make_workers<'b, 'p>(
     alloc: Global,
-    table: &'b SeatBook<'p, Views<PrunedView>>,
-    seat: BookSeat<'p, Views<PrunedView>>,
+    table: &'b SeatBook<'p, Hearing>,
+    seat: BookSeat<'p, Hearing>,
     settings: Settings,
-) -> Result<Vec<Worker<'p, SeatPlace<'b, 'p, Views<PrunedView>>>>, AllocError>
+) -> Result<Vec<Worker<'p, SeatPlace<'b, 'p, Hearing>>>, AllocError>
     requires seat { IsSeatOf table.now seat }
     requires numbers { length seat.numbers ≡ settings.workers }
     requires some { 1 ≤ settings.workers }
@@ -67,11 +66,11 @@ fn make_workers<'b, 'p>(
 /// A worker with a seat before its first step.
 fn make_worker<'b, 'p>(
     alloc: Global,
-    table: &'b SeatBook<'p, Views<PrunedView>>,
-    seat: BookSeat<'p, Views<PrunedView>>,
+    table: &'b SeatBook<'p, Hearing>,
+    seat: BookSeat<'p, Hearing>,
     settings: Settings,
     number: u32,
-) -> Result<Worker<'p, SeatPlace<'b, 'p, Views<PrunedView>>>, AllocError>
+) -> Result<Worker<'p, SeatPlace<'b, 'p, Hearing>>, AllocError>
     requires seat { IsSeatOf table.now seat }
     requires jobs { 1 ≤ settings.jobs }
     requires few { settings.jobs ≤ 16 }
@@ -102,9 +101,9 @@ fn make_hand<'p>(alloc: Global, settings: Settings, number: u32) -> Result<Hand<
 
 /// The seat of all numbers of the workers' seats, in the workers' order.
 fn join_all<'b, 'p>(
-    table: &'b SeatBook<'p, Views<PrunedView>>,
-    mut workers: Vec<Worker<'p, SeatPlace<'b, 'p, Views<PrunedView>>>>,
-) -> BookSeat<'p, Views<PrunedView>>
+    table: &'b SeatBook<'p, Hearing>,
+    mut workers: Vec<Worker<'p, SeatPlace<'b, 'p, Hearing>>>,
+) -> BookSeat<'p, Hearing>
     requires some { 1 ≤ length workers.items }
     requires ones { All (λ w. HasOne table.now w.place) workers.items }
     ensures seat { IsSeatOf table.entry.now result }
@@ -120,9 +119,7 @@ fn join_all<'b, 'p>(
 }
 
 /// The seat of a worker, which is given up.
-fn seat_of<'b, 'p>(
-    worker: Worker<'p, SeatPlace<'b, 'p, Views<PrunedView>>>,
-) -> BookSeat<'p, Views<PrunedView>>
+fn seat_of<'b, 'p>(worker: Worker<'p, SeatPlace<'b, 'p, Hearing>>) -> BookSeat<'p, Hearing>
     ensures { result ≡ worker.entry.place.seat }
 {
     worker.place.into_seat()

@@ -13,4 +13,5 @@ returns g c =
       status = search rules;
       untouched = search rules;
       faulty = search rules;
+      unasked = search rules;
     }

@@ -10,4 +10,4 @@ pub returns-in_default : goal.returns-in_default
 returns-in_default c = λ x. next_passed c.args.roots.now c.args.number c.args.me c.in-Some.root c.args.taken.now c.args.fresh.now.items (sym c.in-Some.ensures) c.if-is_fresh.ensures.passed x
 
 pub returns-in_default-2 : goal.returns-in_default-2
-returns-in_default-2 c = λ x. absurd (let both = c.in_default.ensures ∙ (root_there c.args.roots.now c.args.number c.requires).1 in cc)
+returns-in_default-2 c = λ x. absurd (let both = c.in_default.ensures ∙ (root_there c.args.roots.now c.args.number c.requires.there).1 in cc)

@@ -1,23 +1,32 @@
 use Rattle.tau_command.specs.declared.commands.Command.TheVariants.{Run, Check, Audit, Report, Print}
-use Rattle.tau_output.proofs.LawLemmas.{answer_told}
+use Rattle.tau_output.proofs.LawLemmas.{answer_told, why_told}
 use Rattle.tau_output.proofs.outputs.output_of.Goals as goal
 
 pub returns-in-Run-clause-faulty : goal.returns-in-Run-clause-faulty
 returns-in-Run-clause-faulty c =
-    answer_told c.args.command (Run c.in-Run.workers c.in-Run.jobs c.in-Run.seed c.in-Run.steps) c.args.bytes.now c.write_serial_run.result c.in-Run.is c.requires.bytes c.write_serial_run.ensures.output c.write_serial_run.ensures.fault
+    (answer_told c.args.command (Run c.in-Run.workers c.in-Run.jobs c.in-Run.seed c.in-Run.steps) c.args.bytes.now c.write_serial_run.result c.refused_by.result c.in-Run.is c.refused_by.ensures c.requires.bytes
+    c.write_serial_run.ensures.output c.write_serial_run.ensures.fault).gives.faulty
 
 pub returns-in-Check-clause-faulty : goal.returns-in-Check-clause-faulty
 returns-in-Check-clause-faulty c =
-    answer_told c.args.command Check c.args.bytes.now c.check_run.result c.in-Check.is c.requires.bytes c.check_run.ensures.output c.check_run.ensures.fault
+    (answer_told c.args.command Check c.args.bytes.now c.check_run.result c.refused_by-in-Check.result c.in-Check.is c.refused_by-in-Check.ensures c.requires.bytes c.check_run.ensures.output c.check_run.ensures.fault).gives.faulty
 
 pub returns-in-Audit-clause-faulty : goal.returns-in-Audit-clause-faulty
 returns-in-Audit-clause-faulty c =
-    answer_told c.args.command Audit c.args.bytes.now c.audit_run.result c.in-Audit.is c.requires.bytes c.audit_run.ensures.output c.audit_run.ensures.fault
+    (answer_told c.args.command Audit c.args.bytes.now c.audit_run.result c.refused_by-in-Audit.result c.in-Audit.is c.refused_by-in-Audit.ensures c.requires.bytes c.audit_run.ensures.output c.audit_run.ensures.fault).gives.faulty
 
 pub returns-in-Report-clause-faulty : goal.returns-in-Report-clause-faulty
 returns-in-Report-clause-faulty c =
-    answer_told c.args.command Report c.args.bytes.now c.report_run.result c.in-Report.is c.requires.bytes c.report_run.ensures.output c.report_run.ensures.fault
+    (answer_told c.args.command Report c.args.bytes.now c.report_run.result c.refused_by-in-Report.result c.in-Report.is c.refused_by-in-Report.ensures c.requires.bytes c.report_run.ensures.output c.report_run.ensures.fault).gives.faulty
 
 pub returns-in-Print-clause-faulty : goal.returns-in-Print-clause-faulty
 returns-in-Print-clause-faulty c =
-    answer_told c.args.command Print c.args.bytes.now c.print_program.result c.in-Print.is c.requires.bytes c.print_program.ensures.output c.print_program.ensures.fault
+    (answer_told c.args.command Print c.args.bytes.now c.print_program.result c.refused_by-in-Print.result c.in-Print.is c.refused_by-in-Print.ensures c.requires.bytes c.print_program.ensures.output c.print_program.ensures.fault).gives.faulty
+
+pub returns-in-Why-clause-faulty : goal.returns-in-Why-clause-faulty
+returns-in-Why-clause-faulty c =
+    (why_told c.args.command c.in-Why.place c.args.bytes.now c.explain_run.result c.in-Why.is c.requires.bytes c.explain_run.ensures.output c.explain_run.ensures.fault c.explain_run.ensures.not_asked).gives.faulty
+
+pub returns-in-Why-clause-unasked : goal.returns-in-Why-clause-unasked
+returns-in-Why-clause-unasked c =
+    (why_told c.args.command c.in-Why.place c.args.bytes.now c.explain_run.result c.in-Why.is c.requires.bytes c.explain_run.ensures.output c.explain_run.ensures.fault c.explain_run.ensures.not_asked).gives.unasked

@@ -8,7 +8,8 @@ use Rattle.tau_output.proofs.together.output_by_workers.Goals as goal
 
 pub returns-in-Run-clause-faulty : goal.returns-in-Run-clause-faulty
 returns-in-Run-clause-faulty g c =
-    together_told c.args.command c.in-Run.workers c.in-Run.jobs c.in-Run.seed c.in-Run.steps c.args.bytes.now c.write_workers_run.result c.in-Run.is c.requires.bytes c.write_workers_run.ensures.output c.write_workers_run.ensures.fault
+    together_told c.args.command c.in-Run.workers c.in-Run.jobs c.in-Run.seed c.in-Run.steps c.args.bytes.now c.write_workers_run.result c.refused_by.result c.in-Run.is c.refused_by.ensures c.requires.bytes
+    c.write_workers_run.ensures.output c.write_workers_run.ensures.fault
 
 pub returns-in_default-clause-output : goal.returns-in_default-clause-output
 returns-in_default-clause-output g c =

@@ -1,6 +1,11 @@
-use Rattle.std.proofs.Common.{refl, ◌∙◌}
+use Rattle.std.proofs.Common.{refl, sym, ap, subst, ◌∙◌}
+use Rattle.tau_book.specs.Lefts.{IsLeftOf}
 use Rattle.tau_book.proofs.HandsLeft.{all_left, idle_left}
+use Rattle.tau_seat.specs.Lists.{bare}
+use Rattle.tau_seat.specs.Keys.{run_of}
+use Rattle.tau_seat.specs.SeatPlaces.{IsSeenOver}
 use Rattle.tau_seat.proofs.Places.{stays_itself, stays_longer, begins_itself, begins_longer}
+use Rattle.tau_seat.proofs.Overs.{over_now, seen_left, on_err}
 use Rattle.tau_seat.proofs.place.ask.Goals as goal
 
 pub loop-init : goal.loop-init
@@ -10,17 +15,34 @@ loop-init g c = record {
   stays = stays_itself c.args.seat.now;
   prefix = begins_itself c.args.seat.now.seen;
   size = refl;
-  left = all_left c.args.hand.now;
+  left = all_left (IsSeenOver c.args.seat.now c.args.seat.now) c.args.hand.now;
 }
 
 pub loop-preserved : goal.loop-preserved
 loop-preserved g c =
     let turn = c.in_ok-answer.ensures.answer in
+    let first = c.args.seat.now in
+    let before = c.loop.seat in
+    let after = c.next_entered.new.seat in
+    let same = c.next_entered.ensures.stays in
+    let seen = begins_longer first.seen before.seen after.seen c.loop.invariant.prefix c.next_entered.ensures.prefix in
+    let run_is = turn.after_is.run_is ∙ ap (λ P. run_of P (bare after.seen)) (sym same.program_is) in
     record {
       can_next = tt;
       is_finite = tt;
-      stays = stays_longer c.args.seat.now c.loop.seat c.next-in-loop.new.seat c.loop.invariant.stays c.next-in-loop.ensures.stays;
-      prefix = begins_longer c.args.seat.now.seen c.loop.seat.seen c.next-in-loop.new.seat.seen c.loop.invariant.prefix c.next-in-loop.ensures.prefix;
-      size = c.next-in-loop.ensures.size ∙ c.loop.invariant.size;
-      left = idle_left turn.before turn.after c.args.hand.now c.loop.hand c.next-in-loop.new.hand c.in_ok-answer.answer c.in-Idle.out turn.called c.in-Idle.is c.loop.invariant.left;
+      stays = stays_longer first before after c.loop.invariant.stays same;
+      prefix = seen;
+      size = c.next_entered.ensures.size ∙ c.loop.invariant.size;
+      left =
+          idle_left (IsSeenOver first after) turn.before turn.after c.args.hand.now c.loop.hand c.next_entered.new.hand c.in_ok-answer.answer c.in-Idle.out turn.called c.in-Idle.is (over_now first after turn.after.system.run run_is seen)
+          (seen_left first before after c.args.hand.now c.loop.hand same.program_is c.next_entered.ensures.prefix c.loop.invariant.left);
     }
+
+pub returns-in_err-answer-clause-hand_on_err : goal.returns-in_err-answer-clause-hand_on_err
+returns-in_err-answer-clause-hand_on_err g c =
+    let first = c.args.seat.now in
+    let before = c.loop.seat in
+    let after = c.next_entered.new.seat in
+    on_err c.from_residual.result
+    (subst (IsLeftOf (IsSeenOver first after) c.args.hand.now) (sym c.in_err-answer.ensures.hand_on_err)
+    (seen_left first before after c.args.hand.now c.loop.hand c.next_entered.ensures.stays.program_is c.next_entered.ensures.prefix c.loop.invariant.left))

@@ -2,6 +2,7 @@ use Rattle.std.proofs.Common.{◌≡◌}
 use Rattle.tau_book.specs.Lefts.{IsLeftOf}
 use Rattle.tau_seat.specs.Lists.{Begins}
 use Rattle.tau_seat.specs.Seated.{Stays}
+use Rattle.tau_seat.specs.SeatPlaces.{IsSeenOver}
 use Rattle.tau_seat.proofs.place.ask.Given as goal
 
 abbrev pub invariant-loop : goal.invariant-loop
@@ -11,5 +12,5 @@ invariant-loop g l = record {
   stays : Stays l.fn.seat l.seat;
   prefix : Begins l.fn.seat.seen l.seat.seen;
   size : l.hand.size ≡ l.fn.hand.size;
-  left : IsLeftOf l.fn.hand l.hand;
+  left : IsLeftOf (IsSeenOver l.fn.seat l.seat) l.fn.hand l.hand;
 }

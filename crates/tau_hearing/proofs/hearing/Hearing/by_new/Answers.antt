@@ -20,4 +20,4 @@ returns c =
     (new_leads c.args.self.now c.args.trace.now.run c.args.step.now c.requires.next c.args.who c.requires.by kind.0 kind.1 kind.2
     (record { log = c.in_ok-newborn.field-0; own = record { numbers = c.in_ok-numbers.numbers; roots = c.none.result; touched = false; depended = false } })
     c.in_ok-takes.takes.items kind.3 first (λ x e. subst (G x) (sym c.in_ok-takes.ensures) (c.in_ok-along.ensures x e))
-    (λ x e. subst (λ v. H x.numbers.numbers v) c.in_ok-version.ensures (subst (λ xs. H xs c.in_ok-version.version) (c.items.ensures ∙ ap (λ y. y.numbers.numbers) (same_some (sym c.own_of-creator.ensures ∙ e))) c.in_ok-numbers.ensures)) c.none.ensures refl refl)
+    (λ x e. subst (λ v. H x.numbers.numbers v) c.last_number-version.ensures (subst (λ xs. H xs c.last_number-version.result) (c.items.ensures ∙ ap (λ y. y.numbers.numbers) (same_some (sym c.own_of-creator.ensures ∙ e))) c.in_ok-numbers.ensures)) c.none.ensures refl refl)

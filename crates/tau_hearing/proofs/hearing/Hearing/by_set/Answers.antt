@@ -5,9 +5,13 @@ use Rattle.tau_trace.specs.Points.{point_at}
 use Rattle.tau_trace.proofs.Lists.{same_some}
 use Rattle.tau_logs.specs.Told.{Told}
 use Rattle.tau_logs.specs.Reading.{takes_told}
+use Rattle.tau_past.specs.Heard.{Heard}
 use Rattle.tau_logs.specs.Takes.{taken}
+use Rattle.tau_search.specs.Numbered.{with_version}
+use Rattle.tau_hearing.specs.Closing.{is_unclosed}
 use Rattle.tau_hearing.specs.Next.{AreFresh, IsAdding}
-use Rattle.tau_hearing.proofs.Leading.{last_there, ranges_are}
+use Rattle.tau_hearing.proofs.LeavingOut.{kept_without}
+use Rattle.tau_hearing.proofs.Leading.{kept, last_there, ranges_are}
 use Rattle.tau_hearing.proofs.Setting.{still_leads, taking_leads, fresh_at}
 use Rattle.tau_hearing.proofs.hearing.Hearing.by_set.Goals as goal
 
@@ -36,13 +40,21 @@ adding-requires-clause-within c = (ranges_are c.args.self.now c.args.trace.now.r
 
 pub returns : goal.returns
 returns c =
+    let T = c.args.trace.now.run in
+    let n = len T in
+    let U = appended T c.args.step.now in
+    let numbers = with_version c.heard_before-heard.result.who c.heard_before-heard.result.version c.heard_before-heard.result.numbers.now in
+    let logs = c.args.self.now.logs.items in
+    let K : List Told → Type 0 = λ L. IsAdding (is_unclosed L numbers) c.log_of-log.result.now c.last_version-version.result c.in_ok-fresh.fresh.items c.in_ok-added.added.points.items c.in_ok-added.added.version in
+    let adds = subst K c.deref-2.ensures.value c.in_ok-added.ensures.adding in
     rw (c.of_actor.ensures, c.of-actor.ensures)
-    (taking_leads c.args.self.now c.args.trace.now.run c.args.step.now c.requires.next c.args.who c.requires.by c.requires.kind c.last_version-version.result c.in_ok-added.added.version c.in_ok-added.added.points.items c.in_ok-added.added.points refl c.last_version-version.ensures
-    (omega (arith, c.in_ok-added.ensures.from, c.len-2.ensures.len))
+    (taking_leads c.args.self.now T c.args.step.now c.requires.next c.args.who c.requires.by c.requires.kind (is_unclosed logs numbers) c.last_version-version.result c.in_ok-added.added.version c.in_ok-added.added.points.items c.in_ok-added.added.points refl c.last_version-version.ensures
+    (omega (arith, c.in_ok-added.ensures.from, c.len-from.ensures.len))
     (λ l x e f.
     let same : c.log_of-log.result.now ≡ l = same_some (sym c.log_of-log.ensures ∙ e) in
-    let F : Told → Type 0 = λ k. IsAdding k c.last_version-version.result c.in_ok-fresh.fresh.items c.in_ok-added.added.points.items c.in_ok-added.added.version in (
+    let F : Told → Type 0 = λ k. IsAdding (is_unclosed logs numbers) k c.last_version-version.result c.in_ok-fresh.fresh.items c.in_ok-added.added.points.items c.in_ok-added.added.version in
+    let add = subst F same adds in (
       c.in_ok-fresh.fresh.items,
-      fresh_at c.args.self.now c.args.trace.now.run c.args.step.now c.requires.next c.args.who c.requires.by c.requires.kind c.last_version-version.result c.last_version-version.ensures l x c.log_of-log.result.now c.own_of-own.result.now c.own_point-me.result c.taken.result.now c.in_ok-fresh.fresh.items e f c.log_of-log.ensures c.own_of-own.ensures c.own_point-me.ensures (c.taken.ensures ∙ ap (takes_told c.log_of-log.result.now) (c.saturating_sub.ensures ∙ ap (λ k. k - 1) c.len.ensures)) c.in_ok-fresh.ensures,
-      subst F same c.in_ok-added.ensures.adding,
+      fresh_at c.args.self.now T c.args.step.now c.requires.next c.args.who c.requires.by c.requires.kind c.last_version-version.result c.last_version-version.ensures l x c.log_of-log.result.now c.own_of-own.result.now c.own_point-me.result c.taken.result.now c.in_ok-fresh.fresh.items e f c.log_of-log.ensures c.own_of-own.ensures c.own_point-me.ensures (c.taken.ensures ∙ ap (takes_told c.log_of-log.result.now) (c.saturating_sub.ensures ∙ ap (λ k. k - 1) c.len.ensures)) c.in_ok-fresh.ensures,
+      (add, kept_without U (Heard U c.args.who n) n logs numbers (kept c.args.self.now T c.args.step.now c.requires.next).logs_are c.heard_before-heard.ensures (taken l.takes c.last_version-version.result) add.kept add.is_kept),
     )))

@@ -13,4 +13,4 @@ returns c =
     let logs = c.args.self.now.logs.items in
     let F : ℕ → Type 0 = λ v. TellBounds T (Heard T c.args.who (len T)) (len T) logs (with_version c.args.who v c.items.result.now) in
     let G : List ℕ → Type 0 = λ xs. TellBounds T (Heard T c.args.who (len T)) (len T) logs (with_version c.args.who (last_number logs c.args.who) xs) in
-    subst F (sym c.in_ok-version.ensures) (subst G (sym c.items.ensures) (own_bounds T c.args.self.now c.requires.knows c.args.who c.requires.exists c.kept_of-own.result.now c.kept_of-own.ensures))
+    subst F (sym c.last_number-version.ensures) (subst G (sym c.items.ensures) (own_bounds T c.args.self.now c.requires.knows c.args.who c.requires.exists c.kept_of-own.result.now c.kept_of-own.ensures))

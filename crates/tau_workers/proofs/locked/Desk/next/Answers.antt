@@ -3,12 +3,13 @@ use Rattle.tau_book.proofs.HandsLeft.{all_left, idle_left}
 use Rattle.tau_workers.proofs.locked.Desk.next.Goals as goal
 
 pub loop-init : goal.loop-init
-loop-init g c = record { can_next = tt; is_finite = tt; size = refl; left = all_left c.args.hand.now }
+loop-init g c = record { can_next = tt; is_finite = tt; size = refl; left = all_left (λ _. Unit {0}) c.args.hand.now }
 
 pub loop-preserved : goal.loop-preserved
 loop-preserved g c = record {
   can_next = tt;
   is_finite = tt;
-  size = c.in_ok-answer.ensures.size ∙ c.loop.invariant.size;
-  left = idle_left _ _ c.args.hand.now c.loop.hand c.next-in-loop.new.hand c.in_ok-answer.answer c.in-Idle.out c.in_ok-answer.ensures.ok c.in-Idle.is c.loop.invariant.left;
+  size = c.next-in-loop.ensures.size ∙ c.loop.invariant.size;
+  left =
+      idle_left (λ _. Unit {0}) _ _ c.args.hand.now c.loop.hand c.next-in-loop.new.hand c.in_ok-answer.answer c.in-Idle.out c.in_ok-answer.ensures.ok c.in-Idle.is (λ job closed. tt) c.loop.invariant.left;
 }

@@ -7,5 +7,5 @@ invariant-loop g l = record {
   can_next : (goal.iterator-loop g).can_next l.iterator';
   is_finite : (goal.iterator-loop g).is_finite l.iterator';
   size : l.hand.size ≡ l.fn.hand.size;
-  left : IsLeftOf l.fn.hand l.hand;
+  left : IsLeftOf (λ _. Unit {0}) l.fn.hand l.hand;
 }

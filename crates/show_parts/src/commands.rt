@@ -1,0 +1,59 @@
+//! The words of command lines. A line has the words of one; an empty line has none.
+use crate::calls::{Call, Part};
+use std::alloc::{AllocError, Global};
+use tau_command::{Command, Line, Words, read_words};
+
+/// What reads command lines.
+#[derive(Clone, Copy)]
+pub(crate) struct Commands {
+    alloc: Global,
+}
+
+impl Commands {
+    pub(crate) fn new(alloc: Global) -> Commands {
+        Commands { alloc }
+    }
+}
+
+impl Part for Commands {
+    fn call(&mut self, text: &mut String, call: Call<'_>) -> Result<(), AllocError> {
+        let words = words_of(self.alloc, call.line())?;
+        match read_words(self.alloc, &words) {
+            Ok(command) => add_command(text, call, command),
+            Err(error) => writeln!(text, "{}: {error}", call.line()),
+        }
+    }
+}
+
+fn words_of(alloc: Global, line: &str) -> Result<Words, AllocError> {
+    let mut words = Words::new(alloc);
+    for word in line.split_whitespace() {
+        if let Err((_word, failed)) = words.push(Line::of(alloc, word)?) {
+            return Err(failed);
+        }
+    }
+    Ok(words)
+}
+
+/// Adds a command with its numbers.
+fn add_command(text: &mut String, call: Call<'_>, command: Command) -> Result<(), AllocError> {
+    let line = call.line();
+    match command {
+        Command::Run {
+            workers,
+            jobs,
+            seed,
+            steps,
+        } => writeln!(
+            text,
+            "{line}: Run, workers {workers}, jobs {jobs}, seed {seed}, steps {steps}"
+        ),
+        Command::Check => call.answer(text, "Check"),
+        Command::Audit => call.answer(text, "Audit"),
+        Command::Report => call.answer(text, "Report"),
+        Command::Print => call.answer(text, "Print"),
+        Command::Gen { number } => writeln!(text, "{line}: Gen, number {number}"),
+        Command::Drill { number } => writeln!(text, "{line}: Drill, number {number}"),
+        Command::Why { place } => writeln!(text, "{line}: Why, place {place}"),
+    }
+}

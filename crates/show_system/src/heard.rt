@@ -1,0 +1,65 @@
+//! What is asked of a system that keeps what was heard as numbers of versions, by views that are made anew.
+ghost use Rattle.tau_views.specs.Kept.{AreViews, held_of, letters_of};
+
+use crate::showing::{
+    Shown, add_freedom, add_history_line, add_standing_or_state, add_verdict, add_view,
+};
+use std::alloc::{AllocError, Global};
+use tau_fate::Verdict;
+use tau_hearing::Hearing;
+use tau_rules::System;
+use tau_view::View;
+use tau_views::Views;
+
+/// Adds what a call asks for, as `show_viewed` does.
+pub(crate) fn show_heard<V: Shown>(
+    alloc: Global,
+    text: &mut String,
+    system: &System<'_, Hearing>,
+    verb: &str,
+    number: u32,
+) -> Result<(), AllocError> {
+    let born = system.trace().born();
+    match verb {
+        "history" | "view" | "message" | "free" | "verdict" => {
+            let views: Views<V> = system.views()?;
+            let own = views.view_of(number);
+            match verb {
+                "history" => {
+                    let history = own.and_then(|view| view.history_of(number));
+                    add_history_line(text, number, history)
+                }
+                "view" => add_view(text, born, own),
+                "message" => add_view(text, born, views.message_view(number)),
+                "free" => add_freedom(alloc, text, number, own),
+                _ => {
+                    let verdict = verdict_on(alloc, system, &views, number)?;
+                    add_verdict(text, verdict)
+                }
+            }
+        }
+        _ => add_standing_or_state(text, system, verb, number),
+    }
+}
+
+/// The verdict on a message in flight, by the views.
+fn verdict_on<V: Shown>(
+    alloc: Global,
+    system: &System<'_, Hearing>,
+    views: &Views<V>,
+    message: u32,
+) -> Result<Option<Verdict>, AllocError>
+    requires { AreViews V.drops_edge V.drops_root system.now.run (held_of V.held views.now.own.items) (letters_of V.held views.now.letters.items) }
+{
+    let trace = system.trace();
+    if message >= trace.sent() || trace.ended_by(message).is_some() {
+        return Ok(None);
+    }
+    match trace.target(message) {
+        Some(who) if who < trace.born() => {
+            let verdict = views.judge(alloc, trace, who, message)?;
+            Ok(Some(verdict))
+        }
+        _ => Ok(None),
+    }
+}

@@ -1,6 +1,0 @@
-use Rattle.std.proofs.Common.{◌≡◌}
-use Rattle.tau_mailbox.specs.Letters.{AllBelow}
-use Rattle.tau_mailbox.proofs.tests.seven.Given as goal
-
-abbrev pub invariant-loop-message : goal.invariant-loop-message
-invariant-loop-message l = (l.mailboxes.nodes ≡ 3) × AllBelow l.message l.mailboxes.letters

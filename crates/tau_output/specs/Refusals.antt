@@ -1,0 +1,21 @@
+-- What refusals tell.
+use Rattle.std.specs.Prelude.{ℕ}
+use Rattle.tau_text.specs.declared.errors.InputError.{InputError}
+use Rattle.tau_text.specs.declared.errors.InputError.TheVariants as inputs
+use Rattle.tau_output.specs.declared.refusals.Refusal.{Refusal}
+use Rattle.tau_output.specs.declared.refusals.Refusal.TheVariants.{Fault, NotAsked, NoMemory}
+
+-- the refusal for an error
+abbrev pub of_input_error : InputError → Refusal
+of_input_error (inputs.Fault fault at) = Fault fault at
+of_input_error inputs.NoMemory = NoMemory
+
+-- where a refusal tells a fault, it is one of these, which are given by number and place
+abbrev pub TellsFault : (ℕ → ℕ → Type 0) → Refusal → Type 0
+TellsFault F (Fault fault at) = F fault at
+TellsFault F refusal = Unit {0}
+
+-- where a refusal tells a place that is not asked, it is one of these
+abbrev pub TellsNotAsked : (ℕ → Type 0) → Refusal → Type 0
+TellsNotAsked U (NotAsked place) = U place
+TellsNotAsked U refusal = Unit {0}
