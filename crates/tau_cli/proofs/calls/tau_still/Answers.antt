@@ -12,7 +12,7 @@ returns g c = record {
   input = search rules;
   faulty = search rules;
   place = search rules;
-  unasked = search rules;
+  unasked = c.in-Err.ensures.unasked;
   unwritten = search rules;
   written = search rules;
   write_fault = search rules;
@@ -32,7 +32,26 @@ returns-in-Ok-write_all_of g c = record {
   input = search rules;
   faulty = search rules;
   place = search rules;
-  unasked = search rules;
+  unasked = λ place bytes w e n. absurd (c.in-Ok.ensures.unasked place bytes w e n);
+  unwritten = search rules;
+  written = search rules;
+  write_fault = search rules;
+  front = search rules;
+  no_memory = search rules;
+  complete = search rules;
+}
+
+pub returns-in-Err-WriteFault : goal.returns-in-Err-WriteFault
+returns-in-Err-WriteFault g c = record {
+  words = search rules;
+  unread = search rules;
+  refused = search rules;
+  read_fault = search rules;
+  untouched = search rules;
+  input = search rules;
+  faulty = search rules;
+  place = search rules;
+  unasked = λ place bytes w e n. absurd (c.in-Ok.ensures.unasked place bytes w e n);
   unwritten = search rules;
   written = search rules;
   write_fault = search rules;
