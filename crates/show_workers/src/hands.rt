@@ -32,8 +32,7 @@ pub fn add_hands(alloc: Global, text: &mut String, program: &Program) -> Result<
     writeln!(text, "the second hand asks: {}", name_of(&answer))
 }
 
-/// The name of an answer.
-pub fn name_of(answer: &Next<'_>) -> &'static str {
+fn name_of(answer: &Next<'_>) -> &'static str {
     match answer {
         Next::Work(_) => "Work",
         Next::Stepped => "Stepped",

@@ -1,8 +1,7 @@
 //! Two workers on one book, held by gates, so that one input gives two traces. Turn 0 is the turn whose Take stands at place 0. In case
 //! A its first `enter` is held until the other turn has left three times. In case B its first `enter` is held until the other turn has
 //! entered, and the first `enter` of that one until turn 0 has left three times. So it is done by a call of `run_workers`, and by the command
-//! `run`. What holds of each trace is written, one line for each fact. At the end stands what a book answers to two hands, what it answers to
-//! two seats, and which steps two hands at seats made that passed two gates in turn, as the book tells them that comes back.
+//! `run`. What holds of each trace is written, one line for each fact. At the end stands what a book answers to two hands.
 #![tactic(auto)]
 
 ghost use Rattle.std.specs.Prelude.{IfSome};
@@ -12,15 +11,11 @@ mod commands;
 mod facts;
 mod hands;
 mod holding;
-mod seats;
-mod sides;
 
 use crate::commands::add_command;
 use crate::facts::add_facts;
 use crate::hands::add_hands;
 use crate::holding::{Case, HoldingGate};
-use crate::seats::add_seats;
-use crate::sides::{Order, add_sides};
 use std::alloc::{AllocError, Global};
 use std::process::ExitCode;
 use std::sync::Wait;
@@ -70,13 +65,7 @@ fn text_of<R: Threads + Wait + Sync>(rt: &R, alloc: Global) -> Result<String, Al
     if let Some(single) = program_from(alloc, SINGLE.as_bytes()) {
         text.push_str("two hands on one book\n")?;
         add_hands(alloc, &mut text, &single)?;
-        text.push_str("two seats at one book\n")?;
-        add_seats(rt, alloc, &mut text, &single)?;
     }
-    text.push_str("two hands at seats, the first one first at the first gate\n")?;
-    add_sides(rt, alloc, &mut text, &program, Order::FirstThenSecond)?;
-    text.push_str("two hands at seats, the second one first at the first gate\n")?;
-    add_sides(rt, alloc, &mut text, &program, Order::SecondThenFirst)?;
     Ok(text)
 }
 
