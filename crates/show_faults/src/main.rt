@@ -1,6 +1,6 @@
-//! `tau run` where the sink fails in the middle of the text, where the source fails at once, and where it gives a byte more than
-//! an input may have: the status with its line, and what the sink then holds, on a line of its own. The last line is that of a
-//! want of memory.
+//! `tau run` where the sink fails in the middle of the text, where the source fails at once, and where it has a byte more than
+//! an input may have, also where the read of that byte fails: the status with its line, and what the sink then holds, on a line of its
+//! own. The last line is that of a want of memory.
 #![tactic(auto)]
 
 use std::alloc::{AllocError, Global};
@@ -34,6 +34,11 @@ fn text_of(alloc: Global) -> Result<Vec<u8>, AllocError> {
     add(alloc, &mut text, status, held.bytes())?;
     let blanks = vec![in alloc; b' '; 16_777_217]?;
     let status = run(alloc, &mut SteadySource::new(blanks), &mut held)?;
+    add(alloc, &mut text, status, held.bytes())?;
+    let blanks = vec![in alloc; b' '; 16_777_217]?;
+    // Reads 0 to 255 give 65,536 bytes each.
+    let mut source = MemorySource::new(blanks, 65_536, numbers(alloc, 256)?);
+    let status = run(alloc, &mut source, &mut held)?;
     add(alloc, &mut text, status, held.bytes())?;
     add(alloc, &mut text, Status::NoMemory, b"")?;
     Ok(text)

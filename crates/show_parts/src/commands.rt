@@ -55,5 +55,6 @@ fn add_command(text: &mut String, call: Call<'_>, command: Command) -> Result<()
         Command::Gen { number } => writeln!(text, "{line}: Gen, number {number}"),
         Command::Drill { number } => writeln!(text, "{line}: Drill, number {number}"),
         Command::Why { place } => writeln!(text, "{line}: Why, place {place}"),
+        Command::Cut => call.answer(text, "Cut"),
     }
 }

@@ -5,8 +5,8 @@ use crate::showing::{
     Shown, add_freedom, add_history_line, add_standing_or_state, add_verdict, add_view,
 };
 use std::alloc::{AllocError, Global};
+use tau_clean::MarkedHearing;
 use tau_fate::Verdict;
-use tau_hearing::Hearing;
 use tau_rules::System;
 use tau_view::View;
 use tau_views::Views;
@@ -15,7 +15,7 @@ use tau_views::Views;
 pub(crate) fn show_heard<V: Shown>(
     alloc: Global,
     text: &mut String,
-    system: &System<'_, Hearing>,
+    system: &System<'_, MarkedHearing>,
     verb: &str,
     number: u32,
 ) -> Result<(), AllocError> {
@@ -45,7 +45,7 @@ pub(crate) fn show_heard<V: Shown>(
 /// The verdict on a message in flight, by the views.
 fn verdict_on<V: Shown>(
     alloc: Global,
-    system: &System<'_, Hearing>,
+    system: &System<'_, MarkedHearing>,
     views: &Views<V>,
     message: u32,
 ) -> Result<Option<Verdict>, AllocError>

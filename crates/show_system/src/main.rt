@@ -1,8 +1,8 @@
 //! Calls of the system, one after another. Standard input has sections: a line `# WHAT NAME`, then a program, a line `(calls)`, and
 //! calls, one a line. For each section the line is written, and what the calls answer: a step that was made, or why none was, or what
-//! was asked for. With `full` and `pruned` the system keeps views of that type. With `hearing` it keeps numbers of versions, and full
-//! views are made anew for each question. With `both` it is run over views of each type, and each time a line tells whether a system
-//! that keeps numbers of versions answers the same, by views of this type.
+//! was asked for. With `full` the system keeps full views. With `hearing` it keeps numbers of versions, and full views are made anew for
+//! each question. With `both` it keeps full views, and a line tells whether a system that keeps numbers of versions answers the same;
+//! then that one answers by pruned views.
 #![tactic(auto)]
 
 ghost use Rattle.std.specs.Prelude.{IfSome};
@@ -20,9 +20,9 @@ use crate::showing::Shown;
 use crate::viewed::show_viewed;
 use std::alloc::{AllocError, Global};
 use std::process::ExitCode;
+use tau_clean::MarkedHearing;
 use tau_compact::PrunedView;
 use tau_forms::program_of;
-use tau_hearing::Hearing;
 use tau_io::{StdSink, StdSource, read_all, write_all_of};
 use tau_sexpr::read_forms;
 use tau_tree::Program;
@@ -115,24 +115,34 @@ fn add_section(
     let Some(program) = program_from(alloc, program) else {
         return text.push_str("(no program)\n");
     };
-    match line.split_whitespace().nth(1).unwrap_or("") {
+    let what = line.split_whitespace().nth(1).unwrap_or("");
+    add_answers(alloc, text, what, &program, calls)
+}
+
+/// Adds what the calls answer on runs of the program of these kinds.
+fn add_answers(
+    alloc: Global,
+    text: &mut String,
+    what: &str,
+    program: &Program,
+    calls: &[u8],
+) -> Result<(), AllocError>
+    requires { Sound program.now }
+{
+    match what {
         "full" => {
             text.push_str("; full\n")?;
-            add_viewed::<FullView>(alloc, text, &program, calls)
-        }
-        "pruned" => {
-            text.push_str("; pruned\n")?;
-            add_viewed::<PrunedView>(alloc, text, &program, calls)
+            add_viewed(alloc, text, program, calls)
         }
         "hearing" => {
             text.push_str("; hearing\n")?;
-            add_heard::<FullView>(alloc, text, &program, calls)
+            add_heard::<FullView>(alloc, text, program, calls)
         }
         _ => {
             text.push_str("; full\n")?;
-            add_both::<FullView>(alloc, text, &program, calls)?;
+            add_both(alloc, text, program, calls)?;
             text.push_str("; pruned\n")?;
-            add_both::<PrunedView>(alloc, text, &program, calls)
+            add_heard::<PrunedView>(alloc, text, program, calls)
         }
     }
 }
@@ -150,9 +160,9 @@ fn program_from(alloc: Global, bytes: &[u8]) -> Option<Program>
     }
 }
 
-/// Adds what the calls answer on a run of the program over views, and whether a system that keeps numbers of versions answers the
-/// same.
-fn add_both<V: Shown>(
+/// Adds what the calls answer on a run of the program over full views, and whether a system that keeps numbers of versions answers
+/// the same.
+fn add_both(
     alloc: Global,
     text: &mut String,
     program: &Program,
@@ -161,20 +171,25 @@ fn add_both<V: Shown>(
     requires { Sound program.now }
 {
     let mut viewed = String::new(alloc);
-    add_viewed::<V>(alloc, &mut viewed, program, calls)?;
-    text.push_str(&viewed)?;
+    add_viewed(alloc, &mut viewed, program, calls)?;
     let mut heard = String::new(alloc);
-    add_heard::<V>(alloc, &mut heard, program, calls)?;
-    if heard.as_bytes() == viewed.as_bytes() {
+    add_heard::<FullView>(alloc, &mut heard, program, calls)?;
+    add_compared(text, &viewed, &heard)
+}
+
+/// Adds what was answered over views, and what over numbers of versions, if that differs.
+fn add_compared(text: &mut String, viewed: &str, heard: &str) -> Result<(), AllocError> {
+    text.push_str(viewed)?;
+    if heard == viewed {
         text.push_str("; the same by numbers of versions\n")
     } else {
         text.push_str("; by numbers of versions\n")?;
-        text.push_str(&heard)
+        text.push_str(heard)
     }
 }
 
-/// Adds what the calls answer on a run of the program over views.
-fn add_viewed<V: Shown>(
+/// Adds what the calls answer on a run of the program over full views.
+fn add_viewed(
     alloc: Global,
     text: &mut String,
     program: &Program,
@@ -182,17 +197,22 @@ fn add_viewed<V: Shown>(
 ) -> Result<(), AllocError>
     requires { Sound program.now }
 {
-    let mut run: Run<Views<V>> = Run::open(alloc, program)?;
-    let mut rest = calls;
-    for _ in 0..calls.len() {
-        let Some((line, after)) = line_of(rest) else {
-            break;
-        };
-        let (verb, number, value) = words_of(str::from_utf8(line).unwrap_or(""));
+    let mut run: Run<Views<FullView>> = Run::open(alloc, program)?;
+    view_calls(alloc, text, &mut run, str::from_utf8(calls).unwrap_or(""))
+}
+
+/// Makes calls on a run over full views, and adds what they answer.
+fn view_calls(
+    alloc: Global,
+    text: &mut String,
+    run: &mut Run<'_, Views<FullView>>,
+    calls: &str,
+) -> Result<(), AllocError> {
+    for line in calls.lines() {
+        let (verb, number, value) = words_of(line);
         if !run.make(text, verb, number, value)? {
             show_viewed(alloc, text, &run.system, verb, number)?;
         }
-        rest = after;
     }
     Ok(())
 }
@@ -206,17 +226,22 @@ fn add_heard<V: Shown>(
 ) -> Result<(), AllocError>
     requires { Sound program.now }
 {
-    let mut run: Run<Hearing> = Run::open(alloc, program)?;
-    let mut rest = calls;
-    for _ in 0..calls.len() {
-        let Some((line, after)) = line_of(rest) else {
-            break;
-        };
-        let (verb, number, value) = words_of(str::from_utf8(line).unwrap_or(""));
+    let mut run: Run<MarkedHearing> = Run::open(alloc, program)?;
+    hear_calls::<V>(alloc, text, &mut run, str::from_utf8(calls).unwrap_or(""))
+}
+
+/// Makes calls on a run over numbers of versions, and adds what they answer.
+fn hear_calls<V: Shown>(
+    alloc: Global,
+    text: &mut String,
+    run: &mut Run<'_, MarkedHearing>,
+    calls: &str,
+) -> Result<(), AllocError> {
+    for line in calls.lines() {
+        let (verb, number, value) = words_of(line);
         if !run.make(text, verb, number, value)? {
             show_heard::<V>(alloc, text, &run.system, verb, number)?;
         }
-        rest = after;
     }
     Ok(())
 }

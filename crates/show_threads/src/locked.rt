@@ -7,7 +7,7 @@ use std::alloc::{AllocError, Global};
 use std::sync::Wait;
 use std::thread::Threads;
 use tau_book::{Book, Hand};
-use tau_hearing::Hearing;
+use tau_clean::MarkedHearing;
 use tau_tree::Program;
 use tau_workers::{LockedBook, OpenGate, Settings, Worker, run};
 
@@ -24,7 +24,7 @@ pub fn add_locked<R: Threads + Wait + Sync>(
     requires few { settings.jobs ≤ 16 }
     requires limit { settings.limit ≤ STEP_LIMIT }
 {
-    let book: Book<'_, Hearing> = Book::open(alloc, program, settings.limit)?;
+    let book: Book<'_, MarkedHearing> = Book::open(alloc, program, settings.limit)?;
     let locked = LockedBook::new(book);
     work(rt, alloc, &locked, settings)?;
     let is_complete = locked.into_book().finished() == Some(true);
@@ -39,7 +39,7 @@ pub fn add_locked<R: Threads + Wait + Sync>(
 fn work<'p, R: Threads + Wait + Sync>(
     rt: &R,
     alloc: Global,
-    locked: &LockedBook<'p, Hearing>,
+    locked: &LockedBook<'p, MarkedHearing>,
     settings: Settings,
 ) -> Result<(), AllocError>
     requires jobs { 1 ≤ settings.jobs }
@@ -53,9 +53,9 @@ fn work<'p, R: Threads + Wait + Sync>(
 /// The workers before their first step.
 fn make_workers<'b, 'p>(
     alloc: Global,
-    locked: &'b LockedBook<'p, Hearing>,
+    locked: &'b LockedBook<'p, MarkedHearing>,
     settings: Settings,
-) -> Result<Vec<Worker<'p, &'b LockedBook<'p, Hearing>>>, AllocError>
+) -> Result<Vec<Worker<'p, &'b LockedBook<'p, MarkedHearing>>>, AllocError>
     requires jobs { 1 ≤ settings.jobs }
     requires few { settings.jobs ≤ 16 }
 {

@@ -6,7 +6,7 @@ ghost use Rattle.tau_seat.specs.Seated.{Stays};
 use std::alloc::{AllocError, Global};
 use std::sync::Wait;
 use tau_book::{Book, Hand};
-use tau_hearing::Hearing;
+use tau_clean::MarkedHearing;
 use tau_seat::{BookSeat, SeatBook};
 use tau_tree::Program;
 
@@ -21,7 +21,7 @@ pub fn add_turns<R: Wait>(
 ) -> Result<(), AllocError>
     requires { Sound program.now }
 {
-    let book: Book<'_, Hearing> = Book::open(alloc, program, 1_000)?;
+    let book: Book<'_, MarkedHearing> = Book::open(alloc, program, 1_000)?;
     let Ok((table, mut seat)) = SeatBook::new(alloc, book, 1) else {
         return Err(AllocError);
     };
@@ -34,8 +34,8 @@ pub fn add_turns<R: Wait>(
 /// So many turns of a seat.
 fn take_turns<'p, R: Wait>(
     rt: &R,
-    table: &SeatBook<'p, Hearing>,
-    seat: &mut BookSeat<'p, Hearing>,
+    table: &SeatBook<'p, MarkedHearing>,
+    seat: &mut BookSeat<'p, MarkedHearing>,
     hand: &mut Hand<'p>,
     turns: u32,
 )

@@ -3,7 +3,7 @@ ghost use Rattle.tau_tree.specs.Sound.{Sound};
 
 use std::alloc::{AllocError, Global};
 use tau_book::{Book, Hand, Next};
-use tau_hearing::Hearing;
+use tau_clean::MarkedHearing;
 use tau_tree::Program;
 
 /// Adds what a book answers to two hands, where the program has one post: the first hand takes it, and the second one is idle until the
@@ -11,7 +11,7 @@ use tau_tree::Program;
 pub fn add_hands(alloc: Global, text: &mut String, program: &Program) -> Result<(), AllocError>
     requires { Sound program.now }
 {
-    let mut book: Book<'_, Hearing> = Book::open(alloc, program, 1_000)?;
+    let mut book: Book<'_, MarkedHearing> = Book::open(alloc, program, 1_000)?;
     let mut first = Hand::new(alloc, 0, 1)?;
     let mut second = Hand::new(alloc, 1, 1)?;
     let answer = book.next(&mut first)?;

@@ -10,8 +10,8 @@ ghost use Rattle.tau_book.specs.Inner.Working.{IsAtWork, HasChosen, Works, Works
 
 use crate::{Book, Hand, Next, Ran, Told};
 use std::alloc::{AllocError, Global};
+use tau_clean::MarkedHearing;
 use tau_eval::Job;
-use tau_hearing::Hearing;
 use tau_tree::Program;
 
 /// The serial run of a program (docs/definitions.md, "Serial run") by one worker with room for 1 to 16 jobs, whose words are those of
@@ -30,7 +30,7 @@ pub fn run_serially(
     ensures serial { IfOk result (λ r. IsSerialRun program.now jobs seed limit r.trace.run) }
     ensures ends { IfOk result (λ r. EndsAt limit program.now r.trace.run r.is_complete) }
 {
-    let mut book: Book<'_, Hearing> = Book::open(alloc, program, limit)?;
+    let mut book: Book<'_, MarkedHearing> = Book::open(alloc, program, limit)?;
     let mut hand = Hand::new(alloc, seed, jobs)?;
     work(&mut book, &mut hand, limit)?;
     let is_complete = book.finished().unwrap_or(false);
@@ -41,7 +41,11 @@ pub fn run_serially(
 }
 
 /// Makes steps until the run is complete or has as many steps as the limit.
-fn work<'p>(book: &mut Book<'p, Hearing>, hand: &mut Hand<'p>, limit: u32) -> Result<(), AllocError>
+fn work<'p>(
+    book: &mut Book<'p, MarkedHearing>,
+    hand: &mut Hand<'p>,
+    limit: u32,
+) -> Result<(), AllocError>
     requires works { Works book.old hand.old }
     requires limit { limit ≡ book.old.limit }
     requires none { len book.old.system.run ≡ 0 }
@@ -58,7 +62,7 @@ fn work<'p>(book: &mut Book<'p, Hearing>, hand: &mut Hand<'p>, limit: u32) -> Re
 }
 
 /// Makes the next step. `false` where there is none to make, since the run is complete or has as many steps as the limit.
-fn step<'p>(book: &mut Book<'p, Hearing>, hand: &mut Hand<'p>) -> Result<bool, AllocError>
+fn step<'p>(book: &mut Book<'p, MarkedHearing>, hand: &mut Hand<'p>) -> Result<bool, AllocError>
     requires { Works book.old hand.old }
     ensures works { IfOk result (λ _. (seed : ℕ) → IsAtWork seed book.old hand.old → IsAtWork seed book.new hand.new) }
     ensures same { IfOk result (λ _. IsSameWork book.old book.new hand.old hand.new) }
@@ -78,7 +82,7 @@ fn step<'p>(book: &mut Book<'p, Hearing>, hand: &mut Hand<'p>) -> Result<bool, A
 
 /// Evaluates a job up to its next effect, and makes the step of that.
 fn evaluate<'p>(
-    book: &mut Book<'p, Hearing>,
+    book: &mut Book<'p, MarkedHearing>,
     hand: &mut Hand<'p>,
     job: Job<'p>,
 ) -> Result<(), AllocError>

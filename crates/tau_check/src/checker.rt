@@ -21,8 +21,8 @@ use crate::making::{make_due, make_step};
 use crate::reading::{has_made, length, open_turn};
 use crate::same::same_step;
 use std::alloc::{AllocError, Global};
+use tau_clean::MarkedHearing;
 use tau_eval::{Job, Pending};
-use tau_hearing::Hearing;
 use tau_rules::{DeliverError, System};
 use tau_script::{Cursor, passed};
 use tau_trace::Step;
@@ -32,7 +32,7 @@ use tau_tree::Program;
 /// of its transactor.
 #[derive(Drop)]
 pub(crate) struct Checker<'p> {
-    system: System<'p, Hearing>,
+    system: System<'p, MarkedHearing>,
     cursor: Cursor,
     jobs: Vec<Option<Job<'p>>>,
 }

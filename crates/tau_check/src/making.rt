@@ -12,14 +12,17 @@ ghost use Rattle.tau_rules.specs.Answers.{IsOpenJob};
 ghost use Rattle.tau_check.specs.Inner.Jobs.{IsTurnStep};
 
 use std::alloc::AllocError;
+use tau_clean::MarkedHearing;
 use tau_eval::Pending;
-use tau_hearing::Hearing;
 use tau_rules::{ActError, Acted, FailError, LoseError, System};
 use tau_trace::Step;
 use tau_value::Value;
 
 /// Makes a due step.
-pub(crate) fn make_due<'p>(system: &mut System<'p, Hearing>, due: &Step) -> Result<(), AllocError>
+pub(crate) fn make_due<'p>(
+    system: &mut System<'p, MarkedHearing>,
+    due: &Step,
+) -> Result<(), AllocError>
     requires few { len system.old.run < STEP_LIMIT }
     requires object { HasObject system.old.run (len system.old.run) due.now }
     ensures { OnOk result (system.new ≡ with_step system.old due.now) }
@@ -32,7 +35,7 @@ pub(crate) fn make_due<'p>(system: &mut System<'p, Hearing>, due: &Step) -> Resu
 }
 
 /// Lets a transactor that hasn't ended fail.
-fn make_fail<'p>(system: &mut System<'p, Hearing>, who: u32) -> Result<(), AllocError>
+fn make_fail<'p>(system: &mut System<'p, MarkedHearing>, who: u32) -> Result<(), AllocError>
     requires few { len system.old.run < STEP_LIMIT }
     requires exists { who < born system.old.run (len system.old.run) }
     requires living { IsLiving system.old.run who (len system.old.run) }
@@ -46,7 +49,7 @@ fn make_fail<'p>(system: &mut System<'p, Hearing>, who: u32) -> Result<(), Alloc
 }
 
 /// Loses a message in flight.
-fn make_lose<'p>(system: &mut System<'p, Hearing>, message: u32) -> Result<(), AllocError>
+fn make_lose<'p>(system: &mut System<'p, MarkedHearing>, message: u32) -> Result<(), AllocError>
     requires few { len system.old.run < STEP_LIMIT }
     requires in_flight { InFlight system.old.run message (len system.old.run) }
     ensures { OnOk result (system.new ≡ with_step system.old (steps.Lose message)) }
@@ -60,7 +63,7 @@ fn make_lose<'p>(system: &mut System<'p, Hearing>, message: u32) -> Result<(), A
 
 /// Makes the step of an open turn, and gives the reply where the turn goes on.
 pub(crate) fn make_step<'p>(
-    system: &mut System<'p, Hearing>,
+    system: &mut System<'p, MarkedHearing>,
     pending: &Pending<'p>,
 ) -> Result<Option<Value>, AllocError>
     requires few { len system.old.run < STEP_LIMIT }

@@ -22,7 +22,7 @@ use tau_output::{INPUT_LIMIT, Output, output_of, reads_input};
 /// where the whole text was written: with `run` the run text of the input's program and a legal run, which is complete
 /// with `Done`, and has exactly as many steps as its limit and isn't complete with `Stopped`; with `check` the line for the
 /// first step that isn't legal with `Bad`, and with `audit` the line for the first checkpoint that isn't safe with `Broken`; with
-/// `why` the first of the shortest chains to a cause.
+/// `why` the first of the shortest chains to a cause, and with `cut` the greatest set of checkpoints that could all be kept.
 /// `WriteFault` comes only where the sink's count rose; the sink then holds a front of such a text more than before.
 /// `NoMemory` may come in place of each; nothing or a front of the text is written then. `gen` and `drill` read nothing,
 /// and `drill` ends with `Done` or `Stopped` as the run does that it tells of.

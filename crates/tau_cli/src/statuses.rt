@@ -146,7 +146,7 @@ impl fmt::Display for Status {
             Status::Done => Ok(()),
             Status::Stopped => f.write_str("tau: stopped at the step limit"),
             Status::Words => f.write_str(
-                "tau: usage: tau run|check|audit|report|print|gen N|drill N|why N",
+                "tau: usage: tau run|check|audit|report|print|gen N|drill N|why N|cut",
             ),
             Status::Input { fault, at } => write!(f, "tau: input fault {fault} at {at}"),
             Status::Bad { .. } => f.write_str("tau: a step is not legal"),

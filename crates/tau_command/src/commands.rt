@@ -49,6 +49,8 @@ pub enum Command {
         /// The place of the step.
         place: u64,
     },
+    /// Tells the greatest set of checkpoints of a run text that could all be kept.
+    Cut,
 }
 
 /// Why words name no command (docs/formats.md, "Error types").

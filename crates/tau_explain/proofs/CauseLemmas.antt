@@ -1,5 +1,5 @@
 -- Points that are collected place by place.
-use Rattle.std.proofs.Common.{◌≡◌, ◌⊎◌, ◌↔◌, inl, inr, ⊎_elim, ℕ, suc, ◌+◌, ◌<◌, ◌≤◌, Bool, true, false, IsTrue, get_or, ◌∷◌, ◌++◌, List, [], length, Option, Some, None, refl, sym, ap, ◌∙◌, subst, arith}
+use Rattle.std.proofs.Common.{◌≡◌, ◌⊎◌, ◌↔◌, inl, inr, ⊎_elim, ℕ, ◌+◌, ◌<◌, ◌≤◌, Bool, true, false, IsTrue, get_or, ◌∷◌, ◌++◌, List, [], length, Some, refl, sym, ap, ◌∙◌, subst, arith}
 use Rattle.std.specs.Prelude.{Contains}
 use Rattle.std.proofs.lemmas.Bool.{cases_lt}
 use Rattle.std.proofs.lemmas.Option.{slice_get_within, slice_get-get_or}
@@ -7,7 +7,7 @@ use Rattle.std.proofs.lemmas.List.Elements.{Contains-append_left, Contains-push,
 use Rattle.tau_points.specs.declared.point.Point.{Point}
 use Rattle.tau_points.specs.Members.{AddsAll, SameMembers}
 use Rattle.tau_points.proofs.Membership.{Contains-none}
-use Rattle.tau_trace.specs.Run.{Run, len, ActsAt}
+use Rattle.tau_trace.specs.Run.{Run, ActsAt}
 use Rattle.tau_trace.specs.Histories.{Falls}
 use Rattle.tau_trace.specs.Points.{point_at, Stabilizes}
 use Rattle.tau_trace.specs.declared.step.Step.TheVariants.{Stabilize}
@@ -20,7 +20,6 @@ use Rattle.tau_past.proofs.Endings.{falls_within}
 use Rattle.tau_past.specs.declared.made.Made.{Made}
 use Rattle.tau_past.specs.Pasts.{FellIn, StabilizedIn}
 use Rattle.tau_past.specs.Tables.{TellsMade}
-use Rattle.tau_links.proofs.PushLemmas.{acts_within}
 use Rattle.tau_explain.specs.Inner.Hearing.{IsMarked}
 use Rattle.tau_explain.specs.Inner.Causes.{IsMadePoint, FellAt, StabilizedAt, IsCandidate, IsUnfirm, IsSettled, AddsUnfirm}
 

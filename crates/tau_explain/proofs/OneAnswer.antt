@@ -1,5 +1,5 @@
 -- A decision has one answer.
-use Rattle.std.proofs.Common.{◌≡◌, ◌⊎◌, inl, inr, ⊎_elim, ℕ, suc, ◌<◌, ◌≤◌, List, [], ◌∷◌, length, Option, Some, None, refl, sym, ap, ◌∙◌, subst, arith}
+use Rattle.std.proofs.Common.{◌≡◌, ⊎_elim, ℕ, List, [], ◌∷◌, length, Some, refl, sym, ap, ◌∙◌, subst, arith}
 use Rattle.std.specs.declared.cmp.Ordering.TheVariants.{Less}
 use Rattle.std.specs.Ordering.{ordering_reverse}
 use Rattle.tau_points.specs.declared.point.Point.{Point}
@@ -8,9 +8,9 @@ use Rattle.tau_points.proofs.PointOrder.{point_cmp-total}
 use Rattle.tau_chains.specs.declared.chained.Chained.{Chained}
 use Rattle.tau_chains.specs.Chains.{ComesUpTo, IsFirstShortest}
 use Rattle.tau_trace.specs.declared.step.Step.{Step}
-use Rattle.tau_trace.specs.Run.{Run, step_at}
+use Rattle.tau_trace.specs.Run.{Run}
 use Rattle.tau_trace.proofs.Lists.{same_some}
-use Rattle.tau_links.specs.Links.{Makes, IsLeastMaker, HaveMakers, IsTold, IsFirstTold, points_of}
+use Rattle.tau_links.specs.Links.{IsLeastMaker, HaveMakers, IsTold, IsFirstTold, points_of}
 use Rattle.tau_explain.specs.declared.answers.Why.{Why}
 use Rattle.tau_explain.specs.declared.answers.Why.TheVariants as answers
 use Rattle.tau_explain.specs.Decisions.{HeardAt, Source, Cause, IsAsked, IsWhy}
@@ -33,7 +33,7 @@ up_to_both (x ∷ xs) (y ∷ ys) e a b = ⊎_elim
     a
 
 -- two first ones of the shortest chains are one
-first_same : (L : Point → Point → Type 0) (S C : Point → Type 0) (xs ys : List Point) → IsFirstShortest L S C xs → IsFirstShortest L S C ys → xs ≡ ys
+pub first_same : (L : Point → Point → Type 0) (S C : Point → Type 0) (xs ys : List Point) → IsFirstShortest L S C xs → IsFirstShortest L S C ys → xs ≡ ys
 first_same L S C xs ys a b =
     let up = a.shortest ys b.chain in
     let down = b.shortest xs a.chain in
@@ -66,7 +66,7 @@ makers_same T H p (c ∷ cs) (d ∷ ds) a b e =
     let rest : cs ≡ ds = makers_same T H d.point cs ds (subst (λ q. HaveMakers T H q cs) point a.1) b.1 (ap tail_of e) in
     λ i. one i ∷ rest i
 
-told_same : (T : Run) (H : ℕ → Type 0) (cs ds : List Chained) → IsTold T H cs → IsTold T H ds → points_of cs ≡ points_of ds → cs ≡ ds
+pub told_same : (T : Run) (H : ℕ → Type 0) (cs ds : List Chained) → IsTold T H cs → IsTold T H ds → points_of cs ≡ points_of ds → cs ≡ ds
 told_same T H [] ds a b e = absurd a
 told_same T H (c ∷ cs) [] a b e = absurd b
 told_same T H (c ∷ cs) (d ∷ ds) a b e =

@@ -1,5 +1,5 @@
 -- Why a Hold, a Drop or a Fall was made.
-use Rattle.std.proofs.Common.{◌≡◌, ◌≢◌, ◌⊎◌, ◌↔◌, inl, inr, ⊎_elim, ℕ, Bool, List, [], ◌∷◌, Option, Some, None, refl, sym, ap, ◌∙◌, subst, arith, option_and_then}
+use Rattle.std.proofs.Common.{◌≡◌, ◌≢◌, ◌⊎◌, ◌↔◌, inl, inr, ⊎_elim, ℕ, Bool, List, [], ◌∷◌, Option, Some, None, refl, sym, ap, ◌∙◌, subst, option_and_then}
 use Rattle.std.specs.Prelude.{Contains}
 use Rattle.tau_points.specs.declared.point.Point.{Point}
 use Rattle.tau_points.specs.Members.{SameMembers}
@@ -7,17 +7,14 @@ use Rattle.tau_points.proofs.Membership.{Contains-none, Contains-head, Contains-
 use Rattle.tau_explain.specs.Inner.Hearing.{NeededAt}
 use Rattle.tau_explain.proofs.HearingLemmas.{heard_is_needed}
 use Rattle.tau_chains.specs.declared.chained.Chained.{Chained}
-use Rattle.tau_trace.specs.declared.step.Step.{Step}
 use Rattle.tau_trace.specs.declared.step.Step.TheVariants.{Hold, Drop, Fall}
 use Rattle.tau_trace.specs.Steps.{actor}
-use Rattle.tau_trace.specs.Run.{Run, len, step_at, ActsAt}
+use Rattle.tau_trace.specs.Run.{Run, step_at, ActsAt}
 use Rattle.tau_trace.specs.Points.{point_at, IsOpeningPoint}
-use Rattle.tau_trace.proofs.Quiet.{acts}
 use Rattle.tau_trace.proofs.Lists.{same_some}
 use Rattle.tau_past.specs.Carried.{SentWith}
 use Rattle.tau_past.specs.Heard.{Heard, HeardBy, HeardTogether, IsCausallyClosed}
 use Rattle.tau_past.specs.Pasts.{Is, FellIn, StabilizedIn, FirmIn}
-use Rattle.tau_past.specs.Decisions.{FallsBy, DropsBy, Free}
 use Rattle.tau_past.proofs.HeardLemmas.{heard_sets_closed, sent_touched}
 use Rattle.tau_past.proofs.Safety.{nothing_at_opening}
 use Rattle.tau_links.specs.Inner.Marks.{IsMarked}
@@ -25,7 +22,7 @@ use Rattle.tau_links.specs.Inner.Dependents.{CameTo}
 use Rattle.tau_links.specs.Inner.Linking.{IsFirstChain}
 use Rattle.tau_explain.specs.declared.answers.Why.{Why}
 use Rattle.tau_explain.specs.declared.answers.Why.TheVariants as answers
-use Rattle.tau_explain.specs.Decisions.{is_decision, HeardAt, IsGroundless, IsAsked, IsGrounded, IsWhy}
+use Rattle.tau_explain.specs.Decisions.{IsAsked, IsGrounded, IsWhy}
 use Rattle.tau_explain.specs.Inner.Asking.{answer_of}
 use Rattle.tau_explain.specs.Inner.Causes.{IsMadePoint, IsCandidate, IsUnfirm, IsSettled}
 use Rattle.tau_links.proofs.ChainLemmas.{StoodIn, stood_came, stood_touched, first_told, none_told, no_cause, past_cases}

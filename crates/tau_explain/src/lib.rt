@@ -10,4 +10,4 @@ mod texts;
 pub use answers::Why;
 pub use asking::why;
 pub use hearing::heard_at;
-pub use texts::why_text;
+pub use texts::{form_of_chained, why_text};

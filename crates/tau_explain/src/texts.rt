@@ -4,7 +4,7 @@ ghost use Rattle.tau_sexpr.specs.Bytes.{IsWordByte};
 ghost use Rattle.tau_sexpr.specs.Form.{tree_of};
 ghost use Rattle.tau_sexpr.specs.Printing.{printed};
 ghost use Rattle.tau_sexpr.specs.Tree as tree;
-ghost use Rattle.tau_sexpr.specs.Tree.{depths, HasWords};
+ghost use Rattle.tau_sexpr.specs.Tree.{depth_of, depths, HasWords};
 ghost use Rattle.tau_value.specs.Names.{AreNames};
 ghost use Rattle.tau_value.specs.Written.{count_form};
 ghost use Rattle.tau_steps.specs.StepForms.{who_form};
@@ -64,6 +64,22 @@ fn chain_forms(alloc: Global, opening: &Opening, chain: &Chain) -> Result<Forms,
         forms.add(form_of_point(alloc, opening, *chained)?)?;
     }
     Ok(forms)
+}
+
+/// The form of a point of a chain (docs/formats.md, "Chains"): its transactor by name or number, its interval, its incarnation, and
+/// the place of a step that makes the link to it. The error is want of memory.
+pub fn form_of_chained(
+    alloc: Global,
+    opening: &Opening,
+    chained: Chained,
+) -> Result<Form, AllocError>
+    requires { AreNames opening.now.names }
+    ensures form { IfOk result (λ f. tree_of f ≡ point_form opening.now chained) }
+    ensures depth { IfOk result (λ f. depth_of (tree_of f) ≤ 1) }
+    ensures words { IfOk result (λ f. HasWords (tree_of f)) }
+{
+    let form = form_of_point(alloc, opening, chained)?;
+    Ok(form)
 }
 
 /// The form of a point of a chain.

@@ -9,7 +9,6 @@ pub mod Leading
 pub mod LeavingOut
 pub mod Moves
 pub mod Places
-pub mod Ranges
 pub mod Rooms
 pub mod Sending
 pub mod Setting

@@ -34,7 +34,8 @@ use Rattle.tau_hearing.specs.Changed.{TellsOn}
 use Rattle.tau_hearing.specs.Laws.{WithoutClosed}
 use Rattle.tau_search.specs.Logs.{TellsLog}
 use Rattle.tau_hearing.specs.Logs.{KeepsLatest}
-use Rattle.tau_hearing.specs.Next.{IsNext, actor_change, turn_change, IsLast, AreFresh, IsAdding}
+use Rattle.tau_hearing.specs.Next.{IsNext, actor_change, turn_change, IsLast}
+use Rattle.tau_taking.specs.Adding.{AreFresh, IsAdding}
 use Rattle.tau_hearing.specs.Turns.{with_own, TellsTurn}
 use Rattle.tau_hearing.proofs.Bounds.{last_tells}
 use Rattle.tau_hearing.proofs.LeavingOut.{taken_then_without}

@@ -1,15 +1,12 @@
 pub mod After
 pub mod Bounds
 pub mod Changed
-pub mod Closing
 pub mod Facts
 pub mod Falls
 pub mod Hears
 pub mod Kept
 pub mod Laws
-pub mod Listed
 pub mod Logs
-pub mod Marks
 pub mod Moves
 pub mod Next
 pub mod Opened

@@ -1,5 +1,5 @@
 -- A step that follows a run, and the changes by its kind.
-use Rattle.std.specs.Prelude.{◌≡◌, ◌≢◌, ◌⊎◌, ℕ, suc, ◌+◌, ◌-◌, ◌<◌, ◌≤◌, Bool, true, false, IsTrue, List, [], ◌∷◌, ◌++◌, length, Option, Some, None, slice_get, vec_len, Contains}
+use Rattle.std.specs.Prelude.{◌≡◌, ◌≢◌, ◌⊎◌, ℕ, suc, ◌+◌, ◌-◌, ◌<◌, ◌≤◌, Bool, true, false, IsTrue, List, [], ◌∷◌, length, Option, Some, None, slice_get, vec_len}
 use Rattle.std.specs.Vec.{vec_capacity}
 use Rattle.tau_history.specs.Timeline.{Timeline, Move, close, fall, moved}
 use Rattle.tau_points.specs.declared.point.Point.{Point}
@@ -15,7 +15,6 @@ use Rattle.tau_logs.specs.declared.version.Version.{Version}
 use Rattle.tau_logs.specs.Versions.{IsVersionOf}
 use Rattle.tau_logs.specs.Told.{Told, TellsHistories}
 use Rattle.tau_logs.specs.Reading.{takes_told}
-use Rattle.tau_logs.specs.Takes.{taken}
 use Rattle.tau_hearing.specs.declared.own.Own.{Own}
 use Rattle.tau_hearing.specs.declared.hearing.Hearing.{Hearing}
 use Rattle.tau_hearing.specs.declared.change.ActorChange.{ActorChange}
@@ -24,7 +23,6 @@ use Rattle.tau_hearing.specs.declared.change.TurnChange.{TurnChange}
 use Rattle.tau_hearing.specs.declared.change.TurnChange.TheVariants as turn
 use Rattle.tau_hearing.specs.declared.change.HearingChange.{HearingChange}
 use Rattle.tau_hearing.specs.Changed.{HasRoomToHear}
-use Rattle.tau_hearing.specs.Closing.{IsKept}
 use Rattle.tau_hearing.specs.Hears.{Knows}
 
 -- the log has room for what a step may add to it: a version, a closed interval and, by a Set, the roots of the turn and what the
@@ -101,19 +99,3 @@ pub record IsFirstLog (l : Told) (points : List Point) : Type 0 where
   pub versions : l.versions ≡ record { interval = 0; incarnation = 0; stable = false; first = 0; last = length points; from = 0 } ∷ []
   pub takes : l.takes ≡ points
   pub tells : (T : Run) (u k : ℕ) → starts T ≤ u → ((j : ℕ) → j < k → ¬ ActsAt T u j) → TellsHistories T u k l
-
--- of the roots, the points that are neither the own one nor taken before
-pub record AreFresh (roots : List Point) (me : Point) (taken fresh : List Point) : Type 0 where
-  pub among : (q : Point) → Contains fresh q → Contains roots q × (q ≢ me)
-  pub all : (q : Point) → Contains roots q → q ≢ me → Contains taken q ⊎ Contains fresh q
-  pub few : length fresh ≤ length roots
-
--- with the points at the end of the log's takes, the second version's point has taken what the first one's keeps, and the fresh ones
-pub record IsAdding (unclosed : Point → Bool) (l : Told) (old : Version) (fresh points : List Point) (new : Version) : Type 0 where
-  pub kept : List Point
-  pub is_kept : IsKept unclosed (taken l.takes old) kept
-  pub taken_is : taken (l.takes ++ points) new ≡ kept ++ fresh
-  pub ordered : new.first ≤ new.last
-  pub within : new.last ≤ length (l.takes ++ points)
-  pub few : length points ≤ length (taken l.takes old) + length fresh
-  pub tells : (g : Timeline) → IsVersionOf old g → IsVersionOf new g

@@ -11,10 +11,10 @@ ghost use Rattle.tau_hearing.specs.Turns.{IsAlong};
 
 use crate::hearing::Hearing;
 use crate::own::Own;
-use crate::roots::Roots;
 use std::alloc::{AllocError, Global};
 use tau_numbers::Numbers;
 use tau_points::Point;
+use tau_taking::Roots;
 use tau_trace::{Step, Trace};
 
 impl Hearing {

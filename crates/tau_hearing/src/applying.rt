@@ -12,9 +12,9 @@ use crate::change::{ActorChange, HearingChange, LogChange, Newborn, TurnChange};
 use crate::hearing::Hearing;
 use crate::letter::{Letter, Sender};
 use crate::own::Own;
-use crate::roots::Roots;
 use tau_logs::Log;
 use tau_numbers::Numbers;
+use tau_taking::Roots;
 
 /// Makes numbers those of what was heard together with what the sender of a message had heard. It takes no memory.
 pub(crate) fn raise_by(numbers: &mut Numbers, sender: &Sender)

@@ -4,9 +4,9 @@ ghost use Rattle.tau_hearing.specs.Next.{actor_change, turn_change};
 
 use crate::letter::Letter;
 use crate::own::Own;
-use crate::roots::Roots;
 use tau_logs::{Log, Version};
 use tau_points::Point;
+use tau_taking::Roots;
 
 /// What a step changes, with all memory that it takes.
 #[derive(Drop)]

@@ -10,11 +10,11 @@ ghost use Rattle.tau_hearing.specs.Hears.{Knows};
 
 use crate::heard::heard_by;
 use crate::hearing::Hearing;
-use crate::roots::Roots;
 use std::alloc::{AllocError, Global};
 use tau_knowledge::Receipt;
 use tau_logs::Log;
 use tau_search::{HeardVersions, Search, Together, finds_not_firm};
+use tau_taking::Roots;
 use tau_trace::Trace;
 
 impl Hearing {

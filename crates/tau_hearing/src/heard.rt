@@ -76,7 +76,7 @@ impl Hearing {
     }
 
     /// What is kept of a transactor that exists.
-    fn kept_of(&self, _trace: &Trace, who: u32) -> &Own
+    pub fn kept_of(&self, _trace: &Trace, who: u32) -> &Own
         requires knows { Knows self.now _trace.now.run }
         requires exists { who < born _trace.now.run (len _trace.now.run) }
         ensures { slice_get self.now.own.items who ≡ Some result.now }
@@ -88,7 +88,7 @@ impl Hearing {
     }
 
     /// What is kept of a message in flight.
-    pub(crate) fn letter_of(&self, _trace: &Trace, message: u32) -> &Letter
+    pub fn letter_of(&self, _trace: &Trace, message: u32) -> &Letter
         requires knows { Knows self.now _trace.now.run }
         requires in_flight { InFlight _trace.now.run message (len _trace.now.run) }
         ensures { slice_get self.now.letters.items message ≡ Some (Some result.now) }
@@ -100,7 +100,7 @@ impl Hearing {
     }
 
     /// The point of a transactor that exists.
-    pub(crate) fn point_of(&self, _trace: &Trace, who: u32) -> Point
+    pub fn point_of(&self, _trace: &Trace, who: u32) -> Point
         requires knows { Knows self.now _trace.now.run }
         requires exists { who < born _trace.now.run (len _trace.now.run) }
         ensures { result ≡ point_at _trace.now.run who (len _trace.now.run) }

@@ -11,8 +11,8 @@ ghost use Rattle.tau_hearing.specs.Next.{IsNext, only_touches, only_ends, falls_
 
 use crate::change::{ActorChange, HearingChange, LogChange, TurnChange};
 use crate::hearing::Hearing;
-use crate::roots::Roots;
 use std::alloc::AllocError;
+use tau_taking::Roots;
 use tau_trace::{Step, Trace};
 
 impl Hearing {

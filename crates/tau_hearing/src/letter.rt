@@ -1,8 +1,8 @@
 //! What is kept of a message in flight.
 ghost use Rattle.std.specs.Prelude.{◌≡◌, [], None};
 
-use crate::roots::Roots;
 use std::sync::Arc;
+use tau_taking::Roots;
 
 /// What a message has heard, and what it carries.
 #[derive(Drop)]

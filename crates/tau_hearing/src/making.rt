@@ -7,16 +7,15 @@ ghost use Rattle.tau_hearing.specs.declared.own.Own.{Own};
 ghost use Rattle.tau_hearing.specs.After.{Leads};
 ghost use Rattle.tau_hearing.specs.Next.{IsNext};
 
-use crate::adding::{adding, fresh, is_none};
 use crate::along::inherited;
 use crate::change::{ActorChange, HearingChange, LogChange, Newborn, TurnChange};
 use crate::hearing::Hearing;
 use crate::letter::{Letter, Sender};
 use crate::own::Own;
-use crate::roots::Roots;
 use std::alloc::AllocError;
 use std::sync::Arc;
 use tau_logs::Log;
+use tau_taking::{Roots, adding, fresh, is_none};
 use tau_trace::{Step, Trace};
 
 impl Hearing {

@@ -9,10 +9,10 @@ ghost use Rattle.tau_hearing.specs.Hears.{Knows};
 use crate::hearing::Hearing;
 use crate::letter::Letter;
 use crate::own::Own;
-use crate::roots::Roots;
 use std::alloc::{AllocError, Global};
 use tau_logs::Log;
 use tau_numbers::Numbers;
+use tau_taking::Roots;
 
 impl Hearing {
     /// What is kept before the first step, of so many starts and posts. The error is want of memory.

@@ -1,9 +1,9 @@
 //! What is kept of a transactor.
 ghost use Rattle.std.specs.Prelude.{◌≡◌, [], false};
 
-use crate::roots::Roots;
 use std::alloc::Global;
 use tau_numbers::Numbers;
+use tau_taking::Roots;
 
 /// What a transactor has heard, and what its open turn takes along.
 #[derive(Drop)]

@@ -1,7 +1,6 @@
 -- Chains over what a decision has heard, and chains by marked steps.
-use Rattle.std.proofs.Common.{◌≡◌, ◌⊎◌, ◌↔◌, inl, inr, ⊎_elim, ℕ, suc, ◌<◌, ◌≤◌, Bool, List, [], ◌∷◌, Option, Some, None, refl, sym, ap, ◌∙◌, subst, arith}
+use Rattle.std.proofs.Common.{◌≡◌, ◌⊎◌, ◌↔◌, inl, inr, ⊎_elim, ℕ, suc, ◌<◌, Bool, List, [], ◌∷◌, refl, sym, ap, ◌∙◌, subst, arith}
 use Rattle.std.specs.Prelude.{Contains}
-use Rattle.std.proofs.lemmas.Option.{slice_get_within}
 use Rattle.tau_points.specs.declared.point.Point.{Point}
 use Rattle.tau_points.specs.Reach.{Reach, start, next, LeadsAlong}
 use Rattle.tau_points.proofs.Reach.{path_of}
@@ -9,13 +8,11 @@ use Rattle.tau_chains.specs.declared.chained.Chained.{Chained}
 use Rattle.tau_chains.specs.Chains.{IsChain, HasNoChain}
 use Rattle.tau_trace.specs.declared.step.Step.TheVariants.{Checkpoint}
 use Rattle.tau_trace.specs.Run.{Run, len, ActsAt}
-use Rattle.tau_trace.specs.Histories.{Closes}
 use Rattle.tau_trace.specs.Points.{point_at, IsOpeningPoint}
 use Rattle.tau_trace.proofs.Quiet.{acts}
 use Rattle.tau_past.specs.Heard.{IsCausallyClosed}
 use Rattle.tau_past.specs.KnownLaws.{TouchedIn}
 use Rattle.tau_past.specs.Pasts.{Link, takes, closing, ClosesAt, checkpoint, opening, Everywhere}
-use Rattle.tau_past.specs.Carried.{TakesBy}
 use Rattle.tau_past.proofs.HeardLemmas.{carried_touched}
 use Rattle.tau_past.proofs.Safety.{no_link}
 use Rattle.tau_links.specs.Links.{Makes, IsLeastMaker, HaveMakers, IsTold, IsFirstTold}

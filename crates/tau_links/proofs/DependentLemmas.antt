@@ -1,5 +1,5 @@
 -- A search that goes through each place once, and what it pushes.
-use Rattle.std.proofs.Common.{◌≡◌, ◌≢◌, ◌⊎◌, ◌↔◌, inl, inr, ⊎_elim, ℕ, zero, suc, ◌+◌, ◌<◌, ◌≤◌, Bool, true, false, get_or, sum_by, ◌*◌, ◌^◌, length-append, List, [], ◌∷◌, ◌++◌, length, map, set, Option, Some, None, refl, sym, ap, ◌∙◌, subst, arith}
+use Rattle.std.proofs.Common.{◌≡◌, ◌⊎◌, ◌↔◌, inl, inr, ⊎_elim, ℕ, zero, suc, ◌+◌, ◌<◌, Bool, true, false, get_or, sum_by, ◌*◌, ◌^◌, length-append, List, [], ◌∷◌, ◌++◌, length, map, set, Option, Some, None, refl, sym, ap, ◌∙◌, subst, arith}
 use Rattle.std.specs.Prelude.{Contains, slice_get, option_map}
 use Rattle.std.proofs.Common.{replicate}
 use Rattle.std.proofs.lemmas.List.{get_or-replicate, length-replicate}
@@ -17,7 +17,7 @@ use Rattle.tau_past.specs.Carried.{Carried}
 use Rattle.tau_past.specs.Tables.{Lists, TellsCarried, CarriedFrom}
 use Rattle.tau_links.specs.Inner.Marks.{IsMarked}
 use Rattle.tau_links.specs.Inner.Rows.{IsRow, TellsRow, touched_by, rests_of, AreRows}
-use Rattle.tau_links.specs.Inner.Dependents.{Takes, IsPassedOn, PassesPlace, known, fresh, Spreads, AddsTakers, IsReady}
+use Rattle.tau_links.specs.Inner.Dependents.{Takes, IsPassedOn, PassesPlace, known, fresh, Spreads, AddsTakers}
 
 -- what the places of a list carry
 module _ (T : Run) (n : ℕ) (carrying : List Carrying) (tells : Lists n (TellsCarried T) carrying) where

@@ -4,3 +4,4 @@ pub mod PushLemmas
 pub mod NearLemmas
 pub mod LinkLemmas
 pub mod ChainLemmas
+pub mod SourceLemmas

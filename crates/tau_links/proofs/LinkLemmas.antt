@@ -1,31 +1,30 @@
 -- To which point a point goes on, and by which step.
-use Rattle.std.proofs.Common.{◌≡◌, ◌≢◌, ◌⊎◌, ◌↔◌, inl, inr, ⊎_elim, ℕ, zero, suc, ◌+◌, ◌<◌, ◌≤◌, Bool, true, false, List, [], ◌∷◌, ◌++◌, length, Option, Some, None, refl, sym, ap, ◌∙◌, subst, arith, map}
+use Rattle.std.proofs.Common.{◌≡◌, ◌⊎◌, ◌↔◌, inl, inr, ⊎_elim, ℕ, suc, ◌<◌, ◌≤◌, Bool, List, [], ◌∷◌, ◌++◌, Option, Some, None, refl, sym, ap, ◌∙◌, subst, arith}
 use Rattle.std.specs.Prelude.{slice_get}
 use Rattle.std.specs.declared.cmp.Ordering.TheVariants.{Less}
 use Rattle.std.specs.Ordering.{ordering_reverse}
 use Rattle.std.proofs.lemmas.Bool.{cases_lt}
-use Rattle.std.proofs.lemmas.Option.{slice_get_within, slice_get_cases}
+use Rattle.std.proofs.lemmas.Option.{slice_get_cases}
 use Rattle.tau_points.specs.declared.point.Point.{Point}
 use Rattle.tau_points.specs.Order.{point_cmp}
 use Rattle.tau_points.proofs.PointOrder.{point_cmp-total}
 use Rattle.tau_chains.specs.declared.chained.Chained.{Chained}
 use Rattle.tau_chains.specs.Chains.{IsNotAfter, HasNoChain}
-use Rattle.tau_chains.specs.Inner.Distances.{IsFar, IsNearest, IsNearestOf, IsNext, GoesOn}
+use Rattle.tau_chains.specs.Inner.Distances.{IsFar, IsNearest, GoesOn}
 use Rattle.tau_chains.proofs.Firsts.{first_shortest, no_chain}
 use Rattle.tau_chains.proofs.NearestLemmas.{not_after_trans}
-use Rattle.tau_trace.specs.declared.step.Step.TheVariants.{Checkpoint}
 use Rattle.tau_trace.specs.Run.{Run, len}
 use Rattle.tau_trace.specs.Histories.{Closes}
 use Rattle.tau_trace.specs.Points.{point_at}
 use Rattle.tau_trace.proofs.Lists.{same_some}
 use Rattle.tau_trace.proofs.PointLemmas.{no_return}
-use Rattle.tau_past.specs.Carried.{Carried, TakesBy}
+use Rattle.tau_past.specs.Carried.{Carried}
 use Rattle.tau_past.specs.Pasts.{ClosesAt, checkpoint, opening, Everywhere}
-use Rattle.tau_past.specs.Tables.{Lists, TakesAt, IsLast, ClosesBefore, TellsEarlier}
-use Rattle.tau_links.specs.Links.{Makes, takes, closes, IsLeastMaker, HaveMakers, IsTold, points_of}
+use Rattle.tau_past.specs.Tables.{TakesAt, IsLast, ClosesBefore, TellsEarlier}
+use Rattle.tau_links.specs.Links.{Makes, takes, closes, HaveMakers, points_of}
 use Rattle.tau_links.specs.Inner.Marks.{IsMarked}
 use Rattle.tau_links.specs.Inner.Dependents.{CameTo, IsLinked, Takes, TellsCheckpoint}
-use Rattle.tau_links.specs.Inner.Linking.{TellsNearest, IsUpToLink, IsUpToAny, IsLeastLink, IsLinkAt, TakesNearest, ClosesAtDistance, LinksAtDistance, HasLevels, AreLevels, GoesOnTo, GoOn, GoesTo, GoesDown, IsFirstByMarks, IsFirstChain}
+use Rattle.tau_links.specs.Inner.Linking.{TellsNearest, IsUpToLink, IsUpToAny, IsLeastLink, IsLinkAt, TakesNearest, ClosesAtDistance, LinksAtDistance, AreLevels, GoesOnTo, GoOn, GoesTo, GoesDown, IsFirstByMarks}
 use Rattle.tau_links.proofs.PushLemmas.{taker_linked, taker_makes, takes_of, takes_within}
 
 not_less_self : (p : Point) → point_cmp p p ≡ Less → ⊥

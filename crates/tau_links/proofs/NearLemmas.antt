@@ -1,15 +1,13 @@
 -- The nearest of what steps carry.
-use Rattle.std.proofs.Common.{◌≡◌, ◌⊎◌, ◌↔◌, inl, inr, ⊎_elim, ℕ, suc, ◌+◌, ◌<◌, ◌≤◌, Bool, true, false, List, [], ◌∷◌, ◌++◌, length, Option, Some, None, refl, sym, ap, ◌∙◌, subst, arith}
-use Rattle.std.specs.Prelude.{slice_get}
+use Rattle.std.proofs.Common.{◌≡◌, ◌⊎◌, ◌↔◌, inl, inr, ⊎_elim, ℕ, Option, Some, None, refl, sym, ap, ◌∙◌, subst, arith}
 use Rattle.tau_points.specs.declared.point.Point.{Point}
-use Rattle.tau_chains.specs.Chains.{IsNotAfter}
-use Rattle.tau_chains.specs.Inner.Distances.{IsNearest, IsNearestOf}
+use Rattle.tau_chains.specs.Inner.Distances.{IsNearestOf}
 use Rattle.tau_chains.proofs.NearestLemmas.{not_after_trans}
-use Rattle.tau_trace.specs.Run.{Run, len}
+use Rattle.tau_trace.specs.Run.{Run}
 use Rattle.tau_trace.proofs.Lists.{same_some}
 use Rattle.tau_past.specs.declared.carrying.Carrying.{Carrying}
 use Rattle.tau_past.specs.Carried.{Carried}
-use Rattle.tau_past.specs.Tables.{Lists, CarriedFrom, TellsCarried}
+use Rattle.tau_past.specs.Tables.{CarriedFrom, TellsCarried}
 use Rattle.tau_links.specs.Inner.Linking.{TellsNearest, IsNotBehind, IsNotBehindAny}
 
 behind_trans : (x y z : Point × ℕ) → IsNotBehind x y → IsNotBehind y z → IsNotBehind x z

@@ -1,5 +1,5 @@
 -- Rows with one place more.
-use Rattle.std.proofs.Common.{◌≡◌, ◌≢◌, ◌⊎◌, ◌↔◌, inl, inr, ⊎_elim, ℕ, suc, ◌+◌, ◌<◌, ◌≤◌, Bool, true, false, cond, get_or, take, drop, List, [], ◌∷◌, ◌++◌, length, map, set, Option, Some, None, refl, sym, ap, ◌∙◌, subst, arith, length-append}
+use Rattle.std.proofs.Common.{◌≡◌, ⊎_elim, ℕ, suc, ◌+◌, ◌<◌, Bool, true, false, cond, get_or, take, drop, List, [], ◌∷◌, ◌++◌, length, set, Option, Some, None, refl, sym, ap, ◌∙◌, subst, arith, length-append}
 use Rattle.std.specs.Prelude.{Contains, slice_get, option_map}
 use Rattle.std.proofs.Math.ListN.{length-set}
 use Rattle.std.proofs.lemmas.Bool.{cases_eq}
@@ -13,7 +13,7 @@ use Rattle.tau_trace.specs.Run.{Run}
 use Rattle.tau_trace.proofs.Lists.{same_some, slice_get-front, slice_get-last, slice_get-push_cases, slice_get-set_same, slice_get-set_other}
 use Rattle.tau_past.specs.declared.carrying.Carrying.{Carrying}
 use Rattle.tau_past.specs.TableSteps.{latest_for, latest_after}
-use Rattle.tau_past.specs.Tables.{Lists, TellsCarried, same_point}
+use Rattle.tau_past.specs.Tables.{TellsCarried, same_point}
 use Rattle.tau_past.proofs.NextTables.{lists_push}
 use Rattle.tau_links.specs.Inner.Rows.{IsBelow, IsRow, TellsRow, touched_by, rests_of, PutsResting, AreRows, HasRows}
 

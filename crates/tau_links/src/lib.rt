@@ -7,4 +7,4 @@ mod nearest;
 mod routes;
 mod rows;
 
-pub use routes::first_chain;
+pub use routes::{first_chain, shortest_chains};

@@ -1,10 +1,10 @@
 //! To which point a point goes on, and by which step.
-ghost use Rattle.std.specs.Prelude.{◌≡◌, ◌⊎◌, ◌↔◌, ◌<◌, ℕ, suc, Option, Some, IfOk, IsTrue};
+ghost use Rattle.std.specs.Prelude.{◌≡◌, ◌⊎◌, ◌↔◌, ◌<◌, ℕ, suc, Option, Some, IfOk, OnOk, IsTrue};
 ghost use Rattle.std.specs.HashMap.{get};
 ghost use Rattle.tau_points.specs.declared.point.Point.{Point};
 ghost use Rattle.tau_trace.specs.Run.{len};
 ghost use Rattle.tau_past.specs.Tables.{same_point};
-ghost use Rattle.tau_links.specs.Inner.Linking.{IsUpToAny, IsLeastLink, IsLinkAt, TakesNearest, ClosesAtDistance, AreLevels, GoesOnTo, GoesDown};
+ghost use Rattle.tau_links.specs.Inner.Linking.{IsUpToAny, IsLeastLink, IsLinkAt, TakesNearest, ClosesAtDistance, AreLevels, GoesOnTo, AreNexts, GoesDown};
 
 use std::alloc::{AllocError, Global};
 use std::collections::HashMap;
@@ -114,16 +114,57 @@ fn next_link(levels: &Levels, point: &Point, distance: usize) -> Chained
     }
 }
 
-/// The chain from a point at the distance, each time on to the least point that is one link nearer.
+/// Notes in the table to what a point one link farther goes on.
+fn note_next(
+    levels: &Levels,
+    nexts: &mut HashMap<Point, Chained>,
+    point: &Point,
+    distance: usize,
+) -> Result<Chained, AllocError>
+    requires levels { AreLevels levels.now.index.now levels.now.marks.now (get same_point levels.now.far) levels.now.nearest.items (get same_point levels.now.checkpoints.now) }
+    requires from { get same_point levels.now.far point.now ≡ Some (suc distance) }
+    requires nexts { AreNexts levels.now.index.now levels.now.marks.now (get same_point levels.now.far) (get same_point nexts.old) }
+    ensures nexts { OnOk result (AreNexts levels.now.index.now levels.now.marks.now (get same_point levels.now.far) (get same_point nexts.new)) }
+    ensures next { IfOk result (λ c. GoesOnTo levels.now.index.now levels.now.marks.now (get same_point levels.now.far) point.now c distance) }
+{
+    let next = next_link(levels, point, distance);
+    nexts.insert(*point, next)?;
+    Ok(next)
+}
+
+/// To what a point one link farther goes on, as the table has it; where it has nothing, it is noted.
+fn next_noted(
+    levels: &Levels,
+    nexts: &mut HashMap<Point, Chained>,
+    point: &Point,
+    distance: usize,
+) -> Result<Chained, AllocError>
+    requires levels { AreLevels levels.now.index.now levels.now.marks.now (get same_point levels.now.far) levels.now.nearest.items (get same_point levels.now.checkpoints.now) }
+    requires from { get same_point levels.now.far point.now ≡ Some (suc distance) }
+    requires nexts { AreNexts levels.now.index.now levels.now.marks.now (get same_point levels.now.far) (get same_point nexts.old) }
+    ensures nexts { OnOk result (AreNexts levels.now.index.now levels.now.marks.now (get same_point levels.now.far) (get same_point nexts.new)) }
+    ensures next { IfOk result (λ c. GoesOnTo levels.now.index.now levels.now.marks.now (get same_point levels.now.far) point.now c distance) }
+{
+    match nexts.get(point).copied() {
+        Some(next) => Ok(next),
+        None => note_next(levels, nexts, point, distance),
+    }
+}
+
+/// The chain from a point at the distance, each time on to the least point that is one link nearer. The table has to what points
+/// go on, so that the links of each point are looked at once, however many chains come by it.
 pub(crate) fn chain_from(
     alloc: Global,
     levels: &Levels,
+    nexts: &mut HashMap<Point, Chained>,
     first: Point,
     distance: usize,
 ) -> Result<Vec<Chained>, AllocError>
     requires levels { AreLevels levels.now.index.now levels.now.marks.now (get same_point levels.now.far) levels.now.nearest.items (get same_point levels.now.checkpoints.now) }
     requires at { get same_point levels.now.far first ≡ Some distance }
-    ensures { IfOk result (λ v. GoesDown levels.now.index.now levels.now.marks.now (get same_point levels.now.far) first v.items) }
+    requires nexts { AreNexts levels.now.index.now levels.now.marks.now (get same_point levels.now.far) (get same_point nexts.old) }
+    ensures nexts { OnOk result (AreNexts levels.now.index.now levels.now.marks.now (get same_point levels.now.far) (get same_point nexts.new)) }
+    ensures chain { IfOk result (λ v. GoesDown levels.now.index.now levels.now.marks.now (get same_point levels.now.far) first v.items) }
 {
     let mut chain = Vec::new(alloc);
     chain.push(Chained {
@@ -132,7 +173,7 @@ pub(crate) fn chain_from(
     })?;
     let mut last = first;
     for left in (0..distance).rev() {
-        let next = next_link(levels, &last, left);
+        let next = next_noted(levels, nexts, &last, left)?;
         chain.push(next)?;
         last = next.point;
     }

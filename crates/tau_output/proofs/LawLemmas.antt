@@ -14,8 +14,10 @@ use Rattle.tau_report.proofs.Uniqueness.{report_once}
 use Rattle.tau_explain.specs.Decisions.{IsDecision, IsWhy}
 use Rattle.tau_explain.specs.Texts.{why_forms}
 use Rattle.tau_explain.proofs.OneAnswer.{one_answer}
+use Rattle.tau_cut.specs.Texts.{IsCutText}
+use Rattle.tau_cut.proofs.OneCut.{cut_text_once}
 use Rattle.tau_command.specs.declared.commands.Command.{Command}
-use Rattle.tau_command.specs.declared.commands.Command.TheVariants.{Run as RunCommand, Check, Audit, Report, Print, Gen, Drill, Why}
+use Rattle.tau_command.specs.declared.commands.Command.TheVariants.{Run as RunCommand, Check, Audit, Report, Print, Gen, Drill, Why, Cut}
 use Rattle.tau_text.specs.declared.errors.InputError.{InputError}
 use Rattle.tau_text.specs.declared.errors.InputError.TheVariants as inputs
 use Rattle.tau_text.specs.Errors.{TellsInputFault}
@@ -28,6 +30,7 @@ use Rattle.tau_output.specs.declared.refusals.Refusal.TheVariants.{Fault, NotAsk
 use Rattle.tau_output.specs.Refusals.{of_input_error, TellsFault, TellsNotAsked}
 use Rattle.tau_output.specs.Faults.{input_limit, reads_input, IsFaultOf, IsInputFault, too_long, within}
 use Rattle.tau_output.specs.Explaining.{ExplainsAs, IsNotAsked, AsksInVain}
+use Rattle.tau_output.specs.Cutting.{CutsAs}
 use Rattle.tau_output.specs.Inner.Ends.{refused_by}
 use Rattle.tau_output.specs.Checks.{IsChecked, bad_line, ChecksAs}
 use Rattle.tau_output.specs.Audits.{IsAudited, broken_line, AuditsAs}
@@ -47,6 +50,7 @@ one_fault_of Print bytes a b c d f g = (print_unique bytes).one_fault a b c d f 
 one_fault_of (Gen number) bytes a b c d f g = absurd f
 one_fault_of (Drill number) bytes a b c d f g = absurd f
 one_fault_of (Why place) bytes a b c d f g = (run_unique bytes).one_fault a b c d f g
+one_fault_of Cut bytes a b c d f g = (run_unique bytes).one_fault a b c d f g
 
 pub fails_once : (bytes : List ℕ) → FailsOnce bytes
 fails_once bytes command a b c d (too_long r l p q) (too_long s m v w) = (p ∙ sym v, q ∙ sym w)
@@ -64,6 +68,7 @@ clean Print bytes end text a b w f = (print_unique bytes).not_both w.0.program a
 clean (Gen number) bytes end text a b w f = absurd f
 clean (Drill number) bytes end text a b w f = absurd f
 clean (Why place) bytes end text a b w f = (run_unique bytes).not_both (w.0.program, w.0.run) a b w.0.read f
+clean Cut bytes end text a b w f = (run_unique bytes).not_both (w.0.program, w.0.run) a b w.0.read f
 
 pub writes_without_fault : (bytes : List ℕ) → WritesWithoutFault bytes
 writes_without_fault bytes command end text a b w (too_long r l p q) = let few : length bytes ≤ input_limit = w.few r in omega arith
@@ -155,6 +160,7 @@ serially_answered Print bytes end text w = w
 serially_answered (Gen number) bytes end text w = w
 serially_answered (Drill number) bytes end text w = w
 serially_answered (Why place) bytes end text w = w
+serially_answered Cut bytes end text w = w
 
 -- a command on one thread reads an input where the command reads one
 same_reading : (command : Command) → IsTrue (reads_input command) → IsTrue (reads_input (by_one_worker command))
@@ -166,6 +172,7 @@ same_reading Print reads = reads
 same_reading (Gen number) reads = reads
 same_reading (Drill number) reads = reads
 same_reading (Why place) reads = reads
+same_reading Cut reads = reads
 
 pub serially_written : (command : Command) (bytes : List ℕ) (found : Result Output Refusal) → IfOk found (λ o. WritesSerially command bytes o.end o.text.items) → IfOk found (λ o. Writes command bytes o.end o.text.items)
 serially_written command bytes (Ok o) w =
@@ -305,6 +312,12 @@ explain_once place bytes text other v w =
     let answer = one_answer v.run place v.answer w.answer v.explains explains in
     v.is_text ∙ ap (λ a. printed (why_forms v.run.opening a)) answer ∙ ap (λ (x : Program × Run). printed (why_forms x.1.opening w.answer)) same ∙ sym w.is_text
 
+cut_once : (bytes text other : List ℕ) → CutsAs bytes text → CutsAs bytes other → text ≡ other
+cut_once bytes text other v w =
+    let same = (run_unique bytes).one_meaning (v.program, v.run) (w.program, w.run) v.read w.read in
+    let there : IsCutText v.program v.run other = subst (λ (x : Program × Run). IsCutText x.0 x.1 other) (sym same) w.is_text in
+    cut_text_once v.program v.run text other v.is_text there
+
 answers_once : (command : Command) (bytes : List ℕ) (end another : End) (text other : List ℕ) → Answers (by_one_worker command) bytes end text → Answers (by_one_worker command) bytes another other → (end ≡ another) × (text ≡ other)
 answers_once (RunCommand workers jobs seed steps) bytes end another text other v w = runs_once jobs seed steps bytes end another text other v w
 answers_once Check bytes end another text other v w = check_once bytes end another text other v w
@@ -314,6 +327,7 @@ answers_once Print bytes end another text other v w = (v.1 ∙ sym w.1, print_te
 answers_once (Gen number) bytes end another text other v w = (v.1 ∙ sym w.1, v.0.is_text ∙ sym w.0.is_text)
 answers_once (Drill number) bytes end another text other v w = drills_once number end another text other v w
 answers_once (Why place) bytes end another text other v w = (v.1 ∙ sym w.1, explain_once place bytes text other v.0 w.0)
+answers_once Cut bytes end another text other v w = (v.1 ∙ sym w.1, cut_once bytes text other v.0 w.0)
 
 pub writes_once : (bytes : List ℕ) → WritesOnce bytes
 writes_once bytes command end another text other v w = answers_once command bytes end another text other v.answers w.answers

@@ -7,6 +7,7 @@ pub mod Printing
 pub mod Drills
 pub mod Refusals
 pub mod Explaining
+pub mod Cutting
 pub mod Writing
 pub mod Laws
 pub mod Inner

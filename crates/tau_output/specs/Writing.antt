@@ -2,7 +2,7 @@
 use Rattle.std.specs.Prelude.{◌≡◌, ℕ, ◌≤◌, IsTrue, List, length}
 use Rattle.tau_value.specs.declared.limits.TheConstants.{STEP_LIMIT}
 use Rattle.tau_command.specs.declared.commands.Command.{Command}
-use Rattle.tau_command.specs.declared.commands.Command.TheVariants.{Run, Check, Audit, Report, Print, Gen, Drill, Why}
+use Rattle.tau_command.specs.declared.commands.Command.TheVariants.{Run, Check, Audit, Report, Print, Gen, Drill, Why, Cut}
 use Rattle.tau_output.specs.declared.outputs.End.{End}
 use Rattle.tau_output.specs.declared.outputs.End.TheVariants.{Done}
 use Rattle.tau_output.specs.Faults.{input_limit, reads_input}
@@ -13,6 +13,7 @@ use Rattle.tau_output.specs.Reports.{ReportsAs}
 use Rattle.tau_output.specs.Printing.{PrintsAs, GeneratesAs}
 use Rattle.tau_output.specs.Drills.{DrillsAs}
 use Rattle.tau_output.specs.Explaining.{ExplainsAs}
+use Rattle.tau_output.specs.Cutting.{CutsAs}
 
 -- the text that a command writes for bytes, and how it then ends
 abbrev pub Answers : Command → List ℕ → End → List ℕ → Type 0
@@ -24,6 +25,7 @@ Answers Print bytes end text = PrintsAs bytes text × (end ≡ Done)
 Answers (Gen number) bytes end text = GeneratesAs number text × (end ≡ Done)
 Answers (Drill number) bytes end text = DrillsAs number end text
 Answers (Why place) bytes end text = ExplainsAs place bytes text × (end ≡ Done)
+Answers Cut bytes end text = CutsAs bytes text × (end ≡ Done)
 
 -- and so for an input of these bytes, which are not too many where the command reads any
 pub record Writes (command : Command) (bytes : List ℕ) (end : End) (text : List ℕ) : Type 0 where
@@ -40,6 +42,7 @@ by_one_worker Print = Print
 by_one_worker (Gen number) = Gen number
 by_one_worker (Drill number) = Drill number
 by_one_worker (Why place) = Why place
+by_one_worker Cut = Cut
 
 -- what a command writes on one thread
 abbrev pub WritesSerially : Command → List ℕ → End → List ℕ → Type 0

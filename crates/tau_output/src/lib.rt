@@ -3,6 +3,7 @@
 
 mod auditing;
 mod checking;
+mod cutting;
 mod drilling;
 mod explaining;
 mod generating;

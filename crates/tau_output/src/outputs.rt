@@ -10,6 +10,7 @@ ghost use Rattle.tau_output.specs.Inner.Ends.{refused_by};
 use crate::Refusal;
 use crate::auditing::audit_run;
 use crate::checking::check_run;
+use crate::cutting::cut_run;
 use crate::drilling::drill_program;
 use crate::explaining::explain_run;
 use crate::generating::generate_program;
@@ -64,6 +65,7 @@ pub fn reads_input(command: &Command) -> bool
         Command::Gen { .. } => false,
         Command::Drill { .. } => false,
         Command::Why { .. } => true,
+        Command::Cut => true,
     }
 }
 
@@ -98,6 +100,7 @@ pub fn output_of(alloc: Global, command: Command, bytes: &[u8]) -> Result<Output
         Command::Gen { number } => Ok(generate_program(alloc, number)?),
         Command::Drill { number } => Ok(drill_program(alloc, number)?),
         Command::Why { place } => explain_run(alloc, bytes, place),
+        Command::Cut => refused_by(cut_run(alloc, bytes)),
     }
 }
 

@@ -32,7 +32,7 @@ pub fn fate_of<V: HeardVersions>(logs: &[Log], heard: &V, point: &Point) -> Fate
 }
 
 /// What the point of the version heard of a transactor has taken.
-pub(crate) fn takes_of<'a, V: HeardVersions>(logs: &'a [Log], heard: &V, who: u32) -> &'a [Point]
+pub fn takes_of<'a, V: HeardVersions>(logs: &'a [Log], heard: &V, who: u32) -> &'a [Point]
     ensures { result.now ≡ takes_of logs.now (V.numbers heard.now) who }
 {
     match logs.get(who as usize) {

@@ -2,9 +2,10 @@
 //! (docs/rules.md, "Known past", "Verdict", "Free").
 #![tactic(auto)]
 
-pub use heard::{HeardVersions, fate_of};
+pub use heard::{HeardVersions, fate_of, takes_of};
 pub use numbered::{Numbered, Together};
 pub use search::{Search, finds_not_firm};
+pub use seen::goes_on;
 
 mod heard;
 pub mod laws;

@@ -27,7 +27,7 @@ impl Wanted {
 }
 
 /// Whether a search goes on from a point of this fate to what the point has taken.
-pub(crate) fn goes_on(fate: Fate) -> bool
+pub fn goes_on(fate: Fate) -> bool
     ensures { result ≡ goes_on fate }
 {
     matches!(fate, Fate::Open | Fate::Stable)

@@ -10,7 +10,7 @@ use std::alloc::{AllocError, Global};
 use std::sync::Wait;
 use std::thread::Threads;
 use tau_book::{Book, Ran};
-use tau_hearing::Hearing;
+use tau_clean::MarkedHearing;
 use tau_seat::SeatBook;
 use tau_tree::Program;
 
@@ -44,7 +44,7 @@ pub fn run_workers<R: Threads + Wait + Sync, G: Gate + Sync>(
     requires limit { settings.limit ≤ STEP_LIMIT }
     ensures ends { IfOk result (λ r. EndsAt settings.limit program.now r.trace.run r.is_complete) }
 {
-    let book: Book<'_, Hearing> = Book::open(alloc, program, settings.limit)?;
+    let book: Book<'_, MarkedHearing> = Book::open(alloc, program, settings.limit)?;
     let Ok((table, seat)) = SeatBook::new(alloc, book, settings.workers) else {
         return Err(AllocError);
     };
@@ -56,7 +56,7 @@ pub fn run_workers<R: Threads + Wait + Sync, G: Gate + Sync>(
 }
 
 /// What was made, where the book is finished.
-fn made(book: Book<'_, Hearing>) -> Option<Ran>
+fn made(book: Book<'_, MarkedHearing>) -> Option<Ran>
     ensures ends { IfSome result (λ r. EndsAt book.entry.limit book.entry.system.program r.trace.run r.is_complete) }
 {
     // What holds of the book.

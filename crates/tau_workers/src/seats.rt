@@ -10,18 +10,18 @@ use std::alloc::{AllocError, Global};
 use std::sync::Wait;
 use std::thread::Threads;
 use tau_book::Hand;
-use tau_hearing::Hearing;
+use tau_clean::MarkedHearing;
 use tau_seat::{BookSeat, SeatBook, SeatPlace};
 
 /// Lets workers work on a book, each with one number of the seat, and joins their seats.
 pub fn work<'b, 'p, R: Threads + Wait + Sync, G: Gate + Sync>(
     rt: &R,
     alloc: Global,
-    table: &'b SeatBook<'p, Hearing>,
-    seat: BookSeat<'p, Hearing>,
+    table: &'b SeatBook<'p, MarkedHearing>,
+    seat: BookSeat<'p, MarkedHearing>,
     settings: Settings,
     gate: &G,
-) -> Result<BookSeat<'p, Hearing>, AllocError>
+) -> Result<BookSeat<'p, MarkedHearing>, AllocError>
     requires seat { IsSeatOf table.now seat }
     requires numbers { length seat.numbers ≡ settings.workers }
     requires some { 1 ≤ settings.workers }
@@ -38,10 +38,10 @@ pub fn work<'b, 'p, R: Threads + Wait + Sync, G: Gate + Sync>(
 /// The workers, by number, before their first step.
 fn make_workers<'b, 'p>(
     alloc: Global,
-    table: &'b SeatBook<'p, Hearing>,
-    seat: BookSeat<'p, Hearing>,
+    table: &'b SeatBook<'p, MarkedHearing>,
+    seat: BookSeat<'p, MarkedHearing>,
     settings: Settings,
-) -> Result<Vec<Worker<'p, SeatPlace<'b, 'p, Hearing>>>, AllocError>
+) -> Result<Vec<Worker<'p, SeatPlace<'b, 'p, MarkedHearing>>>, AllocError>
     requires seat { IsSeatOf table.now seat }
     requires numbers { length seat.numbers ≡ settings.workers }
     requires some { 1 ≤ settings.workers }
@@ -66,11 +66,11 @@ fn make_workers<'b, 'p>(
 /// A worker with a seat before its first step.
 fn make_worker<'b, 'p>(
     alloc: Global,
-    table: &'b SeatBook<'p, Hearing>,
-    seat: BookSeat<'p, Hearing>,
+    table: &'b SeatBook<'p, MarkedHearing>,
+    seat: BookSeat<'p, MarkedHearing>,
     settings: Settings,
     number: u32,
-) -> Result<Worker<'p, SeatPlace<'b, 'p, Hearing>>, AllocError>
+) -> Result<Worker<'p, SeatPlace<'b, 'p, MarkedHearing>>, AllocError>
     requires seat { IsSeatOf table.now seat }
     requires jobs { 1 ≤ settings.jobs }
     requires few { settings.jobs ≤ 16 }
@@ -101,9 +101,9 @@ fn make_hand<'p>(alloc: Global, settings: Settings, number: u32) -> Result<Hand<
 
 /// The seat of all numbers of the workers' seats, in the workers' order.
 fn join_all<'b, 'p>(
-    table: &'b SeatBook<'p, Hearing>,
-    mut workers: Vec<Worker<'p, SeatPlace<'b, 'p, Hearing>>>,
-) -> BookSeat<'p, Hearing>
+    table: &'b SeatBook<'p, MarkedHearing>,
+    mut workers: Vec<Worker<'p, SeatPlace<'b, 'p, MarkedHearing>>>,
+) -> BookSeat<'p, MarkedHearing>
     requires some { 1 ≤ length workers.items }
     requires ones { All (λ w. HasOne table.now w.place) workers.items }
     ensures seat { IsSeatOf table.entry.now result }
@@ -119,7 +119,9 @@ fn join_all<'b, 'p>(
 }
 
 /// The seat of a worker, which is given up.
-fn seat_of<'b, 'p>(worker: Worker<'p, SeatPlace<'b, 'p, Hearing>>) -> BookSeat<'p, Hearing>
+fn seat_of<'b, 'p>(
+    worker: Worker<'p, SeatPlace<'b, 'p, MarkedHearing>>,
+) -> BookSeat<'p, MarkedHearing>
     ensures { result ≡ worker.entry.place.seat }
 {
     worker.place.into_seat()

@@ -1,5 +1,5 @@
 -- Links that marked steps make, turned round, as a search backwards goes through them.
-use Rattle.std.specs.Prelude.{◌≡◌, ◌≢◌, ◌⊎◌, ◌↔◌, ℕ, suc, ◌≤◌, ◌<◌, Bool, true, List, [], Option, Some, None, Contains, slice_get, set, length}
+use Rattle.std.specs.Prelude.{◌≡◌, ◌⊎◌, ℕ, suc, ◌≤◌, ◌<◌, Bool, true, List, [], Option, Some, None, Contains, slice_get, set, length}
 use Rattle.tau_history.specs.Timeline.{numbers}
 use Rattle.tau_points.specs.declared.point.Point.{Point}
 use Rattle.tau_points.specs.Members.{AddsAll}

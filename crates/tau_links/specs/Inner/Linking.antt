@@ -1,5 +1,5 @@
 -- To which point a point goes on, and by which step, where it is told how far each point is.
-use Rattle.std.specs.Prelude.{◌≡◌, ◌⊎◌, ◌≤◌, ◌<◌, ℕ, suc, Bool, List, [], ◌∷◌, Option, Some, None, slice_get, length}
+use Rattle.std.specs.Prelude.{◌≡◌, ◌⊎◌, ◌≤◌, ◌<◌, ℕ, suc, Bool, List, [], ◌∷◌, Option, Some, None, Contains, slice_get, length}
 use Rattle.std.specs.declared.cmp.Ordering.TheVariants.{Less}
 use Rattle.tau_points.specs.declared.point.Point.{Point}
 use Rattle.tau_points.specs.Order.{point_cmp}
@@ -83,6 +83,10 @@ pub record GoesOnTo (T : Run) (marks : List Bool) (far : Point → Option ℕ) (
   pub by_is : c.by ≡ Some place
   pub least : IsLeastMaker T (IsMarked marks) p c.point place
 
+-- a point to which the table has another goes on to that
+abbrev pub AreNexts : Run → List Bool → (Point → Option ℕ) → (Point → Option Chained) → Type 0
+AreNexts T marks far nexts = (p : Point) (c : Chained) → nexts p ≡ Some c → (n : ℕ) × GoesOnTo T marks far p c n
+
 -- each point of the list goes on to its next, from p to last
 abbrev pub GoOn : Run → List Bool → (Point → Option ℕ) → Point → List Chained → Point → Type 0
 GoOn T marks far p [] last = p ≡ last
@@ -100,6 +104,17 @@ pub record GoesDown (T : Run) (marks : List Bool) (far : Point → Option ℕ) (
   pub goes : GoesTo T marks far p chain last
   pub ends : far last ≡ Some 0
 
+-- what goes down from p to the set; None where p has no distance
+abbrev pub IsDownFrom : Run → List Bool → (Point → Option ℕ) → Point → Option (List Chained) → Type 0
+IsDownFrom T marks far p None = far p ≡ None
+IsDownFrom T marks far p (Some chain) = ((n : ℕ) × (far p ≡ Some n)) × GoesDown T marks far p chain
+
+-- what goes down from each of the first n points
+pub record AreDown (T : Run) (marks : List Bool) (far : Point → Option ℕ) (from : List Point) (n : ℕ) (chains : List (Option (List Chained))) : Type 0 where
+  pub count : length chains ≡ n
+  pub within : n ≤ length from
+  pub each : (k : ℕ) (p : Point) (o : Option (List Chained)) → slice_get from k ≡ Some p → slice_get chains k ≡ Some o → IsDownFrom T marks far p o
+
 -- the first of the shortest chains by marked steps, with its places; None where there is none
 pub record IsFirstByMarks (T : Run) (marks : List Bool) (S C : Point → Type 0) (chain : List Chained) : Type 0 where
   pub told : IsTold T (IsMarked marks) chain
@@ -108,3 +123,8 @@ pub record IsFirstByMarks (T : Run) (marks : List Bool) (S C : Point → Type 0)
 abbrev pub IsFirstChain : Run → List Bool → (Point → Type 0) → (Point → Type 0) → Option (List Chained) → Type 0
 IsFirstChain T marks S C None = HasNoChain (IsLinked T marks) S C
 IsFirstChain T marks S C (Some chain) = IsFirstByMarks T marks S C chain
+
+-- so it is from each point of a list
+pub record AreFirstChains (T : Run) (marks : List Bool) (from : List Point) (C : Point → Type 0) (chains : List (Option (List Chained))) : Type 0 where
+  pub count : length chains ≡ length from
+  pub each : (k : ℕ) (p : Point) (o : Option (List Chained)) → slice_get from k ≡ Some p → slice_get chains k ≡ Some o → IsFirstChain T marks (Contains (p ∷ [])) C o

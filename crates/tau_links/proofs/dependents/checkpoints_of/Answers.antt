@@ -1,4 +1,4 @@
-use Rattle.std.proofs.Common.{arith, sym, ◌∙◌, ◌≡◌, ◌↔◌, ◌+◌, subst, List, Some}
+use Rattle.std.proofs.Common.{arith, sym, ◌∙◌, ◌≡◌, ◌↔◌, ◌+◌, subst, Some}
 use Rattle.tau_past.specs.Audits.{ChecksAt}
 use Rattle.std.specs.HashMap.{get}
 use Rattle.tau_past.specs.Tables.{same_point}

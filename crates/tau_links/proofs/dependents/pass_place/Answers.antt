@@ -1,6 +1,4 @@
-use Rattle.std.proofs.Common.{arith, subst, sym, refl, ap, ◌∙◌, List, Option, ℕ, Some}
-use Rattle.std.specs.Prelude.{slice_get}
-use Rattle.std.proofs.lemmas.Option.{slice_get-get_or}
+use Rattle.std.proofs.Common.{arith, subst, sym, refl, List, Option, ℕ}
 use Rattle.std.proofs.lemmas.Result.{IfOk-weaker}
 use Rattle.tau_links.specs.Inner.Rows.{IsRow}
 use Rattle.tau_links.proofs.DependentLemmas.{passes_fresh, last_read}

@@ -1,8 +1,8 @@
-use Rattle.std.proofs.Common.{arith, sym, ◌∙◌, ◌≡◌, ◌+◌, refl, subst, None, Some, ap}
+use Rattle.std.proofs.Common.{arith, sym, ◌∙◌}
 use Rattle.std.specs.HashMap.{get}
 use Rattle.std.proofs.lemmas.Result.{IfOk-weaker}
 use Rattle.tau_past.specs.Tables.{same_point}
-use Rattle.tau_links.proofs.PushLemmas.{adds_none, none_above, none_of, none_reached, above_up_to, checks_born, checks_interval, told_some}
+use Rattle.tau_links.proofs.PushLemmas.{adds_none, none_above, none_of, above_up_to, checks_born, checks_interval, told_some}
 use Rattle.tau_links.specs.Inner.Dependents.{IsAbove}
 use Rattle.tau_links.proofs.dependents.push_above.Goals as goal
 

@@ -1,4 +1,4 @@
-use Rattle.std.proofs.Common.{refl, subst, arith, ◌≡◌, sym, ◌+◌, ◌<◌}
+use Rattle.std.proofs.Common.{refl, subst, arith, ◌≡◌}
 use Rattle.tau_points.specs.Members.{AddsAll}
 use Rattle.tau_links.specs.Inner.Dependents.{IsBelowNumber}
 use Rattle.tau_links.proofs.PushLemmas.{below_more, up_to_below}

@@ -1,4 +1,3 @@
-use Rattle.std.proofs.Common.{◌≡◌, ◌<◌}
 use Rattle.tau_points.specs.Members.{AddsAll}
 use Rattle.tau_links.specs.Inner.Dependents.{IsBelowNumber}
 use Rattle.tau_links.proofs.dependents.push_incarnations.Given as goal

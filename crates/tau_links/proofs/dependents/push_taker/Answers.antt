@@ -1,4 +1,4 @@
-use Rattle.std.proofs.Common.{arith, sym, ◌∙◌}
+use Rattle.std.proofs.Common.{arith}
 use Rattle.tau_links.proofs.PushLemmas.{taker_pushed, no_taker, not_marked, marked_read, unmarked_read}
 use Rattle.tau_links.proofs.dependents.push_taker.Goals as goal
 

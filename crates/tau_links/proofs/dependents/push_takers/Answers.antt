@@ -1,10 +1,8 @@
-use Rattle.std.proofs.Common.{arith, sym, ◌∙◌, ◌≡◌, refl, subst, List, Option, ℕ, length, ap, []}
+use Rattle.std.proofs.Common.{arith, sym, ◌∙◌, subst, List, Option, ℕ, length}
 use Rattle.std.proofs.Common.{rules}
-use Rattle.std.specs.HashMap.{get}
 use Rattle.std.proofs.lemmas.List.{nil_from_length}
-use Rattle.tau_past.specs.Tables.{same_point}
 use Rattle.tau_links.specs.Inner.Rows.{IsRow}
-use Rattle.tau_links.proofs.DependentLemmas.{spreads_start, spreads_on, left_within, spread_on, spread_all, smaller_told}
+use Rattle.tau_links.proofs.DependentLemmas.{spreads_start, spreads_on, left_within, spread_all, smaller_told}
 use Rattle.tau_links.proofs.PushLemmas.{carried_within}
 use Rattle.tau_links.proofs.dependents.push_takers.Goals as goal
 

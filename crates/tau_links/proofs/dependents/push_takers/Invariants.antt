@@ -1,4 +1,4 @@
-use Rattle.std.proofs.Common.{◌≡◌, ◌+◌, ◌*◌, ◌^◌, ℕ, List, length, vec_len, sum_by, Bool}
+use Rattle.std.proofs.Common.{◌≡◌, ◌+◌, ◌*◌, ◌^◌, List, length, vec_len}
 use Rattle.std.specs.HashMap.{get}
 use Rattle.tau_trace.specs.Run.{len}
 use Rattle.tau_past.specs.declared.carrying.Carrying.{Carrying}

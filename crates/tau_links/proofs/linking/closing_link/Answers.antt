@@ -1,4 +1,4 @@
-use Rattle.std.proofs.Common.{sym, subst, ◌∙◌, ◌≡◌, Some, None, Option, ℕ, rules, ap}
+use Rattle.std.proofs.Common.{sym, subst, ◌∙◌, ◌≡◌, None, Option, ℕ, rules}
 use Rattle.std.specs.HashMap.{get}
 use Rattle.tau_past.specs.Tables.{same_point}
 use Rattle.tau_points.specs.declared.point.Point.{Point}

@@ -1,4 +1,4 @@
-use Rattle.std.proofs.Common.{sym, ◌∙◌, subst, Option, ℕ, Some, None}
+use Rattle.std.proofs.Common.{subst, Option, ℕ}
 use Rattle.std.specs.HashMap.{get}
 use Rattle.tau_points.specs.declared.point.Point.{Point}
 use Rattle.tau_past.specs.Tables.{same_point}

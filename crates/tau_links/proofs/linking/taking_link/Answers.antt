@@ -1,4 +1,3 @@
-use Rattle.std.proofs.Common.{sym, ◌∙◌, ℕ, Option}
 use Rattle.tau_links.proofs.RowLemmas.{below_less}
 use Rattle.tau_links.proofs.LinkLemmas.{taken_on, taken_end, taken_within, last_below}
 use Rattle.tau_links.proofs.linking.taking_link.Goals as goal

@@ -3,7 +3,7 @@ use Rattle.std.specs.HashMap.{get}
 use Rattle.tau_points.specs.declared.point.Point.{Point}
 use Rattle.tau_chains.specs.Inner.Distances.{IsNearest}
 use Rattle.tau_past.specs.Tables.{same_point}
-use Rattle.tau_links.proofs.NearLemmas.{one_none, one_unreached, one_reached}
+use Rattle.tau_links.proofs.NearLemmas.{one_reached}
 use Rattle.tau_links.proofs.nearest.with_distance.Goals as goal
 
 pub returns : goal.returns

@@ -1,4 +1,4 @@
-use Rattle.std.proofs.Common.{sym, ◌∙◌, subst, List, Bool, ◌≡◌}
+use Rattle.std.proofs.Common.{subst, List, Bool}
 use Rattle.std.specs.Prelude.{Contains}
 use Rattle.std.specs.HashMap.{get}
 use Rattle.tau_trace.specs.Run.{Run}

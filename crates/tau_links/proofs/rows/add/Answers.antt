@@ -1,4 +1,4 @@
-use Rattle.std.proofs.Common.{arith, List, Option, ℕ, length, sym, subst, ap, ◌∙◌, ◌++◌, ◌∷◌, [], None}
+use Rattle.std.proofs.Common.{arith, List, Option, ℕ, subst, ap, ◌∙◌, ◌++◌, ◌∷◌, [], None}
 use Rattle.std.specs.HashMap.{get}
 use Rattle.tau_past.specs.Tables.{same_point}
 use Rattle.tau_links.specs.Inner.Rows.{PutsResting}

@@ -1,5 +1,5 @@
 use Rattle.tau_links.proofs.RowLemmas.{row_within, row_read, below_less, walks_on, walks_end}
-use Rattle.std.proofs.Common.{None, List, ℕ}
+use Rattle.std.proofs.Common.{None}
 use Rattle.tau_links.proofs.rows.push_row.Goals as goal
 
 pub bounds-earlier-place : goal.bounds-earlier-place

@@ -1,4 +1,4 @@
-use Rattle.std.proofs.Common.{◌≡◌, ◌++◌, ℕ, List, suc}
+use Rattle.std.proofs.Common.{ℕ, List, suc}
 use Rattle.std.specs.Option.{option_map_or}
 use Rattle.tau_links.specs.Inner.Rows.{IsRow}
 use Rattle.tau_links.proofs.RowLemmas.{Walks}

@@ -1,4 +1,4 @@
-use Rattle.tau_command.specs.declared.commands.Command.TheVariants.{Run, Check, Audit, Report, Print}
+use Rattle.tau_command.specs.declared.commands.Command.TheVariants.{Run, Check, Audit, Report, Print, Cut}
 use Rattle.tau_output.proofs.LawLemmas.{answer_told, why_told}
 use Rattle.tau_output.proofs.outputs.output_of.Goals as goal
 
@@ -22,6 +22,10 @@ returns-in-Report-clause-faulty c =
 pub returns-in-Print-clause-faulty : goal.returns-in-Print-clause-faulty
 returns-in-Print-clause-faulty c =
     (answer_told c.args.command Print c.args.bytes.now c.print_program.result c.refused_by-in-Print.result c.in-Print.is c.refused_by-in-Print.ensures c.requires.bytes c.print_program.ensures.output c.print_program.ensures.fault).gives.faulty
+
+pub returns-in-Cut-clause-faulty : goal.returns-in-Cut-clause-faulty
+returns-in-Cut-clause-faulty c =
+    (answer_told c.args.command Cut c.args.bytes.now c.cut_run.result c.refused_by-in-Cut.result c.in-Cut.is c.refused_by-in-Cut.ensures c.requires.bytes c.cut_run.ensures.output c.cut_run.ensures.fault).gives.faulty
 
 pub returns-in-Why-clause-faulty : goal.returns-in-Why-clause-faulty
 returns-in-Why-clause-faulty c =

@@ -8,8 +8,8 @@ use Rattle.tau_logs.specs.Reading.{takes_told}
 use Rattle.tau_past.specs.Heard.{Heard}
 use Rattle.tau_logs.specs.Takes.{taken}
 use Rattle.tau_search.specs.Numbered.{with_version}
-use Rattle.tau_hearing.specs.Closing.{is_unclosed}
-use Rattle.tau_hearing.specs.Next.{AreFresh, IsAdding}
+use Rattle.tau_taking.specs.Closing.{is_unclosed}
+use Rattle.tau_taking.specs.Adding.{AreFresh, IsAdding}
 use Rattle.tau_hearing.proofs.LeavingOut.{kept_without}
 use Rattle.tau_hearing.proofs.Leading.{kept, last_there, ranges_are}
 use Rattle.tau_hearing.proofs.Setting.{still_leads, taking_leads, fresh_at}

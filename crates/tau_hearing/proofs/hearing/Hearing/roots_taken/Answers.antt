@@ -6,7 +6,7 @@ use Rattle.tau_past.specs.Heard.{Heard, HeardTogether}
 use Rattle.tau_logs.specs.Told.{Told}
 use Rattle.tau_search.specs.Numbered.{with_version, later}
 use Rattle.tau_hearing.specs.declared.letter.Letter.{Letter}
-use Rattle.tau_hearing.specs.Closing.{is_unclosed}
+use Rattle.tau_taking.specs.Closing.{is_unclosed}
 use Rattle.tau_hearing.specs.Laws.{WithoutClosed}
 use Rattle.tau_hearing.proofs.LeavingOut.{unclosed_without, together_on}
 use Rattle.tau_hearing.proofs.Leading.{kept, known, acting, hears_of}

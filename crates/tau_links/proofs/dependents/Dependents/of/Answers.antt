@@ -1,4 +1,4 @@
-use Rattle.std.proofs.Common.{refl, rules}
+use Rattle.std.proofs.Common.{rules}
 use Rattle.tau_links.proofs.DependentLemmas.{none_marked}
 use Rattle.tau_links.proofs.dependents.Dependents.of.Goals as goal
 

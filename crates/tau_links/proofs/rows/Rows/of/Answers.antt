@@ -1,4 +1,4 @@
-use Rattle.std.proofs.Common.{refl, rules, sym, subst, List, Option, ℕ, []}
+use Rattle.std.proofs.Common.{refl, sym, subst, List, Option, ℕ, []}
 use Rattle.std.specs.HashMap.{get}
 use Rattle.tau_past.specs.Tables.{same_point}
 use Rattle.tau_links.specs.Inner.Rows.{HasRows}

@@ -1,0 +1,5 @@
+use Rattle.tau_cut.proofs.OneCut.{cut_once as the_law}
+use Rattle.tau_cut.proofs.laws.cuts_are_unique.Goals as goal
+
+pub returns : goal.returns
+returns c = the_law

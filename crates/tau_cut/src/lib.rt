@@ -1,0 +1,15 @@
+//! The greatest set of checkpoints that could all be kept if everything else were lost (docs/definitions.md, "Consistent").
+#![tactic(auto)]
+
+mod cut;
+mod keeping;
+mod kept_states;
+mod laws;
+mod marking;
+mod parts;
+mod text;
+
+pub use cut::{Cut, Marked};
+pub use laws::{cut_texts_are_unique, cuts_are_unique};
+pub use marking::greatest;
+pub use text::cut_text;

@@ -1,0 +1,233 @@
+//! The lines that tell a cut.
+ghost use Rattle.std.specs.Prelude.{◌≡◌, ◌≤◌, ◌<◌, ◌^◌, ◌∷◌, ◌++◌, [], ◌↔◌, ℕ, All, Contains, length, IfOk, OnOk};
+ghost use Rattle.tau_sexpr.specs.Form.{tree_of};
+ghost use Rattle.tau_sexpr.specs.Printing.{printed};
+ghost use Rattle.tau_sexpr.specs.Tree.{depth_of, depths, HasWords};
+ghost use Rattle.tau_value.specs.Names.{AreNames};
+ghost use Rattle.tau_tree.specs.Sound.{Sound};
+ghost use Rattle.tau_trace.specs.Run.{len};
+ghost use Rattle.tau_script.specs.Openings.{program_opening};
+ghost use Rattle.tau_steps.specs.StepForms.{IsWritten};
+ghost use Rattle.tau_explain.specs.Texts as chains;
+ghost use Rattle.tau_links.specs.Inner.Marks.{IsMarked};
+ghost use Rattle.tau_cut.specs.declared.cut.Marked.TheVariants.{In};
+ghost use Rattle.tau_cut.specs.Cuts.{places_in};
+ghost use Rattle.tau_cut.specs.Texts.{mark_form, mark_forms, IsCutText};
+ghost use Rattle.tau_cut.specs.Inner.Marking.{MarksIn};
+ghost use Rattle.tau_cut.specs.Inner.Keeping as kept_specs;
+ghost use Rattle.tau_cut.specs.Inner.Keeping.{state_row, IsRowWritten, IsRowSmall, AreStateRows};
+
+use crate::cut::{Cut, Marked};
+use crate::kept_states::{Kept, states_kept};
+use crate::marking::greatest;
+use crate::parts::{add_count, add_who, headed};
+use std::alloc::{AllocError, Global};
+use tau_chains::Chain;
+use tau_explain::form_of_chained;
+use tau_sexpr::{Form, Forms, print_forms};
+use tau_trace::{Opening, Trace};
+use tau_tree::Program;
+use tau_value::form_of;
+
+/// Adds the forms of the points of a chain.
+fn add_points(
+    alloc: Global,
+    forms: &mut Forms,
+    opening: &Opening,
+    chain: &Chain,
+) -> Result<(), AllocError>
+    requires names { AreNames opening.now.names }
+    requires depth { depths forms.old ≤ 1 }
+    requires words { All HasWords forms.old }
+    ensures forms { OnOk result (forms.new ≡ forms.old ++ chains.chain_forms opening.now chain.now) }
+    ensures depth { OnOk result (depths forms.new ≤ 1) }
+    ensures words { OnOk result (All HasWords forms.new) }
+{
+    for chained in chain.items() {
+        forms.add(form_of_chained(alloc, opening, *chained)?)?;
+    }
+    Ok(())
+}
+
+/// The items of the form of a Checkpoint that is In: the word and the place.
+#[tactic(auto, using(tau_sexpr::proofs::Literals::word_literal), unfolding(tau_sexpr::specs::Bytes::is_word_byte, tau_sexpr::specs::Bytes::is_letter_or_digit, tau_sexpr::specs::Bytes::is_word_sign))]
+fn in_items(alloc: Global, place: u32) -> Result<Forms, AllocError>
+    ensures forms { IfOk result (λ f. f ≡ kept_specs.in_front place) }
+    ensures fits { OnOk result (place < 2 ^ 32) }
+{
+    let mut items = headed(alloc, b"in")?;
+    add_count(alloc, &mut items, place)?;
+    Ok(items)
+}
+
+/// The form of a Checkpoint that is In.
+fn form_of_in(alloc: Global, place: u32) -> Result<Form, AllocError>
+    ensures form { IfOk result (λ f. tree_of f ≡ kept_specs.in_form place) }
+    ensures depth { IfOk result (λ f. depth_of (tree_of f) ≤ 2) }
+    ensures words { IfOk result (λ f. HasWords (tree_of f)) }
+{
+    let items = in_items(alloc, place)?;
+    Ok(Form::List(items))
+}
+
+/// The front of the form of a Checkpoint that is Out: the word and the place.
+#[tactic(auto, using(tau_sexpr::proofs::Literals::word_literal), unfolding(tau_sexpr::specs::Bytes::is_word_byte, tau_sexpr::specs::Bytes::is_letter_or_digit, tau_sexpr::specs::Bytes::is_word_sign))]
+fn out_items(alloc: Global, place: u32) -> Result<Forms, AllocError>
+    ensures forms { IfOk result (λ f. f ≡ kept_specs.out_front place) }
+    ensures fits { OnOk result (place < 2 ^ 32) }
+{
+    let mut items = headed(alloc, b"out")?;
+    add_count(alloc, &mut items, place)?;
+    Ok(items)
+}
+
+/// The form of a Checkpoint that is Out, with the points of its chain.
+fn form_of_out(
+    alloc: Global,
+    opening: &Opening,
+    place: u32,
+    chain: &Chain,
+) -> Result<Form, AllocError>
+    requires { AreNames opening.now.names }
+    ensures form { IfOk result (λ f. tree_of f ≡ kept_specs.out_form opening.now place chain.now) }
+    ensures depth { IfOk result (λ f. depth_of (tree_of f) ≤ 2) }
+    ensures words { IfOk result (λ f. HasWords (tree_of f)) }
+{
+    let mut items = out_items(alloc, place)?;
+    add_points(alloc, &mut items, opening, chain)?;
+    Ok(Form::List(items))
+}
+
+/// The form of a mark.
+fn form_of_mark(alloc: Global, opening: &Opening, mark: &Marked) -> Result<Form, AllocError>
+    requires { AreNames opening.now.names }
+    ensures form { IfOk result (λ f. tree_of f ≡ mark_form opening.now mark.now) }
+    ensures depth { IfOk result (λ f. depth_of (tree_of f) ≤ 2) }
+    ensures words { IfOk result (λ f. HasWords (tree_of f)) }
+{
+    match mark {
+        Marked::In { place } => form_of_in(alloc, *place),
+        Marked::Out { place, chain } => form_of_out(alloc, opening, *place, chain),
+    }
+}
+
+/// The line of a mark.
+fn line_of_mark(alloc: Global, opening: &Opening, mark: &Marked) -> Result<Vec<u8>, AllocError>
+    requires { AreNames opening.now.names }
+    ensures { IfOk result (λ v. v.items ≡ printed (mark_form opening.now mark.now ∷ [])) }
+{
+    let mut forms = Forms::new(alloc);
+    forms.add(form_of_mark(alloc, opening, mark)?)?;
+    print_forms(alloc, &forms)
+}
+
+/// The lines of the marks of a cut. The forms of one mark at a time take memory.
+fn lines_of_marks(alloc: Global, opening: &Opening, cut: &Cut) -> Result<Vec<u8>, AllocError>
+    requires { AreNames opening.now.names }
+    ensures { IfOk result (λ v. v.items ≡ printed (mark_forms opening.now cut.now)) }
+{
+    let mut text = Vec::new(alloc);
+    for mark in cut.items() {
+        let line = line_of_mark(alloc, opening, mark)?;
+        text.extend_from_slice(&line)?;
+    }
+    Ok(text)
+}
+
+/// The form of what is kept of a transactor.
+#[tactic(auto, using(tau_sexpr::proofs::Literals::word_literal), unfolding(tau_sexpr::specs::Bytes::is_word_byte, tau_sexpr::specs::Bytes::is_letter_or_digit, tau_sexpr::specs::Bytes::is_word_sign))]
+fn form_of_state(
+    alloc: Global,
+    opening: &Opening,
+    who: u32,
+    kept: &Kept,
+) -> Result<Form, AllocError>
+    requires { AreNames opening.now.names }
+    ensures form { IfOk result (λ f. tree_of f ≡ kept_specs.state_form opening.now who kept.now) }
+    ensures written { OnOk result (IsWritten opening.now.names kept.now.value) }
+    ensures small { OnOk result (kept.now.interval < 2 ^ 32) }
+{
+    let mut items = headed(alloc, b"state")?;
+    add_who(alloc, &mut items, opening, who)?;
+    add_count(alloc, &mut items, kept.interval)?;
+    items.add(form_of(alloc, &kept.value, &opening.names)?)?;
+    Ok(Form::List(items))
+}
+
+/// Adds the form of what is kept of a transactor, if anything is.
+fn add_state(
+    alloc: Global,
+    forms: &mut Forms,
+    opening: &Opening,
+    who: u32,
+    kept: &Option<Kept>,
+) -> Result<(), AllocError>
+    requires { AreNames opening.now.names }
+    ensures forms { OnOk result (forms.new ≡ forms.old ++ state_row opening.now who kept.now) }
+    ensures written { OnOk result (IsRowWritten opening.now kept.now) }
+    ensures small { OnOk result (IsRowSmall kept.now) }
+{
+    match kept {
+        Some(kept) => forms.add(form_of_state(alloc, opening, who, kept)?),
+        None => Ok(()),
+    }
+}
+
+/// The forms of what is kept, by transactor.
+fn forms_of_states(
+    alloc: Global,
+    opening: &Opening,
+    states: &[Option<Kept>],
+) -> Result<Forms, AllocError>
+    requires names { AreNames opening.now.names }
+    requires few { length states.now < 2 ^ 32 }
+    ensures { IfOk result (AreStateRows opening.now states.now (length states.now)) }
+{
+    let mut forms = Forms::new(alloc);
+    for (who, state) in states.iter().enumerate() {
+        add_state(alloc, &mut forms, opening, who as u32, state)?;
+    }
+    Ok(forms)
+}
+
+/// Marks the place of a mark that is In.
+fn mark_in(mark: &Marked, marks: &mut Vec<bool>)
+    requires { (k : ℕ) → mark.now ≡ In k → k < length marks.old.items }
+    ensures { MarksIn mark.now marks.old.items marks.new.items }
+{
+    match mark {
+        Marked::In { place } => marks[*place as usize] = true,
+        Marked::Out { .. } => {}
+    }
+}
+
+/// A mark for each step: whether the cut has it In.
+fn marks_in(alloc: Global, trace: &Trace, cut: &Cut) -> Result<Vec<bool>, AllocError>
+    requires { All (λ k. k < len trace.now.run) (places_in cut.now) }
+    ensures length { IfOk result (λ v. length v.items ≡ len trace.now.run) }
+    ensures marked { IfOk result (λ v. (k : ℕ) → Contains (places_in cut.now) k ↔ IsMarked v.items k) }
+{
+    let mut marks = vec![in alloc; false; trace.len() as usize]?;
+    for mark in cut.items() {
+        mark_in(mark, &mut marks);
+    }
+    Ok(marks)
+}
+
+/// The text of the greatest consistent set of Checkpoints of a trace (docs/formats.md, "Cuts"), one form a line: the mark of each
+/// Checkpoint, by place, and then for each transactor that is a start or has a Checkpoint marked In the state that is kept of it, by
+/// number. The error is want of memory.
+pub fn cut_text(alloc: Global, program: &Program, trace: &Trace) -> Result<Vec<u8>, AllocError>
+    requires opening { trace.now.run.opening ≡ program_opening program.now }
+    requires sound { Sound program.now }
+    ensures { IfOk result (λ v. IsCutText program.now trace.now.run v.items) }
+{
+    let cut = greatest(alloc, trace)?;
+    let marks = marks_in(alloc, trace, &cut)?;
+    let kept = states_kept(alloc, &program.starts, trace, &marks)?;
+    let states = forms_of_states(alloc, trace.opening(), &kept)?;
+    let mut text = lines_of_marks(alloc, trace.opening(), &cut)?;
+    let lines = print_forms(alloc, &states)?;
+    text.extend_from_slice(&lines)?;
+    Ok(text)
+}

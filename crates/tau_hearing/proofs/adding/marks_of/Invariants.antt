@@ -1,5 +1,0 @@
-use Rattle.tau_hearing.specs.Marks.{AreMarks}
-use Rattle.tau_hearing.proofs.adding.marks_of.Given as goal
-
-abbrev pub invariant-loop-point : goal.invariant-loop-point
-invariant-loop-point l = AreMarks l.taken l.marks.items

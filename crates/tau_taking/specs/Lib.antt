@@ -1,0 +1,4 @@
+pub mod Adding
+pub mod Closing
+pub mod Listed
+pub mod Marks
