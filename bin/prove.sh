@@ -1,3 +1,4 @@
+# shellcheck shell=sh disable=SC2034,SC2154
 # What `bin/tau prove` does: the part of bin/tau that builds the program. It uses the functions there.
 
 # Says how far the build is: on a terminal each line is written over the last one.

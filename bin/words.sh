@@ -1,0 +1,7 @@
+# shellcheck shell=sh disable=SC2034,SC2154
+# Made by share/make from the table "Words" of docs/manual.md.
+commands=' run check audit report print gen drill why cut '
+numbered=' gen drill why '
+reading=' run check audit report print why cut '
+options=' --workers --jobs --seed --steps '
+pairs=' run:--workers run:--jobs run:--seed run:--steps '

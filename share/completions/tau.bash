@@ -1,0 +1,41 @@
+# Made by share/make from the table "Words" of docs/manual.md.
+# shellcheck shell=bash
+
+_tau() {
+    local word=${COMP_WORDS[COMP_CWORD]} before=${COMP_WORDS[COMP_CWORD-1]} commands="run check audit report print gen drill why cut" options="" command="" number="" at
+    local numbered=" gen drill why " reading=" run check audit report print why cut "
+    COMPREPLY=()
+    if [[ $COMP_CWORD -eq 1 ]]; then
+        mapfile -t COMPREPLY < <(compgen -W "$commands help version prove" -- "$word")
+        return
+    fi
+    for ((at = 1; at < COMP_CWORD; at++)); do
+        case ${COMP_WORDS[at]} in
+        -* | =) ;;
+        *)
+            if [[ ${COMP_WORDS[at-1]} == --* && ${COMP_WORDS[at-1]} != -- || ${COMP_WORDS[at-1]} == = ]]; then continue
+            elif [[ -z $command ]]; then command=${COMP_WORDS[at]}
+            else number=${COMP_WORDS[at]}
+            fi
+            ;;
+        esac
+    done
+    case $command in
+    run) options="--workers --jobs --seed --steps" ;;
+    help)
+        [[ $COMP_CWORD -gt 2 ]] || mapfile -t COMPREPLY < <(compgen -W "$commands" -- "$word")
+        return
+        ;;
+    esac
+    if [[ $before == --* && $before != -- || $before == = || $word == = ]]; then return; fi
+    if [[ $word == -* ]]; then
+        mapfile -t COMPREPLY < <(compgen -W "$options" -- "$word")
+        return
+    fi
+    [[ $reading == *" $command "* ]] || return
+    [[ $numbered != *" $command "* || -n $number ]] || return
+    compopt -o filenames
+    mapfile -t COMPREPLY < <(compgen -f -- "$word")
+}
+
+complete -F _tau tau
