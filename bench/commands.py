@@ -1,10 +1,11 @@
 #!/usr/bin/env python3
-"""Measures `tau run`, `tau check`, `tau audit`, `tau report` and `tau why` on runs of up to 200,000 steps: seconds of the processor, and
-the peak of the memory.
+"""Measures `tau run`, `tau check`, `tau audit`, `tau report`, `tau why` and `tau cut` on runs of up to 200,000 steps: seconds
+of the processor, and the peak of the memory.
 
 The runs are those of `tau run` with one worker. It builds the program by bin/tau where it isn't built, and prints a table; each
-command is run several times, and the median is shown. The aims are, for `check`, 0.3 seconds for a ring of 64, and one second and 150 MB
-for the ring of 2,000; 0.1 seconds for `run` of the chain; for `why` of the last Hold twice the time of `report`; and two seconds for each.
+command is run several times, and the median is shown. The aims are, for `check`, 0.3 seconds for a ring of 64, and one second and
+150 MB for the ring of 2,000; 0.1 seconds for `run` of the chain; for `why` of the last Hold, and for `cut` of 40,000 checkpoints,
+all In or all Out, twice the time of `report`; and two seconds for each.
 """
 
 import os
@@ -21,10 +22,11 @@ PROGRAM = programs.place("tau")
 RUNS = 5
 
 
+def behind(count, source):
+    """A source that never checkpoints, and a ring that hands its message round: each depends on the source.
 
-def held(count):
-    """A source that never stabilizes, and a ring that hands its message round: each depends on the source, and is held."""
-    lines = ["(nodes 1)", "(behaviour b0 (seq (set msg) (send (name t1) msg)))"]
+    A source that doesn't stabilize either has each of them held, and one that does has each checkpoint of theirs marked Out."""
+    lines = ["(nodes 1)", f"(behaviour b0 (seq {source} (send (name t1) msg)))"]
     for number in range(1, count + 1):
         following = f"(name t{number % count + 1})"
         lines.append(f"(behaviour b{number} {SAVE.replace('NEXT', following)})")
@@ -38,11 +40,12 @@ PROGRAMS = [
     ("a ring of 16 that forwards", ring(16, "(send NEXT msg)")),
     ("a ring of 64", ring(64, SET)),
     ("a ring of 64 that checkpoints", ring(64, SAVE)),
-    ("a ring of 63 that is held", held(63)),
+    ("a ring of 63 that is held", behind(63, "(set msg)")),
+    ("a ring of 63 whose checkpoints are Out", behind(63, "(set msg) (stabilize)")),
     ("a ring of 2,000 created, each sets", created_ring(2_000)),
     ("a chain of 1,000 created", chain(1_000)),
 ]
-COMMANDS = ["run", "check", "audit", "report", "why"]
+COMMANDS = ["run", "check", "audit", "report", "why", "cut"]
 
 
 def words_of(command, text):

@@ -4,8 +4,8 @@
 It has `bin/tau prove` build the program. For each row it prints the status, the line on standard error, seconds of the processor and
 the peak of the memory, and it ends with 1 where a row isn't what docs/manual.md says, or takes more than 5 seconds or 1.2 GB. The rows are
 
-- the cases of crates/show_commands, each by a process of its own, of which those are printed that take longest;
-- texts of 16 MiB;
+- the cases of crates/show_commands and crates/show_hostile, each by a process of its own, of which those are printed that take longest;
+- texts of 16 MiB, and what is one past a limit and no case;
 - standard input, output and error that are closed, full, at their end, no file, or not ready yet;
 - limits on memory, threads, the stack and the size of a file.
 
@@ -28,7 +28,7 @@ import time
 import programs
 
 PROGRAM = programs.place("tau")
-CASES = os.path.join(programs.ROOT, "crates", "show_commands")
+CASES = ["show_commands", "show_hostile"]
 LIMIT = 16 * 1024 * 1024
 
 # The most that a row may take, and the seconds after which its process is killed.
@@ -44,19 +44,28 @@ LONGEST = 8
 
 NOBODY = 65534
 
-# In a line `@COUNT TEXT` of the cases: the number of the time, or a byte.
-BRACED = re.compile(rb"\{([0-9A-F]*)\}")
+# In a line `@COUNT TEXT` of the cases, a byte. `{}` there is the number of the time.
+BYTE = re.compile(rb"\{([0-9A-F]{2})\}")
 
 # The lines on standard error, with their statuses (docs/manual.md, "Statuses").
 STOPPED = "tau: stopped at the step limit"
 READING = "tau: reading failed"
 WRITING = "tau: writing failed"
 MEMORY = "tau: out of memory"
-STATUSES = {"": 0, STOPPED: 1, "tau: a step is not legal": 4, READING: 5, WRITING: 6, MEMORY: 7, "tau: a checkpoint is not safe": 8}
+ILLEGAL = "tau: a step is not legal"
+STATUSES = {"": 0, STOPPED: 1, ILLEGAL: 4, READING: 5, WRITING: 6, MEMORY: 7, "tau: a checkpoint is not safe": 8}
 
 COPY = b"(nodes 1)\n(behaviour copy (seq (get) (set msg)))\n(start a copy 0 0)\n(post a 5)\n"
 SAVED = b"(saved a 1 0)\n(counts (checkpoints 0) (holds 0) (drops 0) (falls 0) (losses 0))\n"
 RUN_TEXT = COPY + b"(trace)\n(take a 0)\n(get a)\n(set a 5)\n(done a)\n(report)\n" + SAVED
+
+# A run text with a checkpoint that was held, at place 8, since the sink k has set its state by that of the source s.
+HELD = (
+    b"(nodes 1)\n(behaviour src (seq (set msg) (send (name k) (get))))\n(behaviour sink (seq (set msg) (stabilize) (checkpoint)))\n"
+    b"(start s src 0 0)\n(start k sink 0 0)\n(post s 7)\n"
+    b"(trace)\n(take s 0)\n(set s 7)\n(get s)\n(send s 1 k 7)\n(done s)\n(take k 1)\n(set k 7)\n(stabilize k)\n(hold k)\n"
+)
+CHAIN = b"(point k 1 0)\n(point s 1 0 6)\n"
 
 # Each command on a small input that has no fault, and the text that it writes; that of `gen 1` isn't told.
 COMMANDS = [
@@ -66,6 +75,8 @@ COMMANDS = [
     (["audit"], RUN_TEXT, b"safe\n"),
     (["report"], RUN_TEXT, SAVED),
     (["print"], RUN_TEXT, COPY),
+    (["why", "8"], HELD, CHAIN),
+    (["cut"], RUN_TEXT, b"(state a 1 0)\n"),
     (["gen", "1"], b"", None),
 ]
 
@@ -75,10 +86,17 @@ def input_fault(fault, at):
     return f"tau: input fault {fault} at {at}"
 
 
+def no_decision(place):
+    """The line for a place of which `why` has nothing to tell."""
+    return f"tau: no such decision at {place}"
+
+
 def status_of(line):
     """The status with which this line comes."""
     if line.startswith("tau: input fault "):
         return 3
+    if line.startswith("tau: no such decision at "):
+        return 11
     return 2 if line.startswith("tau: usage: ") else STATUSES[line]
 
 
@@ -160,7 +178,7 @@ class Rows:
         self.show(name, found, self.judge(found, lines, is_right, statuses))
 
 
-# The cases of show_commands.
+# The cases.
 
 
 def spelled(section):
@@ -171,56 +189,67 @@ def spelled(section):
             parts.append(line)
             continue
         count, text = line[1:-1].split(b" ", 1)
-        if b"{" not in text:
+        text = BYTE.sub(lambda found: bytes([int(found[1], 16)]), text)
+        if b"{}" in text:
+            parts += [text.replace(b"{}", b"%d" % number) for number in range(int(count))]
+        else:
             parts.append(text * int(count))
-            continue
-        for number in range(int(count)):
-            parts.append(BRACED.sub(lambda found: bytes([int(found[1], 16)]) if found[1] else b"%d" % number, text))
     return b"".join(parts)
 
 
-def sections_of(name):
+def sections_of(crate, name):
     """The lines that begin with `#` in a file of the cases, each with what follows it."""
-    with open(os.path.join(CASES, name), "rb") as file:
+    with open(os.path.join(programs.ROOT, "crates", crate, name), "rb") as file:
         text = file.read()
     return [part.split(b"\n", 1) for part in re.split(rb"^#", text, flags=re.MULTILINE)[1:]]
 
 
 def shown(shows, found):
-    """What show_commands writes of a command; `shows` is the number behind the `#`, if any."""
+    """What the program of the cases writes of a command. Behind the first `#` of its section stands a number, `#`, or nothing."""
     text = found.text.decode()
-    if shows:
-        lines = text.splitlines(keepends=True)
+    lines = text.splitlines(keepends=True)
+    if shows == "#":
+        steps = lines[lines.index("(trace)\n") + 1 : lines.index("(report)\n")]
+        text = f"; {len(steps)} steps, and the last two are\n" + "".join(steps[-2:])
+    elif shows:
         text = f"; lines: {len(lines)}\n" + "".join(lines[len(lines) - int(shows) :])
-    return f"{text}; {found.status} {found.line}".rstrip() + "\n"
+    ended = f"{text}; {found.status} {found.line}".rstrip() + "\n"
+    if shows != "#":
+        return ended
+    checked = run(["check"], lambda: found.text)
+    return f"{ended}; check {checked.status}\n{checked.text.decode()}"
 
 
-def add_cases(rows):
-    """The cases, of which those that take longest are printed, and those that aren't right. With `run` there is one worker. Those that
-    make a read or a write fail are left out.
+def found_of_cases(rows, crate):
+    """The name of each case of a crate, what was found, and what is wrong. With `run` there is one worker. Cases whose reads or writes
+    fail are left out.
     """
-    if not rows.wants("cases of show_commands"):
-        return
-    all_found = []
-    for (line, section), (_, wanted) in zip(sections_of("stdin"), sections_of("stdout"), strict=True):
-        shows, *words = line.decode().split(" ")
+    for (line, section), (_, wanted) in zip(sections_of(crate, "stdin"), sections_of(crate, "stdout"), strict=True):
+        command, _, title = line.decode().partition(" ; ")
+        shows, *words = command.split(" ")
         if shows == "!":
             continue
-        title = section.split(b"\n", 1)[0].decode().lstrip("@0; ")
+        title = title or section.split(b"\n", 1)[0].decode(errors="replace").lstrip("; ")
         if words[:1] == ["run"] and not any(word.startswith("--workers") for word in words):
             words += ["--workers", "1"]
         found = run([word for word in words if word], lambda section=section: spelled(section))
         is_right = shown(shows, found) == wanted.decode().replace("; with threads the same\n", "")
-        wrong = rows.judge(found, [found.line], is_right, [found.status])
-        all_found.append((f"{' '.join(words)}: {title}", found, wrong))
-    all_found.sort(key=lambda each: (each[2] is None, -each[1].seconds))
-    bad = sum(wrong is not None for _, _, wrong in all_found)
-    for name, found, wrong in all_found[: max(LONGEST, bad)]:
-        rows.show(name, found, wrong)
-    print(f"  .. and {len(all_found) - max(LONGEST, bad)} more cases of show_commands, which are right and shorter")
+        yield f"{' '.join(words)}: {title}", found, rows.judge(found, [found.line], is_right, [found.status])
 
 
-# Texts of 16 MiB.
+def add_cases(rows):
+    """The cases, of which those that take longest are printed, and those that aren't right."""
+    for crate in CASES:
+        if not rows.wants(f"cases of {crate}"):
+            continue
+        all_found = sorted(found_of_cases(rows, crate), key=lambda each: (each[2] is None, -each[1].seconds))
+        bad = sum(wrong is not None for _, _, wrong in all_found)
+        for name, found, wrong in all_found[: max(LONGEST, bad)]:
+            rows.show(name, found, wrong)
+        print(f"  .. and {len(all_found) - max(LONGEST, bad)} more cases of {crate}, which are right and shorter")
+
+
+# Texts of 16 MiB, and what is one past a limit.
 
 
 def behaviours():
@@ -261,7 +290,8 @@ TEXTS = [
     ("print", "16 MB of 1,000,000 steps", long_trace, "", lambda: COPY),
     ("audit", "16 MB of 1,000,000 steps", long_trace, "", lambda: b"safe\n"),
     ("report", "16 MB of 1,000,000 steps", long_trace, "", lambda: SAVED),
-    ("check", "16 MB of 1,000,000 steps", long_trace, "tau: a step is not legal", None),
+    ("check", "16 MB of 1,000,000 steps", long_trace, ILLEGAL, None),
+    ("why 999999", "16 MB of 1,000,000 steps", long_trace, no_decision(999_999), None),
 ]
 
 
@@ -270,7 +300,7 @@ def add_texts(rows):
     for command, title, text, line, written in TEXTS:
         name = f"{command}: {title}"
         if rows.wants(name):
-            words = [command, "--steps", "0"] if command == "run" else [command]
+            words = ["run", "--steps", "0"] if command == "run" else command.split(" ")
             rows.add(name, run(words, text), line, text=written)
 
 
@@ -286,6 +316,21 @@ def add_long_run(rows):
     is_right = found.text == program + b"(trace)\n" + b"".join(turns) + b"(report)\n" + SAVED
     rows.show(name, found, rows.judge(found, [STOPPED], is_right))
     rows.add("check: the same text", run(["check"], lambda: found.text), input_fault(10, LIMIT))
+
+
+def add_past(rows):
+    """A step New behind 2,048 transactors, which isn't legal, and a place past the last one that can be asked of, which is no number."""
+    name = "check: a step New behind 2,048 transactors"
+    if rows.wants(name):
+        program = b"(nodes 1)\n(behaviour par (fold msg unit (k i) (new kid 0 0)))\n(behaviour kid unit)\n(start p par 0 0)\n"
+        post = b"(post p (list%s))\n" % (b" 0" * 2048)
+        steps = [b"(new p %d kid 0 0)\n" % number for number in range(1, 2049)]
+        found = run(["check"], lambda: program + post + b"(trace)\n(take p 0)\n" + b"".join(steps))
+        rows.show(name, found, rows.judge(found, [ILLEGAL], found.text == b"bad step 2048\n"))
+    for number, status in [(2**64 - 1, 11), (2**64, 2)]:
+        name = f"why: the place {number}"
+        if rows.wants(name):
+            rows.add(name, run(["why", str(number)], lambda: HELD), statuses=[status])
 
 
 # Ends.
@@ -461,7 +506,7 @@ def add_others(rows):
     deep = b"(nodes 1)\n(behaviour b %sunit%s)\n(start a b 0 0)\n(post a 0)\n" % (b"(seq " * 199, b")" * 199)
     done = b"(trace)\n(take a 0)\n(done a)\n(report)\n" + SAVED
     if rows.wants("run: a stack"):
-        for kilobytes in [256, 1024]:
+        for kilobytes in [512, 1024]:
             found = run(["run"], lambda: deep, before=limited((resource.RLIMIT_STACK, kilobytes * 1024)))
             rows.add(f"run: a stack of {kilobytes} KB for lists in 200 lists", found, "", text=lambda: deep + done)
     if rows.wants("run: one more open file"):
@@ -488,6 +533,7 @@ def main():
         add_cases,
         add_texts,
         add_long_run,
+        add_past,
         add_inputs,
         add_outputs,
         add_fronts,

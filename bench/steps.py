@@ -36,6 +36,19 @@ def chain(count):
     return f"(nodes 1)\n(behaviour c {body})\n(start t c 0 0)\n(post t {count})\n"
 
 
+def beside(text, count, body):
+    """The program with one more transactor, whose behaviour has this body, and so many messages for it, behind those of the program."""
+    lines = text.rstrip("\n").split("\n")
+    first = next(at for at, line in enumerate(lines) if line.startswith("(behaviour"))
+    lines.insert(first, f"(behaviour r {body})")
+    last = max(at for at, line in enumerate(lines) if line.startswith("(start"))
+    lines.insert(last + 1, "(start r r 0 0)")
+    return "\n".join(lines + ["(post r 1)"] * count) + "\n"
+
+
+ROLLBACK = "(rollback)"
+SENT_AND_LOST = "(seq (send (name t0) 1) (rollback))"
+
 GETS = "(nodes 1)\n(behaviour a (fold msg unit (k i) (get)))\n(start a a 0 0)\n(post a (list" + ' "x"' * 30_000 + "))\n"
 NEWS = (
     "(nodes 1)\n(behaviour p (fold msg unit (k i) (new q 0 0)))\n(behaviour q unit)\n(start p p 0 0)\n(post p (list"
@@ -52,6 +65,10 @@ PROGRAMS = [
     ("a ring of 64", ring(64, SET), LONG),
     ("a ring of 64 that checkpoints", ring(64, SAVE), LONG),
     ("a ring of 2,000 created, each sets", created_ring(2_000), (20_000, 200_000)),
+    ("the ring of 64 after one rollback", beside(ring(64, SET), 1, ROLLBACK), LONG),
+    ("the ring of 2,000 after one rollback", beside(created_ring(2_000), 1, ROLLBACK), (20_000, 200_000)),
+    ("a ring of 250", ring(250, SET), (20_000, 200_000)),
+    ("the ring of 250, 4,000 sends rolled back", beside(ring(250, SET), 4_000, SENT_AND_LOST), (20_000, 200_000)),
     ("a chain of 1,000 created", chain(1_000), (200_000,)),
     ("a turn of 30,000 Gets, message of 60,001 parts", GETS, (200_000,)),
     ("a turn that makes 2,047 transactors", NEWS, (200_000,)),
