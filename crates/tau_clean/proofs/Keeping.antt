@@ -4,7 +4,7 @@ use Rattle.std.specs.Prelude.{slice_get, option_and_then}
 use Rattle.std.specs.Bool.{OnTrue, OnFalse}
 use Rattle.tau_points.specs.declared.point.Point.{Point}
 use Rattle.tau_trace.specs.declared.step.Step.{Step}
-use Rattle.tau_trace.specs.declared.step.Step.TheVariants.{Take, Fall, Set, New, Rollback, Trap, Fail}
+use Rattle.tau_trace.specs.declared.step.Step.TheVariants.{Take, Heed, Fall, Set, New, Rollback, Trap, Fail}
 use Rattle.tau_trace.specs.Steps.{actor}
 use Rattle.tau_trace.specs.Run.{Run, len, step_at, appended}
 use Rattle.tau_trace.specs.Numbering.{born}
@@ -90,3 +90,7 @@ taker_exists T s t follows is = by s is follows.known where
 -- and so does the one that takes a message
 pub receiver_exists : (T : Run) (s : Step) (t m : ℕ) → MayFollow T s → s ≡ Take t m → t < born T (len T)
 receiver_exists T s t m follows is = let F : Step → Type 0 = IsKnownAt T (len T) in (subst F is follows.known).0
+
+-- and the one that heeds a message
+pub heeder_exists : (T : Run) (s : Step) (t m : ℕ) → MayFollow T s → s ≡ Heed t m → t < born T (len T)
+heeder_exists T s t m follows is = let F : Step → Type 0 = IsKnownAt T (len T) in (subst F is follows.known).0

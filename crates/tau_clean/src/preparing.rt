@@ -1,7 +1,7 @@
 //! What a step changes, with room for it.
 ghost use Rattle.std.specs.Bool.{OnTrue, OnFalse};
 ghost use Rattle.std.specs.Prelude.{◌≡◌, ◌<◌, IfOk, Some};
-ghost use Rattle.tau_trace.specs.declared.step.Step.TheVariants.{Take};
+ghost use Rattle.tau_trace.specs.declared.step.Step.TheVariants.{Take, Heed};
 ghost use Rattle.tau_trace.specs.Run.{len, appended};
 ghost use Rattle.tau_trace.specs.Numbering.{born, InFlight};
 ghost use Rattle.tau_trace.specs.Known.{MayFollow};
@@ -24,8 +24,8 @@ use tau_taking::mark;
 use tau_trace::{Step, Trace};
 
 impl MarkedHearing {
-    /// What a step at the end of the run changes, with all memory that it takes. What was heard stays the same; a Take may add marks.
-    /// The error is want of memory.
+    /// What a step at the end of the run changes, with all memory that it takes. What was heard stays the same; a Take and a Heed may
+    /// add marks. The error is want of memory.
     pub fn prepare_change(
         &mut self,
         alloc: Global,
@@ -44,7 +44,7 @@ impl MarkedHearing {
         Ok(MarkedChange { change, taints })
     }
 
-    /// Marks what the receipt of a Take shows to be clean, after the first falling step. The error is want of memory.
+    /// Marks what the receipt of a Take or a Heed shows to be clean, after the first falling step. The error is want of memory.
     fn mark_by(&mut self, alloc: Global, trace: &Trace, step: &Step) -> Result<(), AllocError>
         requires knows { KnowsMarked self.old trace.now.run }
         requires follows { MayFollow trace.now.run step.now }
@@ -56,6 +56,7 @@ impl MarkedHearing {
         }
         match step {
             Step::Take { who, message } => self.mark_taken(alloc, trace, step, *who, *message),
+            Step::Heed { who, message } => self.mark_heeded(alloc, trace, step, *who, *message),
             _ => Ok(()),
         }
     }
@@ -73,6 +74,24 @@ impl MarkedHearing {
         requires follows { MayFollow trace.now.run step.now }
         requires ready { IsReady trace.now.run step.now }
         requires kind { step.now ≡ Take who message }
+        ensures { KnowsMarked self.new trace.now.run }
+    {
+        self.mark_receipt(alloc, trace, who, message)
+    }
+
+    /// The same of a Heed.
+    fn mark_heeded(
+        &mut self,
+        alloc: Global,
+        trace: &Trace,
+        step: &Step,
+        who: u32,
+        message: u32,
+    ) -> Result<(), AllocError>
+        requires knows { KnowsMarked self.old trace.now.run }
+        requires follows { MayFollow trace.now.run step.now }
+        requires ready { IsReady trace.now.run step.now }
+        requires kind { step.now ≡ Heed who message }
         ensures { KnowsMarked self.new trace.now.run }
     {
         self.mark_receipt(alloc, trace, who, message)

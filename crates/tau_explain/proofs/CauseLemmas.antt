@@ -11,7 +11,7 @@ use Rattle.tau_trace.specs.Run.{Run, ActsAt}
 use Rattle.tau_trace.specs.Histories.{Falls}
 use Rattle.tau_trace.specs.Points.{point_at, Stabilizes}
 use Rattle.tau_trace.specs.declared.step.Step.TheVariants.{Stabilize}
-use Rattle.tau_trace.specs.Numbering.{IsOrigin}
+use Rattle.tau_trace.specs.Numbering.{IsOrigin, IsSendAt}
 use Rattle.tau_trace.proofs.Lists.{same_some}
 use Rattle.tau_trace.proofs.Quiet.{acts}
 use Rattle.tau_trace.proofs.Once.{origin_once}
@@ -135,10 +135,10 @@ marked_read marks k d lt e = slice_get-get_or marks k d lt ∙ ap (λ (b : Bool)
 pub unmarked_read : (marks : List Bool) (k : ℕ) (d : Bool) → k < length marks → get_or marks k d ≡ false → ¬ IsMarked marks k
 unmarked_read marks k d lt e m = let f = sym m ∙ slice_get-get_or marks k d lt ∙ ap (λ (b : Bool). Some b) e in cc
 
--- what is carried at the origin of a message
-pub sent_told : (T : Run) (m place by : ℕ) (xs : List Point) → IsOrigin T place by m → ((q : Point) → Contains xs q ↔ Carried T place q) → (q : Point) → Contains xs q ↔ SentWith T m q
-sent_told T m place by xs origin told q = (
-  λ h. record { place = place; by = by; origin = origin; carried = (told q).0 h },
+-- what is carried at the Send that is the origin of a message
+pub sent_told : (T : Run) (m place by : ℕ) (xs : List Point) → IsOrigin T place by m → IsSendAt T place → ((q : Point) → Contains xs q ↔ Carried T place q) → (q : Point) → Contains xs q ↔ SentWith T m q
+sent_told T m place by xs origin send told q = (
+  λ h. record { place = place; by = by; origin = origin; send = send; carried = (told q).0 h },
   λ s. (told q).1 (subst (λ j. Carried T j q) (origin_once T s.place place s.by by m s.origin origin) s.carried),
 )
 

@@ -11,7 +11,7 @@ ghost use Rattle.tau_explain.specs.Inner.Hearing.{IsMarked};
 ghost use Rattle.tau_explain.specs.Inner.Causes.{FellAt, StabilizedAt, IsMadePoint, IsCandidate, IsUnfirm, IsSettled, AddsUnfirm};
 
 use std::alloc::{AllocError, Global};
-use tau_past::{Index, carried};
+use tau_past::{Index, carried, send_of};
 use tau_points::{Point, PointSet};
 use tau_trace::{Step, Trace};
 
@@ -26,7 +26,7 @@ pub(crate) fn own_point(index: &Index, place: u32) -> Point
     }
 }
 
-/// The points that a message carries.
+/// The points that a message carries: what the Send does that is its origin.
 pub(crate) fn sent_points(
     alloc: Global,
     trace: &Trace,
@@ -35,7 +35,7 @@ pub(crate) fn sent_points(
     ensures ascending { IfOk result IsAscending }
     ensures members { IfOk result (λ set. (q : Point) → Contains set q ↔ SentWith trace.now.run message q) }
 {
-    match trace.origin(message) {
+    match send_of(trace, message) {
         Some(place) => carried(alloc, trace, place),
         None => Ok(PointSet::new(alloc)),
     }

@@ -39,19 +39,20 @@ fn made_by(trace: &Trace, place: u32) -> Option<u32>
     }
 }
 
-/// The message whose Send the step hears of; `None` where it hears of none (docs/definitions.md, "Heard").
+/// The message whose origin the step hears of; `None` where it hears of none (docs/definitions.md, "Heard").
 fn heard_by(step: &Step) -> Option<u32>
     ensures { result ≡ heard.heard_by step.now }
 {
     match step {
-        Step::Take { message, .. } | Step::Drop { message, .. } | Step::Fall { message, .. } => {
-            Some(*message)
-        }
+        Step::Take { message, .. }
+        | Step::Drop { message, .. }
+        | Step::Fall { message, .. }
+        | Step::Heed { message, .. } => Some(*message),
         _ => None,
     }
 }
 
-/// The place of the Send that the step at a place hears of.
+/// The place of the origin of the message that the step at a place hears of.
 fn heard_from(trace: &Trace, place: u32) -> Option<u32>
     ensures { HearsFrom trace.now.run place result }
 {

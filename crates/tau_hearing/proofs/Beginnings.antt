@@ -54,7 +54,7 @@ module _ (o : Opening) (sound : IsSound o) (logs : List Told) (own : List kept.O
   T = opened o
 
   known : WellFormed T
-  known = record { opening = sound; known = λ k s e. absurd (cc); few_steps = omega arith }
+  known = record { opening = sound; known = λ k s e. absurd (cc); versions = λ k s e. absurd (cc); few_steps = omega arith }
 
   born_first : born T 0 ≡ length o.names
   born_first = omega (arith, count-zero (λ j. option_map_or is_new (step_at T j) false))

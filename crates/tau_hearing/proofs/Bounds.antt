@@ -7,7 +7,7 @@ use Rattle.std.proofs.lemmas.List.{get_or_past}
 use Rattle.std.proofs.lemmas.Option.{slice_get_within}
 use Rattle.tau_points.specs.Reach.{start}
 use Rattle.tau_trace.specs.Run.{Run, ActsAt}
-use Rattle.tau_trace.specs.Numbering.{born, sent, IsNew, IsSent, direct, HasSender}
+use Rattle.tau_trace.specs.Numbering.{born, sent, IsNew, IsOrigin, copied, HasSender}
 use Rattle.tau_trace.specs.Histories.{history}
 use Rattle.tau_trace.specs.Known.{WellFormed}
 use Rattle.tau_trace.proofs.Agreement.{born-grows}
@@ -16,7 +16,7 @@ use Rattle.tau_trace.proofs.Once.{new-rises, origin_acts}
 use Rattle.tau_past.specs.Heard.{own_step, Heard, HeardBy, HeardTogether, HoldsStepsBefore, Bound}
 use Rattle.tau_past.specs.KnownLaws.{HearsOf, HearsOfNone, IsSame, Union, With}
 use Rattle.tau_past.proofs.Known.{acts_known, hears_known, heard_before, heard_by_before}
-use Rattle.tau_past.proofs.HeardLemmas.{new_acts, heard_grows, heard_after_step, heard_with_sender}
+use Rattle.tau_past.proofs.HeardLemmas.{new_acts, heard_grows, heard_after_step, heard_with_sender, copies_hear}
 use Rattle.tau_past.proofs.BoundLemmas.{union_bound, bounds_with_step, has_bounds}
 use Rattle.tau_logs.specs.declared.version.Version.{Version}
 use Rattle.tau_logs.specs.Versions.{IsVersionOf, IsLatest}
@@ -26,7 +26,7 @@ use Rattle.tau_hearing.specs.declared.letter.Sender.{Sender}
 use Rattle.tau_hearing.specs.Bounds.{TellsNumber, TellsBounds, TellsHeardBy, last_number, AreRaised}
 use Rattle.tau_search.specs.Logs.{AreLogs}
 use Rattle.tau_hearing.specs.Logs.{LogsGoOn}
-use Rattle.tau_hearing.specs.Laws.{LogsFollow, BoundsTogether, TellsNext, BoundsAfterStep, BoundsStepByStep, LettersStay}
+use Rattle.tau_hearing.specs.Laws.{LogsFollow, BoundsTogether, TellsNext, BoundsAfterStep, BoundsStepByStep, LettersStay, CopiesHearAlike}
 
 -- Numbers at places.
 
@@ -293,8 +293,8 @@ module _ (T : Run) (n : ℕ) (old new : List Told) (known : WellFormed T) (follo
         same_bounds T (With (HeardTogether T t n m) n) (Heard T t (suc n)) (suc n) new t (last_number new t) zs (back (Heard T t (suc n)) (With (HeardTogether T t n m) n) ((heard_after_step T t n known).hearing m acts hears))
         (bounds_with (HeardTogether T t n m) t (last_number old t) zs (together_before m there) acts ((has_bounds T n known).together t m exists there) both)
 
-    message : (m : ℕ) → IsSent T n t m → TellsBounds T (HeardBy T m) (suc n) new t (last_number new t) xs
-    message m s = same_bounds T (With (Heard T t n) n) (HeardBy T m) (suc n) new t (last_number new t) xs (back (HeardBy T m) (With (Heard T t n) n) (heard_with_sender T m n t (direct s))) (stepped (origin_acts T n t m (direct s)))
+    message : (m : ℕ) → IsOrigin T n t m → TellsBounds T (HeardBy T m) (suc n) new t (last_number new t) xs
+    message m s = same_bounds T (With (Heard T t n) n) (HeardBy T m) (suc n) new t (last_number new t) xs (back (HeardBy T m) (With (Heard T t n) n) (heard_with_sender T m n t s)) (stepped (origin_acts T n t m s))
 
     newborn : (u : ℕ) (zs : List ℕ) → IsNew T n t u → last_number new u ≡ 0 → AreRaised xs t (last_number new t) [] zs → TellsNext T u n new zs
     newborn u zs b first z = same_bounds T (With (Heard T t n) n) (Heard T u (suc n)) (suc n) new u (last_number new u) zs (back (Heard T u (suc n)) (With (Heard T t n) n) ((heard_after_step T u n known).created t b)) ours where
@@ -335,3 +335,9 @@ bounds_step_by_step T t n old new xs known exists follow x = after_step T n old 
 
 pub letters_stay : LettersStay
 letters_stay T m n old new sender known exists follow x = letter_stays T n old new known follow m sender exists x
+
+-- a copy has heard what the message that it repeats has heard
+pub copies_hear_alike : CopiesHearAlike
+copies_hear_alike T k n m at logs None c x = λ u lt. same_told T (HeardBy T n) (HeardBy T m) at logs u 0 (back (HeardBy T m) (HeardBy T n) (copies_hear T k n m c)) (x u lt)
+copies_hear_alike T k n m at logs (Some s) c x =
+    (record { place = x.0.place; origin = copied {k = k} {n = n} c x.0.origin }, same_bounds T (HeardBy T n) (HeardBy T m) at logs s.who s.version s.numbers.value.items (back (HeardBy T m) (HeardBy T n) (copies_hear T k n m c)) x.1)

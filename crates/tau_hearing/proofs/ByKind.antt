@@ -4,7 +4,7 @@ use Rattle.std.specs.Prelude.{slice_get}
 use Rattle.tau_history.specs.Timeline.{Timeline, Move, keep, stabilize, close, fall, moved}
 use Rattle.tau_points.specs.declared.point.Point.{Point}
 use Rattle.tau_trace.specs.declared.step.Step.{Step}
-use Rattle.tau_trace.specs.declared.step.Step.TheVariants.{Take, Drop, Fall, Void, Get, Skip, Ask, Stabilize, Checkpoint, Hold, Rollback, Stay, Done, Trap, Fail}
+use Rattle.tau_trace.specs.declared.step.Step.TheVariants.{Take, Drop, Heed, Fall, Void, Get, Skip, Ask, Stabilize, Checkpoint, Hold, Rollback, Stay, Done, Trap, Fail}
 use Rattle.tau_trace.specs.Steps.{actor, removed_by, ends_turn, is_new, makes_message}
 use Rattle.tau_trace.specs.Run.{Run, len, appended, Does}
 use Rattle.tau_trace.specs.Histories.{history, move_at, move_of, is_fall}
@@ -34,7 +34,7 @@ use Rattle.tau_hearing.specs.Laws.{WithoutClosed}
 use Rattle.tau_search.specs.Logs.{TellsLog}
 use Rattle.tau_hearing.specs.Logs.{KeepsLatest}
 use Rattle.tau_hearing.specs.Moves.{IsAdded}
-use Rattle.tau_hearing.specs.Next.{IsNext, actor_change, turn_change, only_touches, only_ends, falls_if_volatile, IsLast, IsMoved, IsOnlyOne}
+use Rattle.tau_hearing.specs.Next.{IsNext, actor_change, turn_change, only_touches, only_hears, only_ends, falls_if_volatile, IsLast, IsMoved, IsOnlyOne}
 use Rattle.tau_hearing.specs.Turns.{TellsTurn}
 use Rattle.tau_hearing.proofs.Bounds.{last_tells}
 use Rattle.tau_hearing.proofs.Leading as lead
@@ -66,6 +66,20 @@ idle_failure : (s : Step) → IsTrue (falls_if_volatile s) → IsIdle true s
 idle_failure (Trap t c) e = record { new = refl; send = refl; set = refl; hears = refl; keeps = refl }
 idle_failure (Fail t) e = record { new = refl; send = refl; set = refl; hears = refl; keeps = refl }
 idle_failure s e = absurd (cc)
+
+-- a step that hears of a message and does nothing else
+record IsHearing (stable : Bool) (s : Step) : Type 0 where
+  new : is_new s ≡ false
+  send : makes_message s ≡ false
+  set : is_set s ≡ false
+  keeps : move_of stable s ≡ keep
+  removed : removed_by s ≡ heard_by s
+  pending : keeps_pending s ≡ true
+
+only_hearing : (b : Bool) (s : Step) → IsTrue (only_hears s) → IsHearing b s
+only_hearing b (Drop t m) e = record { new = refl; send = refl; set = refl; keeps = refl; removed = refl; pending = refl }
+only_hearing b (Heed t m) e = record { new = refl; send = refl; set = refl; keeps = refl; removed = refl; pending = refl }
+only_hearing b s e = absurd (cc)
 
 only_ends-ends : (s : Step) → IsTrue (only_ends s) → IsTrue (ends_turn s)
 only_ends-ends (Hold t) e = refl
@@ -280,10 +294,12 @@ module _ (h : Hearing) (T : Run) (s : Step) (next : IsNext h T s) (t : ℕ) (by 
         own_fits = hear_room hears m heard only;
       })
 
-  pub drop_leads : (m : ℕ) (hears : Option ℕ) → s ≡ Drop t m → HearsRightly U t n h.letters.items hears → IsOnlyOne hears m
+  pub hearing_leads : (m : ℕ) (hears : Option ℕ) → IsTrue (only_hears s) → heard_by s ≡ Some m → HearsRightly U t n h.letters.items hears → IsOnlyOne hears m
       → Leads h (actor_change (record { who = t; hears = hears; log = log.Stays; turn = turn.Stays }) (Some m) false) U
-  drop_leads m hears kind right only = heard_leads m turn.Stays hears (ap is_new kind) (ap makes_message kind) (ap is_set kind) (ap (move_of stable) kind) (ap heard_by kind) (ap removed_by kind)
-      (λ roots touched depended x. (turns_step_by_step U t n roots touched depended (lead.known h T s next) x).keeping (lead.does h T s next keeps_pending t by (ap keeps_pending kind))) right only
+  hearing_leads m hears kind heard right only =
+      let p = only_hearing stable s kind in
+      heard_leads m turn.Stays hears p.new p.send p.set p.keeps heard (p.removed ∙ heard)
+      (λ roots touched depended x. (turns_step_by_step U t n roots touched depended (lead.known h T s next) x).keeping (lead.does h T s next keeps_pending t by p.pending)) right only
 
   pub take_leads : (m : ℕ) (hears : Option ℕ) (l : Letter) (left : List Point) → s ≡ Take t m → slice_get h.letters.items m ≡ Some (Some l) → WithoutClosed U (Heard U t (suc n)) l.roots left
       → HearsRightly U t n h.letters.items hears → IsOnlyOne hears m

@@ -5,14 +5,16 @@ use Rattle.std.specs.Option.{option_map, option_map_or}
 use Rattle.std.proofs.lemmas.Bool.{cases_eq}
 use Rattle.std.proofs.lemmas.Option.{slice_get_within}
 use Rattle.tau_trace.specs.Run.{Run, ActsAt}
-use Rattle.tau_trace.specs.Numbering.{born, sent, HasSender, InFlight, direct}
+use Rattle.tau_trace.specs.Numbering.{born, sent, IsOrigin, HasSender, InFlight, direct, echoed}
 use Rattle.tau_trace.specs.Known.{WellFormed}
 use Rattle.tau_trace.proofs.Counts.{count-suc}
 use Rattle.tau_trace.proofs.Lists.{same_some, slice_get-front, slice_get-last, slice_get-push_cases}
-use Rattle.tau_trace.proofs.Once.{new-rises, sent-rises}
+use Rattle.tau_trace.proofs.Once.{new-rises, IsMaker, sent_maker, echoed_maker, repeated_maker, maker-rises}
 use Rattle.tau_past.specs.Heard.{HeardBy}
 use Rattle.tau_past.proofs.Known.{acts_known}
+use Rattle.tau_points.specs.declared.point.Point.{Point}
 use Rattle.tau_logs.specs.Told.{Told}
+use Rattle.tau_logs.specs.Takes.{TellsSent}
 use Rattle.tau_hearing.specs.declared.own.Own.{Own}
 use Rattle.tau_hearing.specs.declared.letter.Letter.{Letter}
 use Rattle.tau_hearing.specs.declared.letter.Sender.{Sender}
@@ -25,16 +27,16 @@ use Rattle.tau_hearing.specs.declared.change.HearingChange.{HearingChange}
 use Rattle.tau_hearing.specs.After.{with_last, without, one_if, ActorAfter, IsActorAfter, IsAfter}
 use Rattle.tau_hearing.specs.Bounds.{TellsBounds, TellsHeardBy, last_number, AreRaised}
 use Rattle.tau_hearing.specs.Changed.{IsLogAfter, IsHeardAfter, AreRaisedBy, IsOwnAfter}
-use Rattle.tau_hearing.specs.Facts.{HearsRightly, ActorFollows, FollowsActor, FollowsBirth, FollowsLetter, IsChange, ChangesFollow}
+use Rattle.tau_hearing.specs.Facts.{HearsRightly, ActorFollows, FollowsActor, FollowsBirth, CarriesRightly, sends, echoes, IsSameSender, FollowsLetter, IsChange, ChangesFollow}
 use Rattle.tau_hearing.specs.Falls.{falls_at, falling_steps}
 use Rattle.tau_hearing.specs.Hears.{TellsOwn, TellsLetter, Hears}
 use Rattle.tau_hearing.specs.Laws.{LogsFollow, TellsNext, BoundsAfterStep, TurnAfterStep}
 use Rattle.tau_search.specs.Logs.{TellsLog, AreLogs}
 use Rattle.tau_hearing.specs.Logs.{KeepsLatest, LogsGoOn}
 use Rattle.tau_hearing.specs.Turns.{TellsTurn}
-use Rattle.tau_hearing.proofs.Bounds.{bounds_step_by_step, letters_stay}
+use Rattle.tau_hearing.proofs.Bounds.{bounds_step_by_step, letters_stay, copies_hear_alike}
 use Rattle.tau_hearing.proofs.Moves.{logs_step_by_step}
-use Rattle.tau_hearing.proofs.Turns.{turns_step_by_step, carried_stays}
+use Rattle.tau_hearing.proofs.Turns.{turns_step_by_step, carried_stays, copies_carry_alike}
 
 -- Lists with one item more.
 
@@ -356,20 +358,50 @@ module _ (T : Run) (n : ℕ) (known : WellFormed T) (h : Hearing) (c : HearingCh
         roots = carried_stays T m n l.roots y.roots;
       }
 
-  letter_of : (o : Option ActorChange) (l : Letter) → FollowsActor T n Ls L O o → IsActorAfter o Ls L M O P → FollowsLetter T n L O o (Some l) → TellsLetter T (sent T n) (suc n) G l
-  letter_of None l f is w = absurd w
+  -- the origin of the message that the step makes, and what it carries
+  origin_of : (t : ℕ) (roots : List Point) → CarriesRightly T n O t roots → IsOrigin T n t (sent T n)
+  origin_of t roots (sends s c) = direct s
+  origin_of t roots (echoes {m = m} e is) = echoed {n = m} e
+
+  carried_of : (a : ActorChange) (y : Own) → slice_get O a.who ≡ Some y → TellsOwn T a.who n L y → (roots : List Point) → CarriesRightly T n O a.who roots → TellsSent T (sent T n) (suc n) roots
+  carried_of a y e tells roots (sends s c) = (after_turn a.who y tells).message (sent T n) roots s (c y e)
+  carried_of a y e tells roots (echoes {m = m} o is) = let F : List Point → Type 0 = TellsSent T (sent T n) (suc n) in subst F (sym is) ((after_turn a.who y tells).notice m (sent T n) o)
+
+  maker_of : (t : ℕ) (roots : List Point) → CarriesRightly T n O t roots → IsMaker T n (sent T n)
+  maker_of t roots (sends s c) = sent_maker T n t (sent T n) s
+  maker_of t roots (echoes {m = m} e is) = echoed_maker T n t m (sent T n) e
+
+  -- what is told of a sender is told of the same one
+  same_sender : (m k : ℕ) (logs : List Told) (s r : Option Sender) → IsSameSender s r → TellsHeardBy T m k logs s → TellsHeardBy T m k logs r
+  same_sender m k logs None None e h = h
+  same_sender m k logs (Some s) (Some r) e h =
+      let F : ℕ → Type 0 = λ u. HasSender T m u × TellsBounds T (HeardBy T m) k logs u s.version s.numbers.value.items in
+      let H : ℕ → Type 0 = λ v. HasSender T m r.who × TellsBounds T (HeardBy T m) k logs r.who v s.numbers.value.items in
+      let K : List ℕ → Type 0 = λ xs. HasSender T m r.who × TellsBounds T (HeardBy T m) k logs r.who r.version xs in
+      subst K (sym e.2) (subst H (sym e.1) (subst F (sym e.0) h))
+  same_sender m k logs None (Some r) e h = absurd e
+  same_sender m k logs (Some s) None e h = absurd e
+
+  letter_of : (o : Option ActorChange) (l : Letter) → FollowsActor T n Ls L O o → IsActorAfter o Ls L M O P → FollowsLetter T n Ls L O o (Some l) → TellsLetter T (sent T n) (suc n) G l
+  letter_of None l f is w =
+      let y = old_letter w.repeated w.letter w.stands in
+      let F : List Point → Type 0 = TellsSent T (sent T n) (suc n) in record {
+        heard = same_sender (sent T n) (suc n) G w.letter.sender l.sender w.sender (copies_hear_alike T n w.repeated (sent T n) (suc n) G w.letter.sender w.copies y.heard);
+        roots = subst F (sym w.roots) (copies_carry_alike T n w.repeated (sent T n) (suc n) w.letter.roots w.copies y.roots);
+      }
   letter_of (Some a) l f is w =
       let y = actor_own a f.acts in
       let there = acts_known T a.who n known f.acts in
-      let told = (bounds a.who y.0 there y.2).message (sent T n) w.send in
+      let origin = origin_of a.who l.roots w.carries in
+      let told = (bounds a.who y.0 there y.2).message (sent T n) origin in
       let version : last_number G a.who ≡ w.sender.version = stays_last a f.acts w.log_stays is ∙ sym w.version in
       let F : ℕ → Type 0 = λ v. TellsBounds T (HeardBy T (sent T n)) (suc n) G a.who v y.0.numbers.numbers in
       let H : List ℕ → Type 0 = λ xs. TellsBounds T (HeardBy T (sent T n)) (suc n) G a.who w.sender.version xs in
       let K : ℕ → Type 0 = λ s. HasSender T (sent T n) s × TellsBounds T (HeardBy T (sent T n)) (suc n) G s w.sender.version w.sender.numbers.value.items in
       let Q : Option Sender → Type 0 = TellsHeardBy T (sent T n) (suc n) G in
       record {
-        heard = subst Q (sym w.is_sender) (subst K (sym w.who) (record { place = n; origin = direct w.send }, subst H (sym (w.numbers y.0 y.1)) (subst F version told)));
-        roots = (after_turn a.who y.0 y.2).message (sent T n) l.roots w.send (w.roots y.0 y.1);
+        heard = subst Q (sym w.is_sender) (subst K (sym w.who) (record { place = n; origin = origin }, subst H (sym (w.numbers y.0 y.1)) (subst F version told)));
+        roots = carried_of a y.0 y.1 y.2 l.roots w.carries;
       }
 
   left_count : length (without c.gone Ls) ≡ sent T n
@@ -380,15 +412,15 @@ module _ (T : Run) (n : ℕ) (known : WellFormed T) (h : Hearing) (c : HearingCh
     new_letter : m ≡ length (without c.gone Ls) → option_map Some c.letter ≡ Some (Some l) → TellsLetter T m (suc n) G l
     new_letter at is =
         let b = map_some Some c.letter (Some l) is in
-        let F : Option Letter → Type 0 = FollowsLetter T n L O c.actor in
+        let F : Option Letter → Type 0 = FollowsLetter T n Ls L O c.actor in
         let H : ℕ → Type 0 = λ k. TellsLetter T k (suc n) G l in
         let K : Letter → Type 0 = TellsLetter T (sent T n) (suc n) G in
         subst H (sym (at ∙ left_count)) (subst K (same_some b.2) (letter_of c.actor b.0 change.actor after.actor (subst F b.1 change.letter)))
 
-  sent_next : (o : Option ActorChange) (l : Option Letter) → FollowsLetter T n L O o l → sent T (suc n) ≡ sent T n + one_more l
+  sent_next : (o : Option ActorChange) (l : Option Letter) → FollowsLetter T n Ls L O o l → sent T (suc n) ≡ sent T n + one_more l
   sent_next o None w = omega (arith, w)
-  sent_next None (Some l) w = absurd w
-  sent_next (Some a) (Some l) w = sent-rises T n a.who (sent T n) w.send
+  sent_next None (Some l) w = maker-rises T n (sent T n) (repeated_maker T n w.repeated (sent T n) w.copies)
+  sent_next (Some a) (Some l) w = maker-rises T n (sent T n) (maker_of a.who l.roots w.carries)
 
   letter_count : length g.letters.items ≡ sent T (suc n)
   letter_count = omega (arith, ap length after.letters, length-with_last (option_map Some c.letter) (without c.gone Ls), map_one Some c.letter, left_count, sent_next c.actor c.letter change.letter)

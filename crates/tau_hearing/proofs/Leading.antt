@@ -6,14 +6,14 @@ use Rattle.std.proofs.lemmas.Option.{slice_get_within}
 use Rattle.tau_history.specs.Timeline.{Timeline, Move, keep, close, fall, moved}
 use Rattle.tau_points.specs.declared.point.Point.{Point}
 use Rattle.tau_trace.specs.declared.step.Step.{Step}
-use Rattle.tau_trace.specs.declared.step.Step.TheVariants.{Get, Skip, Ask, Lose}
+use Rattle.tau_trace.specs.declared.step.Step.TheVariants.{Get, Skip, Ask, Lose, Repeat}
 use Rattle.tau_trace.specs.Steps.{actor, removed_by, is_new, makes_message}
 use Rattle.tau_trace.specs.Run.{Run, len, step_at, appended, starts, ActsAt, Does}
 use Rattle.tau_trace.specs.Numbering.{born, HasSender}
 use Rattle.tau_trace.specs.Histories.{history, move_at, move_of, is_fall, is_close}
 use Rattle.tau_trace.specs.Known.{WellFormed}
 use Rattle.tau_trace.specs.Turns.{HasOpenTurn}
-use Rattle.tau_trace.proofs.Agreement.{agree_appended, step_at-appended, history-same, same_at}
+use Rattle.tau_trace.proofs.Agreement.{agree_appended, step_at-appended, sent-same, history-same, same_at}
 use Rattle.tau_trace.proofs.Counts.{count-le}
 use Rattle.tau_trace.proofs.Counted.{history-suc, move_at-own, counted}
 use Rattle.tau_trace.proofs.Indexing.{len-appended, born-next, sent-next, well_formed_appended}
@@ -39,7 +39,7 @@ use Rattle.tau_hearing.specs.declared.change.TurnChange.{TurnChange}
 use Rattle.tau_hearing.specs.After.{HasRoom, HasRoomFor, Leads}
 use Rattle.tau_hearing.specs.Bounds.{TellsHeardBy}
 use Rattle.tau_hearing.specs.Changed.{roots_after, touched_after, depended_after}
-use Rattle.tau_hearing.specs.Facts.{ActorFollows, IsChange}
+use Rattle.tau_hearing.specs.Facts.{ActorFollows, IsSameSender, IsChange}
 use Rattle.tau_hearing.specs.Falls.{falls_at}
 use Rattle.tau_hearing.specs.Hears.{Hears}
 use Rattle.tau_search.specs.Logs.{TellsLog}
@@ -159,6 +159,9 @@ module _ (h : Hearing) (T : Run) (s : Step) (next : IsNext h T s) where
   pub letter_there : (m : ℕ) → heard_by s ≡ Some m → (l : Letter) × (slice_get h.letters.items m ≡ Some (Some l))
   letter_there m e = next.knows.in_flight m (next.ready.hearing m e)
 
+  pub repeated_there : (m : ℕ) → s ≡ Repeat m → (l : Letter) × (slice_get h.letters.items m ≡ Some (Some l))
+  repeated_there m e = next.knows.in_flight m (next.ready.repeating m e)
+
   pub some_version : (t : ℕ) (l : Told) → slice_get h.logs.items t ≡ Some l → 1 ≤ length l.versions
   some_version t l e = let x = (kept.logs_are.each t l e).opens in omega (arith, slice_get_within l.versions 0 x.0 x.1.stands)
 
@@ -231,6 +234,28 @@ lose_leads h T s next m kind = leads h T s next (record { actor = None; newborn 
       newborn = let F : Bool → ℕ = λ b. cond b 1 0 in omega (arith, born-next (appended T s) (len T) s (here h T s next), ap F (ap is_new kind));
       letter = let F : Bool → ℕ = λ b. cond b 1 0 in omega (arith, sent-next (appended T s) (len T) s (here h T s next), ap F (ap makes_message kind));
       gone = λ k e. ap (option_and_then removed_by) (here h T s next) ∙ ap removed_by kind ∙ e;
+      falls = ap (λ o. option_map_or (λ t. is_fall (move_at (appended T s) t (len T))) o false) nobody;
+    })
+    (record { actor = tt; logs = next.room.logs; own = next.room.own; letters = next.room.letters; falls = few_falls h T s next }) where
+      nobody : option_and_then actor (step_at (appended T s) (len T)) ≡ None
+      nobody = ap (option_and_then actor) (here h T s next) ∙ ap actor kind
+
+-- and so is a Repeat
+pub repeat_leads : (h : Hearing) (T : Run) (s : Step) → IsNext h T s → (m : ℕ) (l copy : Letter) → s ≡ Repeat m → slice_get h.letters.items m ≡ Some (Some l) → IsSameSender l.sender copy.sender → copy.roots ≡ l.roots
+    → Leads h (record { actor = None; newborn = None; gone = None; letter = Some copy; falls = false }) (appended T s)
+repeat_leads h T s next m l copy kind stands sender roots = leads h T s next (record { actor = None; newborn = None; gone = None; letter = Some copy; falls = false })
+    (record {
+      actor = λ t a. let impossible : None ≡ Some t = sym nobody ∙ a in absurd (cc);
+      newborn = let F : Bool → ℕ = λ b. cond b 1 0 in omega (arith, born-next (appended T s) (len T) s (here h T s next), ap F (ap is_new kind));
+      letter = record {
+        repeated = m;
+        letter = l;
+        stands = stands;
+        copies = record { stands = here h T s next ∙ ap Some kind; made = refl; earlier = omega (arith, (next.ready.repeating m kind).exists, sent-same (len T) (agree_appended T s)) };
+        sender = sender;
+        roots = roots;
+      };
+      gone = λ k e. absurd (cc);
       falls = ap (λ o. option_map_or (λ t. is_fall (move_at (appended T s) t (len T))) o false) nobody;
     })
     (record { actor = tt; logs = next.room.logs; own = next.room.own; letters = next.room.letters; falls = few_falls h T s next }) where

@@ -53,7 +53,7 @@ module _ (T U : Run) (k : ℕ) (w : WellFormed T) (z : WellFormed U) (agree : Ag
   needs-same x y lt (earlier {t = t} e f before) =
       earlier (acts-same T U t x (agree.steps x lt) e) (acts-same T U t y (agree.steps y (omega (arith, lt, before))) f) before
   needs-same x y lt (message {m = m} {by = by} e o) =
-      message (ap (option_and_then heard_by) (sym (agree.steps x lt)) ∙ e) (origin-same x m y by (agree_below x (omega (arith, lt)) agree) (hears_known T m x w e) o)
+      message (ap (option_and_then heard_by) (sym (agree.steps x lt)) ∙ e) (origin-same x y by m (agree_below x (omega (arith, lt)) agree) (hears_known T m x w e) o)
   needs-same x y lt (birth {u = u} {by = by} e n) =
       let before = new_before T y by u x n (acts_known T u x w e) in
       birth (acts-same T U u x (agree.steps x lt) e) (is_new-same y by u (agree_below (suc y) (omega (arith, lt, before)) agree) n)
@@ -90,7 +90,7 @@ module _ (T U : Run) (k : ℕ) (w : WellFormed T) (z : WellFormed U) (agree : Ag
         through (⊎_elim (λ a. inl a) (λ c. inr (closes-same r.who r.interval r c)) l) lt there.0 (takes-same i r q there.1 t)
 
   sender-same : (m s : ℕ) → m < sent T k → HasSender T m s → HasSender U m s
-  sender-same m s there x = record { place = x.place; origin = origin-same k m x.place s agree there x.origin }
+  sender-same m s there x = record { place = x.place; origin = origin-same k x.place s m agree there x.origin }
 
 -- both directions, for sets of places below k that have the same places
 module _ (T U : Run) (k : ℕ) (w : WellFormed T) (z : WellFormed U) (agree : Agree T U k) where

@@ -1,17 +1,18 @@
 -- The changes of a Send and of a New lead to what is right after them.
-use Rattle.std.proofs.Common.{◌≡◌, ℕ, suc, Bool, true, false, IsTrue, cond, List, [], length, Some, None, refl, sym, ap, ◌∙◌, arith}
+use Rattle.std.proofs.Common.{◌≡◌, ℕ, suc, Bool, true, false, IsTrue, cond, List, [], length, Some, None, refl, sym, ap, ◌∙◌, subst, ◌<◌, arith}
 use Rattle.std.specs.Prelude.{slice_get, option_and_then}
 use Rattle.std.specs.Option.{option_map_or}
 use Rattle.tau_value.specs.declared.shared.Value.{Value}
 use Rattle.tau_history.specs.Timeline.{keep}
 use Rattle.tau_points.specs.declared.point.Point.{Point}
 use Rattle.tau_trace.specs.declared.step.Step.{Step}
-use Rattle.tau_trace.specs.declared.step.Step.TheVariants.{Send, New}
-use Rattle.tau_trace.specs.Steps.{actor, is_send, is_new, makes_message}
+use Rattle.tau_trace.specs.declared.step.Step.TheVariants.{Send, New, Echo}
+use Rattle.tau_trace.specs.Steps.{actor, removed_by, is_send, is_new, makes_message}
 use Rattle.tau_trace.specs.Run.{Run, len, step_at, appended}
 use Rattle.tau_trace.specs.Numbering.{born, sent, IsNew}
+use Rattle.tau_trace.specs.Known.{IsKnownAt}
 use Rattle.tau_trace.specs.Histories.{history, move_at, move_of, is_fall}
-use Rattle.tau_trace.proofs.Agreement.{agree_appended, history-same}
+use Rattle.tau_trace.proofs.Agreement.{agree_appended, sent-same, history-same}
 use Rattle.tau_trace.proofs.Counted.{move_at-own}
 use Rattle.tau_trace.proofs.Indexing.{born-next, sent-next}
 use Rattle.tau_trace.proofs.Lists.{same_some}
@@ -26,7 +27,7 @@ use Rattle.tau_hearing.specs.declared.change.Newborn.{Newborn}
 use Rattle.tau_hearing.specs.declared.change.TurnChange.TheVariants as turn
 use Rattle.tau_hearing.specs.After.{Leads}
 use Rattle.tau_hearing.specs.Bounds.{last_number, AreRaised}
-use Rattle.tau_hearing.specs.Facts.{TakesAlong, ActorFollows}
+use Rattle.tau_hearing.specs.Facts.{TakesAlong, ActorFollows, sends, echoes}
 use Rattle.tau_hearing.specs.Next.{IsNext, idle_actor, IsFirstLog}
 use Rattle.tau_hearing.proofs.Births.{newborn_tells}
 use Rattle.tau_hearing.proofs.Leading as lead
@@ -82,19 +83,42 @@ module _ (h : Hearing) (T : Run) (s : Step) (next : IsNext h T s) (t : ℕ) (by 
         actor = follows (record { set = ap is_set kind; hears = ap heard_by kind; keeps = ap (move_of stable) kind; pending = ap keeps_pending kind });
         newborn = same_born (ap is_new kind);
         letter = record {
-          send = record { to = to; value = v; stands = lead.here h T s next ∙ ap Some kind; made = refl };
+          carries = sends (record { to = to; value = v; stands = lead.here h T s next ∙ ap Some kind; made = refl }) roots;
           log_stays = refl;
           sender = sender;
           is_sender = is;
           who = who;
           version = version;
           numbers = numbers;
-          roots = roots;
         };
         gone = λ m e. absurd (cc);
         falls = falls_none (ap (move_of stable) kind);
       })
       (record { actor = lead.still_room h T s next t turn.Stays by; logs = next.room.logs; own = next.room.own; letters = next.room.letters; falls = lead.few_falls h T s next })
+
+  pub echo_leads : (m : ℕ) (l : Letter) (sender : Sender) → s ≡ Echo t m → l.sender ≡ Some sender → sender.who ≡ t → sender.version ≡ last_number h.logs.items t
+      → ((x : Own) → slice_get h.own.items t ≡ Some x → sender.numbers.value.items ≡ x.numbers.numbers) → l.roots ≡ []
+      → Leads h (record { actor = Some (idle_actor t); newborn = None; gone = Some m; letter = Some l; falls = false }) U
+  echo_leads m l sender kind is who version numbers roots =
+      lead.leads h T s next (record { actor = Some (idle_actor t); newborn = None; gone = Some m; letter = Some l; falls = false })
+      (record {
+        actor = follows (record { set = ap is_set kind; hears = ap heard_by kind; keeps = ap (move_of stable) kind; pending = ap keeps_pending kind });
+        newborn = same_born (ap is_new kind);
+        letter = record {
+          carries = echoes {m = m} (record { stands = lead.here h T s next ∙ ap Some kind; made = refl; earlier = omega (arith, known.1, sent-same n (agree_appended T s)) }) roots;
+          log_stays = refl;
+          sender = sender;
+          is_sender = is;
+          who = who;
+          version = version;
+          numbers = numbers;
+        };
+        gone = λ k e. ap (option_and_then removed_by) (lead.here h T s next) ∙ ap removed_by kind ∙ e;
+        falls = falls_none (ap (move_of stable) kind);
+      })
+      (record { actor = lead.still_room h T s next t turn.Stays by; logs = next.room.logs; own = next.room.own; letters = next.room.letters; falls = lead.few_falls h T s next }) where
+        known : (t < born T n) × (m < sent T n)
+        known = subst (IsKnownAt T n) kind next.follows.known
 
   pub new_leads : (behaviour node : ℕ) (v : Value) (b : Newborn) (points : List Point) → s ≡ New t behaviour node v → IsFirstLog b.log points → ((x : Own) → slice_get h.own.items t ≡ Some x → TakesAlong U t n x points)
       → ((x : Own) → slice_get h.own.items t ≡ Some x → AreRaised x.numbers.numbers t (last_number h.logs.items t) [] b.own.numbers.numbers) → b.own.roots ≡ [] → b.own.touched ≡ false → b.own.depended ≡ false

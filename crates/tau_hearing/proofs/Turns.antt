@@ -1,16 +1,17 @@
 -- What a turn takes along, and what a message carries, step by step.
 use Rattle.std.proofs.Common.{◌≡◌, ◌≢◌, ◌⊎◌, ◌↔◌, inl, inr, ⊎_elim, ℕ, suc, ◌<◌, Bool, true, false, IsTrue, IsFalse, List, [], ◌∷◌, ◌++◌, Some, refl, sym, ap, ◌∙◌, subst, arith}
 use Rattle.std.specs.Prelude.{Contains, option_and_then}
+use Rattle.std.specs.Option.{option_map_or}
 use Rattle.std.proofs.lemmas.List.Elements.{Contains-append_left, Contains-push, Contains-push_cases}
 use Rattle.tau_points.specs.declared.point.Point.{Point}
 use Rattle.tau_points.specs.Reach.{start}
 use Rattle.tau_points.proofs.PointOrder.{point_eq, point_eq-Decides}
 use Rattle.tau_points.proofs.Membership.{Contains-none, Contains-head, Contains-cons_cases}
 use Rattle.tau_trace.specs.declared.step.Step.{Step}
-use Rattle.tau_trace.specs.declared.step.Step.TheVariants.{Take, Drop, Fall, Void, Get, Set, Skip, Send, New, Stabilize, Ask, Checkpoint, Rollback, Trap, Fail, Lose}
-use Rattle.tau_trace.specs.Steps.{ends_turn}
+use Rattle.tau_trace.specs.declared.step.Step.TheVariants.{Take, Drop, Fall, Void, Get, Set, Skip, Send, New, Stabilize, Ask, Checkpoint, Rollback, Trap, Fail, Lose, Echo, Heed, Repeat}
+use Rattle.tau_trace.specs.Steps.{ends_turn, is_send}
 use Rattle.tau_trace.specs.Run.{Run, step_at, ActsAt, Does}
-use Rattle.tau_trace.specs.Numbering.{IsNew, IsSent, direct}
+use Rattle.tau_trace.specs.Numbering.{IsNew, IsSent, IsEchoed, direct, echoed, IsSendAt}
 use Rattle.tau_trace.specs.Histories.{IsFallingStep, by_fall, by_rollback, by_trap, by_fail}
 use Rattle.tau_trace.specs.Points.{point_at, Leaves}
 use Rattle.tau_trace.specs.Turns.{HasOpenTurn}
@@ -18,7 +19,7 @@ use Rattle.tau_trace.specs.Known.{WellFormed}
 use Rattle.tau_trace.proofs.Agreement.{born-grows}
 use Rattle.tau_trace.proofs.Counted.{falls_falling}
 use Rattle.tau_trace.proofs.Lists.{same_some}
-use Rattle.tau_trace.proofs.Once.{origin_acts, origin_is_one}
+use Rattle.tau_trace.proofs.Once.{origin_acts, origin_is_one, copies_have_their_origin}
 use Rattle.tau_trace.proofs.PointLemmas.{points_grow}
 use Rattle.tau_trace.proofs.Quiet.{acts}
 use Rattle.tau_past.specs.Carried.{touches, is_set, Pending, Carried, SentWith, TakesBy, by_set}
@@ -26,13 +27,13 @@ use Rattle.tau_past.specs.Heard.{heard_by, Own, own_step, own_birth, Heard, Hear
 use Rattle.tau_past.specs.KnownLaws.{KeepsPending, keeps_pending}
 use Rattle.tau_past.specs.Pasts.{ClosesAt}
 use Rattle.tau_past.proofs.Known.{acts_known, heard_closed}
-use Rattle.tau_past.proofs.HeardLemmas.{absorbs_message, heard_grows, heard_with_sender}
+use Rattle.tau_past.proofs.HeardLemmas.{absorbs_message, heard_grows, heard_with_sender, copies_hear}
 use Rattle.tau_past.proofs.PendingLemmas.{pending_turn, pending_after_step}
 use Rattle.tau_logs.specs.Takes.{Covered, is_listed, is_closed, through, TellsPending, TellsSent}
 use Rattle.tau_logs.proofs.Taking.{cover_on}
 use Rattle.tau_logs.proofs.Newborns.{newborns_take_what_is_carried}
 use Rattle.tau_hearing.specs.Turns.{with_own, taken_along, IsAlong, TellsTurn}
-use Rattle.tau_hearing.specs.Laws.{WithoutClosed, TurnAfterStep, TurnsStepByStep, CarriedStays}
+use Rattle.tau_hearing.specs.Laws.{WithoutClosed, TurnAfterStep, TurnsStepByStep, CarriedStays, CopiesCarryAlike}
 use Rattle.tau_hearing.proofs.LeavingOut.{closed_on}
 
 -- Which steps leave the point.
@@ -60,6 +61,9 @@ keeping_ends_none (New t b n v) h = refl
 keeping_ends_none (Drop t m) h = refl
 keeping_ends_none (Void t m) h = refl
 keeping_ends_none (Lose m) h = refl
+keeping_ends_none (Echo t m) h = refl
+keeping_ends_none (Heed t m) h = refl
+keeping_ends_none (Repeat m) h = refl
 keeping_ends_none s h = absurd (cc)
 
 set_touches : (s : Step) → IsTrue (is_set s) → IsTrue (touches s)
@@ -73,6 +77,16 @@ point_stays T t n test none d = (points_grow T t n).stays (λ l. apart (leaves_e
   apart e =
       let same : d.step ≡ e.step = same_some (sym d.stands ∙ e.stands) in
       let both : false ≡ true = sym (none d.step d.passes) ∙ ap ends_turn same ∙ e.passes in
+      cc
+
+-- A notice carries nothing.
+
+notice_tells : (T : Run) (t n k m : ℕ) → IsEchoed T n t k m → TellsSent T m (suc n) []
+notice_tells T t n k m o = record { sent = λ q c. absurd (Contains-none q c); covers = λ q s. absurd (none q s) } where
+  none : (q : Point) → ¬ SentWith T m q
+  none q s =
+      let sends : IsSendAt T n = subst (IsSendAt T) (origin_is_one T s.place n s.by t m s.origin (echoed {n = k} o)).0 s.send in
+      let both : false ≡ true = sym (ap (λ r. option_map_or is_send r false) o.stands) ∙ sends in
       cc
 
 -- What is covered.
@@ -242,7 +256,7 @@ module _ (T : Run) (t n : ℕ) (roots : List Point) (touched depended : Bool) (x
     now = origin_acts T n t m (direct s)
 
     forth : (q : Point) → Pending T t n q → SentWith T m q
-    forth q p = record { place = n; by = t; origin = direct s; carried = record { by = t; acts = now; pending = p } }
+    forth q p = record { place = n; by = t; origin = direct s; send = ap (λ o. option_map_or is_send o false) s.stands; carried = record { by = t; acts = now; pending = p } }
 
     back : (q : Point) → SentWith T m q → Pending T t n q
     back q w =
@@ -268,6 +282,7 @@ module _ (T : Run) (t n : ℕ) (roots : List Point) (touched depended : Bool) (x
     take = take;
     ending = λ d. nothing_along T t (suc n) ((pending_after_step T t n).ending d);
     message = message;
+    notice = λ k m e. notice_tells T t n k m e;
     taken = λ u rs b same. newborns_take_what_is_carried T t u n rs known b (along_told rs same);
     newborn = λ u b. nothing_along T u (suc n) (unborn u b);
   } where
@@ -286,3 +301,15 @@ carried_stays T m n roots x = record {
   sent = x.sent;
   covers = λ q w. cover_on T (HeardBy T m) (HeardBy T m) roots roots n (suc n) q (λ j h. h) (λ r c. c) (omega arith) (x.covers q w);
 }
+
+-- a copy carries what the message that it repeats does
+pub copies_carry_alike : CopiesCarryAlike
+copies_carry_alike T k n m at roots c x = record {
+  sent = λ q l. (carries q).1 (x.sent q l);
+  covers = λ q s. cover_on T (HeardBy T n) (HeardBy T m) roots roots at at q (λ j h. (copies_hear T k n m c j).1 h) (λ r l. l) (omega arith) (x.covers q ((carries q).0 s));
+} where
+  carries : (q : Point) → (SentWith T m q → SentWith T n q) × (SentWith T n q → SentWith T m q)
+  carries q = (
+    λ s. record { place = s.place; by = s.by; origin = (copies_have_their_origin T k n m s.place s.by c).0 s.origin; send = s.send; carried = s.carried },
+    λ s. record { place = s.place; by = s.by; origin = (copies_have_their_origin T k n m s.place s.by c).1 s.origin; send = s.send; carried = s.carried },
+  )

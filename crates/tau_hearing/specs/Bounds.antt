@@ -26,7 +26,7 @@ pub record TellsBounds (T : Run) (H : ℕ → Type 0) (n : ℕ) (logs : List Tol
 abbrev pub last_number : List Told → ℕ → ℕ
 last_number logs u = option_map_or (λ log. length log.versions - 1) (slice_get logs u) 0
 
--- what a message has heard is what its sender had heard, with the Send; a post has heard nothing
+-- what a message has heard is what its sender had heard, with its origin; a post and its copies have heard nothing
 abbrev pub TellsHeardBy : Run → ℕ → ℕ → List Told → Option Sender → Type 0
 TellsHeardBy T m n logs None = (u : ℕ) → u < length logs → TellsNumber T (HeardBy T m) n logs u 0
 TellsHeardBy T m n logs (Some s) = HasSender T m s.who × TellsBounds T (HeardBy T m) n logs s.who s.version s.numbers.value.items

@@ -3,7 +3,7 @@ use Rattle.std.specs.Prelude.{◌≡◌, ◌⊎◌, ℕ, suc, Bool, false, List,
 use Rattle.tau_points.specs.declared.point.Point.{Point}
 use Rattle.tau_trace.specs.Steps.{removed_by}
 use Rattle.tau_trace.specs.Run.{Run, step_at, ActsAt}
-use Rattle.tau_trace.specs.Numbering.{born, sent, IsNew, IsSent, HasSender}
+use Rattle.tau_trace.specs.Numbering.{born, sent, IsNew, IsSent, IsEchoed, IsRepeated, HasSender}
 use Rattle.tau_trace.specs.Points.{point_at}
 use Rattle.tau_trace.specs.Known.{WellFormed}
 use Rattle.tau_past.specs.KnownLaws.{HearsOf, HearsOfNone}
@@ -64,27 +64,47 @@ FollowsBirth T n logs own a None = born T (suc n) ≡ born T n
 FollowsBirth T n logs own None (Some b) = ⊥
 FollowsBirth T n logs own (Some a) (Some b) = NewbornFollows T n logs own a b
 
--- the message that the step makes has what its sender had heard, and carries what that takes along
+-- a Send's message carries what its sender takes along, and a notice nothing
+pub data CarriesRightly (T : Run) (n : ℕ) (own : List Own) (t : ℕ) (roots : List Point) : Type 0 where
+  sends : IsSent T n t (sent T n) → ((x : Own) → slice_get own t ≡ Some x → TakesAlong T t n x roots) → CarriesRightly T n own t roots
+  echoes : {m : ℕ} → IsEchoed T n t m (sent T n) → roots ≡ [] → CarriesRightly T n own t roots
+
+-- the message that a Send or an Echo makes has what its maker had heard
 pub record LetterFollows (T : Run) (n : ℕ) (logs : List Told) (own : List Own) (a : ActorChange) (l : Letter) : Type 0 where
-  pub send : IsSent T n a.who (sent T n)
+  pub carries : CarriesRightly T n own a.who l.roots
   pub log_stays : a.log ≡ log.Stays
   pub sender : Sender
   pub is_sender : l.sender ≡ Some sender
   pub who : sender.who ≡ a.who
   pub version : sender.version ≡ last_number logs a.who
   pub numbers : (x : Own) → slice_get own a.who ≡ Some x → sender.numbers.value.items ≡ x.numbers.numbers
-  pub roots : (x : Own) → slice_get own a.who ≡ Some x → TakesAlong T a.who n x l.roots
 
-abbrev pub FollowsLetter : Run → ℕ → List Told → List Own → Option ActorChange → Option Letter → Type 0
-FollowsLetter T n logs own a None = sent T (suc n) ≡ sent T n
-FollowsLetter T n logs own None (Some l) = ⊥
-FollowsLetter T n logs own (Some a) (Some l) = LetterFollows T n logs own a l
+-- both tell of the same sender, by the same numbers
+abbrev pub IsSameSender : Option Sender → Option Sender → Type 0
+IsSameSender None None = Unit {0}
+IsSameSender (Some s) (Some r) = (r.who ≡ s.who) × (r.version ≡ s.version) × (r.numbers.value.items ≡ s.numbers.value.items)
+IsSameSender None (Some r) = ⊥
+IsSameSender (Some s) None = ⊥
+
+-- the message that a Repeat makes has and carries what the message that it repeats does
+pub record CopyFollows (T : Run) (n : ℕ) (letters : List (Option Letter)) (l : Letter) : Type 0 where
+  pub repeated : ℕ
+  pub letter : Letter
+  pub stands : slice_get letters repeated ≡ Some (Some letter)
+  pub copies : IsRepeated T n repeated (sent T n)
+  pub sender : IsSameSender letter.sender l.sender
+  pub roots : l.roots ≡ letter.roots
+
+abbrev pub FollowsLetter : Run → ℕ → List (Option Letter) → List Told → List Own → Option ActorChange → Option Letter → Type 0
+FollowsLetter T n letters logs own a None = sent T (suc n) ≡ sent T n
+FollowsLetter T n letters logs own None (Some l) = CopyFollows T n letters l
+FollowsLetter T n letters logs own (Some a) (Some l) = LetterFollows T n logs own a l
 
 -- the change is that of the step at place n
 pub record IsChange (T : Run) (n : ℕ) (h : Hearing) (c : HearingChange) : Type 0 where
   pub actor : FollowsActor T n h.letters.items h.logs.items h.own.items c.actor
   pub newborn : FollowsBirth T n h.logs.items h.own.items c.actor c.newborn
-  pub letter : FollowsLetter T n h.logs.items h.own.items c.actor c.letter
+  pub letter : FollowsLetter T n h.letters.items h.logs.items h.own.items c.actor c.letter
   pub gone : (m : ℕ) → c.gone ≡ Some m → option_and_then removed_by (step_at T n) ≡ Some m
   pub falls : falls_at T n ≡ c.falls
 

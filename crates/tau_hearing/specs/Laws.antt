@@ -4,7 +4,7 @@ use Rattle.tau_points.specs.declared.point.Point.{Point}
 use Rattle.tau_trace.specs.declared.step.Step.TheVariants.{Take}
 use Rattle.tau_trace.specs.Steps.{ends_turn}
 use Rattle.tau_trace.specs.Run.{Run, len, step_at, ActsAt, Does}
-use Rattle.tau_trace.specs.Numbering.{born, sent, IsNew, IsSent, HasSender}
+use Rattle.tau_trace.specs.Numbering.{born, sent, IsNew, IsSent, IsEchoed, IsRepeated, IsOrigin, HasSender}
 use Rattle.tau_trace.specs.Histories.{Falls}
 use Rattle.tau_trace.specs.Points.{point_at}
 use Rattle.tau_trace.specs.Known.{WellFormed}
@@ -40,8 +40,8 @@ abbrev pub TellsNext : Run → ℕ → ℕ → List Told → List ℕ → Type 0
 TellsNext T t n new numbers = TellsBounds T (Heard T t (suc n)) (suc n) new t (last_number new t) numbers
 
 -- what becomes of t's numbers by the step at place n: those of others stay; so do the actor's own where it hears of nothing
--- that it hadn't heard, and otherwise they are raised by what it hears of. A message that t sends, and a transactor that t
--- makes, have t's numbers, with t's own version
+-- that it hadn't heard, and otherwise they are raised by what it hears of. A message and a notice that t makes, and a
+-- transactor that t makes, have t's numbers, with t's own version
 pub record BoundsAfterStep (T : Run) (t n : ℕ) (old new : List Told) (numbers : List ℕ) : Type 0 where
   pub other : ¬ ActsAt T t n → last_number new t ≡ last_number old t → TellsNext T t n new numbers
   pub alone : ActsAt T t n → HearsOfNone T n → TellsNext T t n new numbers
@@ -49,7 +49,7 @@ pub record BoundsAfterStep (T : Run) (t n : ℕ) (old new : List Told) (numbers 
   pub own_message : (m : ℕ) → ActsAt T t n → HearsOf T n m → HasSender T m t → TellsNext T t n new numbers
   pub hearing : (m who version : ℕ) (others raised : List ℕ) → ActsAt T t n → HearsOf T n m → TellsBounds T (HeardBy T m) n old who version others
       → AreRaised numbers who version others raised → TellsNext T t n new raised
-  pub message : (m : ℕ) → IsSent T n t m → TellsBounds T (HeardBy T m) (suc n) new t (last_number new t) numbers
+  pub message : (m : ℕ) → IsOrigin T n t m → TellsBounds T (HeardBy T m) (suc n) new t (last_number new t) numbers
   pub newborn : (u : ℕ) (raised : List ℕ) → IsNew T n t u → last_number new u ≡ 0 → AreRaised numbers t (last_number new t) [] raised → TellsNext T u n new raised
 
 abbrev pub BoundsStepByStep : Type 0
@@ -79,6 +79,7 @@ pub record TurnAfterStep (T : Run) (t n : ℕ) (roots : List Point) (touched dep
       → TellsTurn T t (suc n) left false false
   pub ending : Does ends_turn T t n → TellsTurn T t (suc n) [] false false
   pub message : (m : ℕ) (along : List Point) → IsSent T n t m → IsAlong touched depended (point_at T t n) roots along → TellsSent T m (suc n) along
+  pub notice : (k m : ℕ) → IsEchoed T n t k m → TellsSent T m (suc n) []
   pub taken : (u : ℕ) (along : List Point) → IsNew T n t u → IsAlong touched depended (point_at T t n) roots along → TellsTaken T u (suc n) along
   pub newborn : (u : ℕ) → IsNew T n t u → TellsTurn T u (suc n) [] false false
 
@@ -88,6 +89,13 @@ TurnsStepByStep = (T : Run) (t n : ℕ) (roots : List Point) (touched depended :
 -- what a message carries it carries one step later
 abbrev pub CarriedStays : Type 0
 CarriedStays = (T : Run) (m n : ℕ) (roots : List Point) → TellsSent T m n roots → TellsSent T m (suc n) roots
+
+-- a copy has heard and carries what the message that it repeats does
+abbrev pub CopiesHearAlike : Type 0
+CopiesHearAlike = (T : Run) (k n m at : ℕ) (logs : List Told) (sender : Option Sender) → IsRepeated T k n m → TellsHeardBy T n at logs sender → TellsHeardBy T m at logs sender
+
+abbrev pub CopiesCarryAlike : Type 0
+CopiesCarryAlike = (T : Run) (k n m at : ℕ) (roots : List Point) → IsRepeated T k n m → TellsSent T n at roots → TellsSent T m at roots
 
 -- Falling steps.
 

@@ -4,7 +4,7 @@ use Rattle.std.specs.Vec.{vec_capacity}
 use Rattle.tau_history.specs.Timeline.{Timeline, Move, close, fall, moved}
 use Rattle.tau_points.specs.declared.point.Point.{Point}
 use Rattle.tau_trace.specs.declared.step.Step.{Step}
-use Rattle.tau_trace.specs.declared.step.Step.TheVariants.{Get, Skip, Ask, Hold, Stay, Done, Trap, Fail}
+use Rattle.tau_trace.specs.declared.step.Step.TheVariants.{Drop, Heed, Get, Skip, Ask, Hold, Stay, Done, Trap, Fail}
 use Rattle.tau_trace.specs.Steps.{actor}
 use Rattle.tau_trace.specs.Run.{Run, ActsAt, starts}
 use Rattle.tau_trace.specs.Known.{MayFollow, WellFormed}
@@ -62,6 +62,12 @@ only_touches (Get t) = true
 only_touches (Skip t) = true
 only_touches (Ask t a) = true
 only_touches s = false
+
+-- the kinds that hear of a message and do nothing else
+abbrev pub only_hears : Step → Bool
+only_hears (Drop t m) = true
+only_hears (Heed t m) = true
+only_hears s = false
 
 -- the kinds that end a turn and do nothing else
 abbrev pub only_ends : Step → Bool

@@ -1,6 +1,7 @@
 //! What a step changes, by its kind.
 ghost use Rattle.std.specs.Prelude.{◌≡◌, ◌<◌, IfOk, IsTrue, Some, length, slice_get, vec_len};
 ghost use Rattle.std.specs.Vec.{vec_capacity};
+ghost use Rattle.tau_trace.specs.declared.step.Step.TheVariants.{Echo};
 ghost use Rattle.tau_trace.specs.Run.{appended};
 ghost use Rattle.tau_trace.specs.Steps.{actor, is_send};
 ghost use Rattle.tau_hearing.specs.declared.own.Own.{Own};
@@ -18,7 +19,8 @@ use tau_trace::{Step, Trace};
 
 impl Hearing {
     /// What a step at the end of the run changes, for which there is room (docs/rules.md, "Steps"). What is kept says the same
-    /// after it: by a Send the numbers of its sender are shared with the message. The error is want of memory.
+    /// after it: by a Send or an Echo the numbers of its transactor are shared with the message that it makes. The error is
+    /// want of memory.
     pub fn change_of(&mut self, trace: &Trace, step: &Step) -> Result<HearingChange, AllocError>
         requires next { IsNext self.old trace.now.run step.now }
         ensures ok { IfOk result (λ c. Leads self.new c (appended trace.now.run step.now)) }
@@ -26,7 +28,9 @@ impl Hearing {
     {
         match step {
             Step::Take { who, message } => self.by_take(trace, step, *who, *message),
-            Step::Drop { who, message } => Ok(self.by_drop(trace, step, *who, *message)),
+            Step::Drop { who, message } | Step::Heed { who, message } => {
+                Ok(self.by_hearing(trace, step, *who, *message))
+            }
             Step::Fall { who, message } => Ok(self.by_fall(trace, step, *who, *message)),
             Step::Void { who, message } => Ok(self.by_void(trace, step, *who, *message)),
             Step::Lose { message } => Ok(self.by_lose(trace, step, *message)),
@@ -36,6 +40,8 @@ impl Hearing {
             Step::Set { who, .. } => self.by_set(trace, step, *who),
             Step::Stabilize { who } => Ok(self.by_stabilize(trace, step, *who)),
             Step::Send { who, .. } => self.share_and_send(trace, step, *who),
+            Step::Echo { who, message } => self.share_and_echo(trace, step, *who, *message),
+            Step::Repeat { message } => self.by_repeat(trace, step, *message),
             Step::New { who, .. } => self.by_new(trace, step, *who),
             Step::Checkpoint { who } => Ok(self.by_close(trace, step, *who)),
             Step::Rollback { who } => Ok(self.by_rollback(trace, step, *who)),
@@ -61,6 +67,23 @@ impl Hearing {
     {
         let numbers = self.share_numbers(who)?;
         self.by_send(trace, step, who, numbers)
+    }
+
+    /// An Echo, by numbers that the notice shares with the transactor that makes it. The error is want of memory.
+    fn share_and_echo(
+        &mut self,
+        trace: &Trace,
+        step: &Step,
+        who: u32,
+        message: u32,
+    ) -> Result<HearingChange, AllocError>
+        requires next { IsNext self.old trace.now.run step.now }
+        requires kind { step.now ≡ Echo who message }
+        ensures ok { IfOk result (λ c. Leads self.new c (appended trace.now.run step.now)) }
+        ensures kept { Knows self.new trace.now.run }
+    {
+        let numbers = self.share_numbers(who)?;
+        Ok(self.by_echo(trace, step, who, message, numbers))
     }
 
     /// Makes the numbers of a transactor shared, and gives another owner of them. The error is want of memory.

@@ -1,13 +1,13 @@
 //! What each kind of step changes.
 ghost use Rattle.std.specs.Prelude.{◌≡◌, suc, IfOk, IsTrue, Some, slice_get};
-ghost use Rattle.tau_trace.specs.declared.step.Step.TheVariants.{Take, Drop, Fall, Void, Stabilize, Checkpoint, Rollback, Lose};
+ghost use Rattle.tau_trace.specs.declared.step.Step.TheVariants.{Take, Fall, Void, Stabilize, Checkpoint, Rollback, Lose};
 ghost use Rattle.tau_trace.specs.Run.{len, appended};
 ghost use Rattle.tau_trace.specs.Steps.{actor};
 ghost use Rattle.tau_past.specs.Heard.{heard_by, Heard};
 ghost use Rattle.tau_hearing.specs.declared.letter.Letter.{Letter};
 ghost use Rattle.tau_hearing.specs.After.{Leads};
 ghost use Rattle.tau_hearing.specs.Laws.{WithoutClosed};
-ghost use Rattle.tau_hearing.specs.Next.{IsNext, only_touches, only_ends, falls_if_volatile};
+ghost use Rattle.tau_hearing.specs.Next.{IsNext, only_touches, only_hears, only_ends, falls_if_volatile};
 
 use crate::change::{ActorChange, HearingChange, LogChange, TurnChange};
 use crate::hearing::Hearing;
@@ -55,8 +55,8 @@ impl Hearing {
         Ok(roots)
     }
 
-    /// A Drop: the numbers are raised.
-    pub(crate) fn by_drop(
+    /// A Drop or a Heed: the numbers are raised.
+    pub(crate) fn by_hearing(
         &self,
         trace: &Trace,
         step: &Step,
@@ -64,7 +64,9 @@ impl Hearing {
         message: u32,
     ) -> HearingChange
         requires next { IsNext self.now trace.now.run step.now }
-        requires kind { step.now ≡ Drop who message }
+        requires by { actor step.now ≡ Some who }
+        requires kind { IsTrue (only_hears step.now) }
+        requires hears { heard_by step.now ≡ Some message }
         ensures { Leads self.now result (appended trace.now.run step.now) }
     {
         let hears = self.news(trace, step, who, message);

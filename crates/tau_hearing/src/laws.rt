@@ -1,5 +1,5 @@
 //! Laws of what is kept, step by step, each the contract of a function that does nothing.
-ghost use Rattle.tau_hearing.specs.Laws.{BoundsTogether, BoundsStepByStep, LettersStay, TurnsStepByStep, CarriedStays, NoneCountedNothingFalls, NoneCountedAllIsTaken};
+ghost use Rattle.tau_hearing.specs.Laws.{BoundsTogether, BoundsStepByStep, LettersStay, TurnsStepByStep, CarriedStays, CopiesHearAlike, CopiesCarryAlike, NoneCountedNothingFalls, NoneCountedAllIsTaken};
 ghost use Rattle.tau_hearing.specs.Moves.{LogsStepByStep, HearsIsLocal};
 ghost use Rattle.tau_hearing.specs.Facts.{ChangesFollow};
 
@@ -17,6 +17,12 @@ pub fn bounds_step_by_step()
 /// What a message has heard stays what it is (docs/definitions.md, "Heard").
 pub fn letters_stay()
     ensures { LettersStay }
+{}
+
+/// A copy has heard and carries what the message that it repeats does (docs/definitions.md, "Origin").
+pub fn copies_are_alike()
+    ensures heard { CopiesHearAlike }
+    ensures carried { CopiesCarryAlike }
 {}
 
 /// What a turn takes along after a step, and what a message and a created transactor take along (docs/definitions.md, "Carried").

@@ -1,6 +1,8 @@
 //! What is kept of a message in flight.
-ghost use Rattle.std.specs.Prelude.{◌≡◌, [], None};
+ghost use Rattle.std.specs.Prelude.{◌≡◌, [], None, Some, IfOk};
+ghost use Rattle.tau_hearing.specs.Facts.{IsSameSender};
 
+use std::alloc::AllocError;
 use std::sync::Arc;
 use tau_taking::Roots;
 
@@ -13,12 +15,12 @@ pub struct Letter {
     pub roots: Roots,
 }
 
-/// What the sender of a message had heard at the Send.
+/// What the sender of a message had heard at its origin, a Send or an Echo.
 #[derive(Drop)]
 pub struct Sender {
     /// The sender.
     pub who: u32,
-    /// The number of its version at the Send.
+    /// The number of its version there.
     pub version: u32,
     /// For each other transactor the number of its latest version heard of. What stands for the sender isn't read.
     pub numbers: Arc<Vec<u32>>,
@@ -34,5 +36,32 @@ impl Letter {
             sender: None,
             roots: Roots::none(),
         }
+    }
+
+    /// What is kept of a copy of the message; lists are shared. The error is want of memory.
+    pub fn share(&self) -> Result<Letter, AllocError>
+        ensures sender { IfOk result (λ l. IsSameSender self.now.sender l.sender) }
+        ensures roots { IfOk result (λ l. l.roots ≡ self.now.roots) }
+    {
+        let roots = self.roots.share()?;
+        let sender = share_sender(&self.sender)?;
+        Ok(Letter { sender, roots })
+    }
+}
+
+/// The same sender, if there is one; its numbers are shared. The error is want of memory.
+fn share_sender(sender: &Option<Sender>) -> Result<Option<Sender>, AllocError>
+    ensures { IfOk result (λ s. IsSameSender sender.now s) }
+{
+    match sender {
+        Some(sender) => {
+            let numbers = Arc::try_clone(&sender.numbers)?;
+            Ok(Some(Sender {
+                who: sender.who,
+                version: sender.version,
+                numbers,
+            }))
+        }
+        None => Ok(None),
     }
 }

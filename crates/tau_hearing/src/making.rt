@@ -1,6 +1,7 @@
-//! What a Set, a Send and a New change.
+//! What a Set, a Send, an Echo, a Repeat and a New change.
 ghost use Rattle.std.specs.Prelude.{◌≡◌, ℕ, IfOk, IsTrue, Some, slice_get};
 ghost use Rattle.tau_trace.specs.Run.{appended};
+ghost use Rattle.tau_trace.specs.declared.step.Step.TheVariants.{Echo, Repeat};
 ghost use Rattle.tau_trace.specs.Steps.{actor, is_send, is_new};
 ghost use Rattle.tau_past.specs.Carried.{is_set};
 ghost use Rattle.tau_hearing.specs.declared.own.Own.{Own};
@@ -86,6 +87,59 @@ impl Hearing {
                 sender: Some(sender),
                 roots,
             }),
+            falls: false,
+        })
+    }
+
+    /// An Echo: the message is gone, and the notice has heard what the transactor that makes it had heard. It carries nothing.
+    pub(crate) fn by_echo(
+        &self,
+        trace: &Trace,
+        _step: &Step,
+        who: u32,
+        message: u32,
+        numbers: Arc<Vec<u32>>,
+    ) -> HearingChange
+        requires next { IsNext self.now trace.now.run _step.now }
+        requires kind { _step.now ≡ Echo who message }
+        requires numbers { (x : Own) → slice_get self.now.own.items who ≡ Some x → numbers.value.items ≡ x.numbers.numbers }
+        ensures { Leads self.now result (appended trace.now.run _step.now) }
+    {
+        let version = self.last_number(trace, who);
+        let sender = Sender {
+            who,
+            version,
+            numbers,
+        };
+        HearingChange {
+            actor: Some(ActorChange::of(who, None, LogChange::Stays, TurnChange::Stays)),
+            newborn: None,
+            gone: Some(message),
+            letter: Some(Letter {
+                sender: Some(sender),
+                roots: Roots::none(),
+            }),
+            falls: false,
+        }
+    }
+
+    /// A Repeat: the copy has heard and carries what the message does. The error is want of memory.
+    pub(crate) fn by_repeat(
+        &self,
+        trace: &Trace,
+        step: &Step,
+        message: u32,
+    ) -> Result<HearingChange, AllocError>
+        requires next { IsNext self.now trace.now.run step.now }
+        requires kind { step.now ≡ Repeat message }
+        ensures { IfOk result (λ c. Leads self.now c (appended trace.now.run step.now)) }
+    {
+        let copy = self.repeated(trace, step, message).share()?;
+        Ok(HearingChange {
+            actor: None,
+            newborn: None,
+            gone: None,
+            letter: Some(copy),
             falls: false,
         })
     }

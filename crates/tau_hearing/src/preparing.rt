@@ -139,9 +139,10 @@ fn heard_by(step: &Step) -> Option<u32>
     ensures { result ≡ heard_by step.now }
 {
     match step {
-        Step::Take { message, .. } | Step::Drop { message, .. } | Step::Fall { message, .. } => {
-            Some(*message)
-        }
+        Step::Take { message, .. }
+        | Step::Drop { message, .. }
+        | Step::Fall { message, .. }
+        | Step::Heed { message, .. } => Some(*message),
         _ => None,
     }
 }

@@ -3,6 +3,7 @@ ghost use Rattle.std.specs.Prelude.{◌≡◌, ◌-◌, ◌≤◌, ◌+◌, ℕ,
 ghost use Rattle.std.specs.Option.{option_map};
 ghost use Rattle.tau_trace.specs.Run.{len, appended};
 ghost use Rattle.tau_trace.specs.Points.{point_at};
+ghost use Rattle.tau_trace.specs.declared.step.Step.TheVariants.{Repeat};
 ghost use Rattle.tau_trace.specs.Steps.{actor};
 ghost use Rattle.tau_past.specs.Heard.{heard_by};
 ghost use Rattle.tau_logs.specs.Told.{Told};
@@ -102,6 +103,18 @@ impl Hearing {
     pub(crate) fn letter(&self, _trace: &Trace, _step: &Step, message: u32) -> &Letter
         requires next { IsNext self.now _trace.now.run _step.now }
         requires hears { heard_by _step.now ≡ Some message }
+        ensures { slice_get self.now.letters.items message ≡ Some (Some result.now) }
+    {
+        match self.message(message) {
+            Some(letter) => letter,
+            None => unreachable!(),
+        }
+    }
+
+    /// What is kept of a message that a step repeats.
+    pub(crate) fn repeated(&self, _trace: &Trace, _step: &Step, message: u32) -> &Letter
+        requires next { IsNext self.now _trace.now.run _step.now }
+        requires kind { _step.now ≡ Repeat message }
         ensures { slice_get self.now.letters.items message ≡ Some (Some result.now) }
     {
         match self.message(message) {

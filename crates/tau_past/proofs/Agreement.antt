@@ -1,6 +1,7 @@
 -- What is heard, carried and decided at a place reads the opening and the steps before it alone.
 use Rattle.std.proofs.Common.{◌≡◌, ◌⊎◌, inl, inr, ⊎_elim, ℕ, suc, ◌<◌, ◌≤◌, List, length, sym, ap, ◌∙◌, subst, arith}
-use Rattle.std.specs.Prelude.{option_and_then}
+use Rattle.std.specs.Prelude.{option_and_then, false}
+use Rattle.std.specs.Option.{option_map_or}
 use Rattle.std.proofs.lemmas.Bool.{cases_lt}
 use Rattle.tau_value.specs.declared.shared.Value.{Value}
 use Rattle.tau_history.specs.Timeline.{interval}
@@ -8,9 +9,9 @@ use Rattle.tau_points.specs.declared.point.Point.{Point}
 use Rattle.tau_points.specs.Reach.{Reach, start, next}
 use Rattle.tau_points.proofs.Reach.{least, monotone}
 use Rattle.tau_trace.specs.declared.step.Step.TheVariants.{Take}
-use Rattle.tau_trace.specs.Steps.{actor}
+use Rattle.tau_trace.specs.Steps.{actor, is_send}
 use Rattle.tau_trace.specs.Run.{Run, Agree, step_at, starts, ActsAt}
-use Rattle.tau_trace.specs.Numbering.{born, sent}
+use Rattle.tau_trace.specs.Numbering.{born, sent, IsSendAt}
 use Rattle.tau_trace.specs.Histories.{history, Closes}
 use Rattle.tau_trace.specs.Points.{point_at, IsOpeningPoint}
 use Rattle.tau_trace.specs.Turns.{Turn}
@@ -38,6 +39,9 @@ alike_sym s = record { there = s.back; back = s.there; below = λ j g. s.below j
 acts-same : (T U : Run) (t j : ℕ) → step_at T j ≡ step_at U j → ActsAt T t j → ActsAt U t j
 acts-same T U t j e a = ap (option_and_then actor) (sym e) ∙ a
 
+send-same : (T U : Run) (j : ℕ) → step_at T j ≡ step_at U j → IsSendAt T j → IsSendAt U j
+send-same T U j e x = ap (λ o. option_map_or is_send o false) (sym e) ∙ x
+
 -- the message of a Take exists at its place
 taken : (T : Run) (t k place m : ℕ) → WellFormed T → Turn T t k place m → m < sent T place
 taken T t k place m w u = (w.known place (Take t m) u.takes).1
@@ -56,7 +60,7 @@ module _ {T U : Run} where
   needs-same k x y w a lt (earlier {t = t} e f before) =
       earlier (acts-same T U t x (a.steps x lt) e) (acts-same T U t y (a.steps y (omega arith)) f) before
   needs-same k x y w a lt (message {m = m} {by = by} e o) =
-      message (ap (option_and_then heard_by) (sym (a.steps x lt)) ∙ e) (origin-same x m y by (agree_below x (omega arith) a) (hears_known T m x w e) o)
+      message (ap (option_and_then heard_by) (sym (a.steps x lt)) ∙ e) (origin-same x y by m (agree_below x (omega arith) a) (hears_known T m x w e) o)
   needs-same k x y w a lt (birth {u = u} {by = by} e n) =
       let before = new_before T y by u x n (acts_known T u x w e) in
       birth (acts-same T U u x (a.steps x lt) e) (is_new-same y by u (agree_below (suc y) (omega arith) a) n)
@@ -79,7 +83,7 @@ module _ {T U : Run} where
 
   origin_of-same : (m k j : ℕ) → Agree T U k → m < sent T k → OriginOf T m j → OriginOf U m j × (j < k)
   origin_of-same m k j a lt o =
-      (record { by = o.by; origin = origin-same k m j o.by a lt o.origin }, origin_before T j o.by m k o.origin lt)
+      (record { by = o.by; origin = origin-same k j o.by m a lt o.origin }, origin_before T j o.by m k o.origin lt)
 
   heard_by-same : (m k : ℕ) → WellFormed T → Agree T U k → m < sent T k → (j : ℕ) → HeardBy T m j → HeardBy U m j × (j < k)
   heard_by-same m k w a lt = reach-same k (OriginOf T m) (OriginOf U m) w a (λ j. origin_of-same m k j a lt)
@@ -91,10 +95,10 @@ module _ {T U : Run} where
   unfolding point-same
   pending-same t k q w a (touched {take = place} {m = m} {j = j} u after before d e) =
       touched (turn-same t k place m a u) after before (does-same touches t j (a.steps j before) d) (e ∙ point-same t j (agree_below j (omega arith) a))
-  pending-same t k q w a (came {take = place} {m = m} {j = j} {by = by} u o p) =
+  pending-same t k q w a (came {take = place} {m = m} {j = j} {by = by} u o x p) =
       let before = origin_before T j by m place o (taken T t k place m w u) in
       let within = u.before in
-      came (turn-same t k place m a u) (origin-same place m j by (agree_below place (omega (arith, within)) a) (taken T t k place m w u) o) (pending-same by j q w (agree_below j (omega arith) a) p)
+      came (turn-same t k place m a u) (origin-same place j by m (agree_below place (omega (arith, within)) a) (taken T t k place m w u) o) (send-same T U j (a.steps j (omega arith)) x) (pending-same by j q w (agree_below j (omega arith) a) p)
 
   carried-same : (j k : ℕ) (q : Point) → WellFormed T → Agree T U k → j < k → Carried T j q → Carried U j q
   carried-same j k q w a lt c = record { by = c.by; acts = acts-same T U c.by j (a.steps j lt) c.acts; pending = pending-same c.by j q w (agree_below j (omega arith) a) c.pending }
@@ -102,7 +106,7 @@ module _ {T U : Run} where
   sent_with-same : (m k : ℕ) (q : Point) → WellFormed T → Agree T U k → m < sent T k → SentWith T m q → SentWith U m q
   sent_with-same m k q w a lt s =
       let before = origin_before T s.place s.by m k s.origin lt in
-      record { place = s.place; by = s.by; origin = origin-same k m s.place s.by a lt s.origin; carried = carried-same s.place k q w a before s.carried }
+      record { place = s.place; by = s.by; origin = origin-same k s.place s.by m a lt s.origin; send = send-same T U s.place (a.steps s.place before) s.send; carried = carried-same s.place k q w a before s.carried }
 
   takes-same : (j k : ℕ) (p q : Point) → WellFormed T → Agree T U k → j < k → TakesBy T j p q → TakesBy U j p q
   takes-same j k p q w a lt (by_set {t = t} d e c ne) =

@@ -6,10 +6,10 @@ use Rattle.std.proofs.lemmas.Bool.{cases_eq}
 use Rattle.tau_history.specs.Timeline.{keep, moved}
 use Rattle.tau_points.specs.Reach.{start}
 use Rattle.tau_trace.specs.declared.step.Step.{Step}
-use Rattle.tau_trace.specs.declared.step.Step.TheVariants.{Send, New}
+use Rattle.tau_trace.specs.declared.step.Step.TheVariants.{Send, New, Echo, Repeat}
 use Rattle.tau_trace.specs.Steps.{actor, is_new, makes_message}
 use Rattle.tau_trace.specs.Run.{Run, step_at, ActsAt}
-use Rattle.tau_trace.specs.Numbering.{born, sent, IsNew, IsOrigin, direct}
+use Rattle.tau_trace.specs.Numbering.{born, sent, IsNew, IsRepeated, IsOrigin, direct, echoed}
 use Rattle.tau_trace.specs.Histories.{history, move_at}
 use Rattle.tau_trace.specs.Known.{WellFormed}
 use Rattle.tau_trace.proofs.Once.{origin_acts}
@@ -22,7 +22,7 @@ use Rattle.tau_trace.proofs.Sequences.{cases_last}
 use Rattle.tau_past.specs.Heard.{heard_by, earlier, IsCausallyClosed, own_step, Heard, HeardBy, HeardTogether, HoldsStepsBefore, Bound}
 use Rattle.tau_past.specs.KnownLaws.{HearsOf, HearsOfNone, IsSame, Union, With, BoundsWithStep, HasBounds}
 use Rattle.tau_past.proofs.Known.{acts_known, hears_known, heard_before, heard_by_before}
-use Rattle.tau_past.proofs.HeardLemmas.{new_acts, heard_after_step, heard_with_sender}
+use Rattle.tau_past.proofs.HeardLemmas.{new_acts, heard_after_step, heard_with_sender, copies_hear}
 use Rattle.tau_value.proofs.NameLemmas.{last_or_below}
 
 equal_or_less : (i n : ℕ) → i ≤ n → (i ≡ n) ⊎ (i < n)
@@ -142,21 +142,35 @@ born_or_new T t k lt = by_step (step_at T k) refl where
       (last_or_below t (born T k) (fits (Some (New u b n v)) e))
   by_step (Some s) e = inl (omega (arith, fits (Some s) e))
 
-sent_or_origin : (T : Run) (m k : ℕ) → m < sent T (suc k) → (m < sent T k) ⊎ ((by : ℕ) × IsOrigin T k by m)
-sent_or_origin T m k lt = by_step (step_at T k) refl where
+-- a message that exists after a step existed before it, or the step is its origin, or makes it as a copy
+data MadeCase (T : Run) (k m : ℕ) : Type 0 where
+  older : m < sent T k → MadeCase T k m
+  origin : (by : ℕ) → IsOrigin T k by m → MadeCase T k m
+  copy : (n : ℕ) → IsRepeated T k n m → MadeCase T k m
+
+made-cases : (T : Run) (m k : ℕ) → WellFormed T → m < sent T (suc k) → MadeCase T k m
+made-cases T m k w lt = by_step (step_at T k) refl where
   grown : sent T (suc k) ≡ sent T k + cond (option_map_or makes_message (step_at T k) false) 1 0
   grown = omega (arith, count-suc (λ j. option_map_or makes_message (step_at T j) false) k)
 
   fits : (o : Option Step) → step_at T k ≡ o → m < sent T k + cond (option_map_or makes_message o false) 1 0
   fits o e = subst (λ s. m < sent T k + cond (option_map_or makes_message s false) 1 0) e (subst (λ n. m < n) grown lt)
 
-  by_step : (o : Option Step) → step_at T k ≡ o → (m < sent T k) ⊎ ((by : ℕ) × IsOrigin T k by m)
-  by_step None e = inl (omega (arith, fits None e))
-  by_step (Some (Send u w v)) e = ⊎_elim
-      (λ l. inl l)
-      (λ same. inr (u, direct (record { to = w; value = v; stands = e; made = same })))
-      (last_or_below m (sent T k) (fits (Some (Send u w v)) e))
-  by_step (Some s) e = inl (omega (arith, fits (Some s) e))
+  by_step : (o : Option Step) → step_at T k ≡ o → MadeCase T k m
+  by_step None e = older (omega (arith, fits None e))
+  by_step (Some (Send u x v)) e = ⊎_elim
+      (λ l. older l)
+      (λ same. origin u (direct (record { to = x; value = v; stands = e; made = same })))
+      (last_or_below m (sent T k) (fits (Some (Send u x v)) e))
+  by_step (Some (Echo u n)) e = ⊎_elim
+      (λ l. older l)
+      (λ same. origin u (echoed {n = n} (record { stands = e; made = same; earlier = omega (arith, same, (w.known k (Echo u n) e).1) })))
+      (last_or_below m (sent T k) (fits (Some (Echo u n)) e))
+  by_step (Some (Repeat n)) e = ⊎_elim
+      (λ l. older l)
+      (λ same. copy n (record { stands = e; made = same; earlier = omega (arith, same, w.known k (Repeat n) e) }))
+      (last_or_below m (sent T k) (fits (Some (Repeat n)) e))
+  by_step (Some s) e = older (omega (arith, fits (Some s) e))
 
 -- a set without places has the bound 0
 empty_bound : (T : Run) (H : ℕ → Type 0) (u : ℕ) → ((j : ℕ) → ¬ H j) → (a : ℕ) × Bound T H u a
@@ -208,10 +222,11 @@ module _ (T : Run) (w : WellFormed T) (u k : ℕ) (here : BoundsAt T u k) where
     new n = bound_same T (Heard T t (suc k)) (With (Heard T n.0 k) k) u ((heard_after_step T t k w).created n.0 n.1) (with_step n.0 (new_acts T k n.0 t n.1))
 
   next_message : (m : ℕ) → m < sent T (suc k) → (a : ℕ) × Bound T (HeardBy T m) u a
-  next_message m lt = ⊎_elim
-      (here.message m)
-      (λ o. bound_same T (HeardBy T m) (With (Heard T o.0 k) k) u (heard_with_sender T m k o.0 o.1) (with_step o.0 (origin_acts T k o.0 m o.1)))
-      (sent_or_origin T m k lt)
+  next_message m lt = by (made-cases T m k w lt) where
+    by : MadeCase T k m → (a : ℕ) × Bound T (HeardBy T m) u a
+    by (older l) = here.message m l
+    by (origin t o) = bound_same T (HeardBy T m) (With (Heard T t k) k) u (heard_with_sender T m k t o) (with_step t (origin_acts T k t m o))
+    by (copy n c) = bound_same T (HeardBy T m) (HeardBy T n) u (copies_hear T k n m c) (here.message n (omega (arith, c.earlier, c.made)))
 
 bounds_at : (T : Run) → WellFormed T → (u k : ℕ) → BoundsAt T u k
 bounds_at T w u zero = record {

@@ -6,12 +6,12 @@ use Rattle.tau_points.specs.Reach.{start, next, IsWithin}
 use Rattle.tau_points.proofs.Reach.{least, monotone}
 use Rattle.tau_trace.specs.declared.step.Step.TheVariants.{Take, New}
 use Rattle.tau_trace.specs.Run.{Run, ActsAt}
-use Rattle.tau_trace.specs.Numbering.{IsNew, IsOrigin, direct}
+use Rattle.tau_trace.specs.Numbering.{IsNew, IsRepeated, IsOrigin, direct, echoed, copied}
 use Rattle.tau_trace.specs.Points.{point_at}
 use Rattle.tau_trace.specs.Known.{WellFormed}
 use Rattle.tau_trace.proofs.Agreement.{born-grows}
 use Rattle.tau_trace.proofs.Lists.{same_some}
-use Rattle.tau_trace.proofs.Once.{new_once, origin_once, origin_acts, posts_have_no_origin}
+use Rattle.tau_trace.proofs.Once.{new_once, origin_once, origin_acts, copies_have_their_origin, posts_have_no_origin}
 use Rattle.tau_trace.proofs.Quiet.{acts}
 use Rattle.tau_trace.proofs.Sequences.{cases_last}
 use Rattle.tau_past.specs.Carried.{Pending, touched, came, Carried, SentWith}
@@ -63,7 +63,7 @@ pub pending_touched : (T : Run) (t k : ℕ) (q : Point) → Pending T t k q → 
 pending_touched T t k q (touched {j = j} u lt le d e) = subst (TouchedIn T (Heard T t k)) (sym e) here where
   here : TouchedIn T (Heard T t k) (point_at T t j)
   here = record { place = j; held = start (own_step (acts T t j d.step d.stands d.by) le); touching = d; at_point = refl }
-pending_touched T t k q (came {take = b} {m = m} {j = j} {by = by} u o p) = touched_within T (Heard T by j) (Heard T t k) q (absorbs T (Heard T t k) j by (heard_closed T t k) send (origin_acts T j by m o)) (pending_touched T by j q p) where
+pending_touched T t k q (came {take = b} {m = m} {j = j} {by = by} u o x p) = touched_within T (Heard T by j) (Heard T t k) q (absorbs T (Heard T t k) j by (heard_closed T t k) send (origin_acts T j by m o)) (pending_touched T by j q p) where
   send : Heard T t k j
   send = next (start (own_step (acts T t b (Take t m) u.takes refl) u.before)) (message (ap (option_and_then heard_by) u.takes) o)
 
@@ -141,12 +141,14 @@ heard_hearing T t k m a e j = (
   both : HeardTogether T t k m j → Heard T t (suc k) j
   both h = ⊎_elim (heard_grows T t k (suc k) (omega arith) j) (absorbs_message T (Heard T t (suc k)) k m (heard_closed T t (suc k)) (own_place T t k a) e j) h
 
--- a New and a Send hear of no message
+-- a New, a Send and an Echo hear of no message
 new_alone : (T : Run) (k by u : ℕ) → IsNew T k by u → HearsOfNone T k
 new_alone T k by u n = ap (option_and_then heard_by) n.stands
 
 origin_alone : (T : Run) (k by m : ℕ) → IsOrigin T k by m → HearsOfNone T k
 origin_alone T k by m (direct o) = ap (option_and_then heard_by) o.stands
+origin_alone T k by m (echoed o) = ap (option_and_then heard_by) o.stands
+origin_alone T k by m (copied {n = n} c o) = origin_alone T k by n o
 
 heard_created : (T : Run) (t k by : ℕ) → WellFormed T → IsNew T k by t → IsSame (Heard T t (suc k)) (With (Heard T by k) k)
 heard_created T t k by w n j = (
@@ -170,6 +172,13 @@ heard_with_sender T m k by o j = (
 
   send : HeardBy T m k
   send = start (record { by = by; origin = o })
+
+-- a copy has heard what the message that it repeats has heard
+pub copies_hear : (T : Run) (k n m : ℕ) → IsRepeated T k n m → IsSame (HeardBy T m) (HeardBy T n)
+copies_hear T k n m c j = (
+  monotone (Needs T) (Needs T) (OriginOf T m) (OriginOf T n) (λ x y f. f) (λ i o. record { by = o.by; origin = (copies_have_their_origin T k n m i o.by c).0 o.origin }) j,
+  monotone (Needs T) (Needs T) (OriginOf T n) (OriginOf T m) (λ x y f. f) (λ i o. record { by = o.by; origin = (copies_have_their_origin T k n m i o.by c).1 o.origin }) j,
+)
 
 pub heard_after_step : (T : Run) (t k : ℕ) → WellFormed T → HeardAfterStep T t k
 heard_after_step T t k w = record {

@@ -3,7 +3,7 @@ use Rattle.std.proofs.Common.{◌≡◌, ℕ, ◌<◌, Option, Some, None, arith
 use Rattle.tau_points.specs.Reach.{next, IsClosedUnder}
 use Rattle.tau_points.proofs.Reach.{least}
 use Rattle.tau_trace.specs.declared.step.Step.{Step}
-use Rattle.tau_trace.specs.declared.step.Step.TheVariants.{Take, Drop, Fall}
+use Rattle.tau_trace.specs.declared.step.Step.TheVariants.{Take, Drop, Fall, Heed}
 use Rattle.tau_trace.specs.Run.{Run, step_at, ActsAt}
 use Rattle.tau_trace.specs.Numbering.{born, sent}
 use Rattle.tau_trace.specs.Known.{WellFormed, IsKnownAt}
@@ -17,6 +17,7 @@ known_message : (T : Run) (k m : ℕ) (s : Step) → heard_by s ≡ Some m → I
 known_message T k m (Take u n) e h = let same : n ≡ m = cc in subst (λ n. n < sent T k) same h.1
 known_message T k m (Drop u n) e h = let same : n ≡ m = cc in subst (λ n. n < sent T k) same h.1
 known_message T k m (Fall u n) e h = let same : n ≡ m = cc in subst (λ n. n < sent T k) same h.1
+known_message T k m (Heed u n) e h = let same : n ≡ m = cc in subst (λ n. n < sent T k) same h.1
 known_message T k m s e h = absurd (cc)
 
 -- a step that stands at a place, where a function of it has a value

@@ -12,7 +12,7 @@ use Rattle.tau_trace.specs.declared.step.Step.{Step}
 use Rattle.tau_trace.specs.declared.step.Step.TheVariants.{Take}
 use Rattle.tau_trace.specs.Steps.{actor}
 use Rattle.tau_trace.specs.Run.{Run, len, step_at, starts, ActsAt}
-use Rattle.tau_trace.specs.Numbering.{born, sent, IsPlaceOf}
+use Rattle.tau_trace.specs.Numbering.{born, sent}
 use Rattle.tau_trace.specs.Histories.{history, move_at, move_of, is_fall, Falls}
 use Rattle.tau_trace.specs.Points.{point_at}
 use Rattle.tau_trace.specs.Known.{WellFormed}
@@ -33,7 +33,7 @@ use Rattle.tau_trace.proofs.Reading.{past_end}
 use Rattle.tau_points.proofs.PointOrder.{point_eq-Decides}
 use Rattle.tau_past.specs.Carried.{is_set, first_point}
 use Rattle.tau_past.specs.TableSteps.{taker, latest_for, latest_after, opening_history}
-use Rattle.tau_past.specs.Tables.{TakesAt, by_set, by_new, IsLast, TellsEarlier, TellsLatest, same_point}
+use Rattle.tau_past.specs.Tables.{IsSendPlaceOf, TakesAt, by_set, by_new, IsLast, TellsEarlier, TellsLatest, same_point}
 use Rattle.tau_past.specs.Tables.{Lists, TellsTurn, TellsHistory, TellsCarrier, TellsCarried, TellsMade, IsBirth, all_born}
 use Rattle.tau_past.specs.TableSteps.{turn_after, carrying_of, carried_by, point_of}
 use Rattle.tau_past.proofs.Known.{acts_known}
@@ -143,7 +143,7 @@ turns_own T k t s xs ys own h turn next origin w lt e by past is from made read 
       exists : t < all_born T
       exists = acts_told T t k s w lt e by
 
-      of_message : (m : ℕ) → s ≡ Take t m → (m < sent T k) × IsPlaceOf T m origin
+      of_message : (m : ℕ) → s ≡ Take t m → (m < sent T k) × IsSendPlaceOf T m origin
       of_message m f =
           let known : (t < born T k) × (m < sent T k) = w.known k (Take t m) (e ∙ ap (λ (x : Step). Some x) f) in
           (known.1, subst (λ r. TellsCarrier T r origin) f from)

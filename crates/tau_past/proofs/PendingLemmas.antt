@@ -3,7 +3,7 @@ use Rattle.std.proofs.Common.{◌≡◌, ◌⊎◌, ◌↔◌, inl, inr, ⊎_eli
 use Rattle.std.specs.Prelude.{◌||◌}
 use Rattle.tau_points.specs.declared.point.Point.{Point}
 use Rattle.tau_trace.specs.declared.step.Step.{Step}
-use Rattle.tau_trace.specs.declared.step.Step.TheVariants.{Take, Drop, Void, Get, Set, Skip, Send, New, Stabilize, Ask, Lose}
+use Rattle.tau_trace.specs.declared.step.Step.TheVariants.{Take, Drop, Void, Get, Set, Skip, Send, New, Stabilize, Ask, Lose, Echo, Heed, Repeat}
 use Rattle.tau_trace.specs.Steps.{ends_turn, is_take}
 use Rattle.tau_trace.specs.Run.{Run, step_at, ActsAt, Does}
 use Rattle.tau_trace.specs.Numbering.{IsOrigin}
@@ -31,6 +31,9 @@ keeping_bounds_none (New t b n v) h = refl
 keeping_bounds_none (Drop t m) h = refl
 keeping_bounds_none (Void t m) h = refl
 keeping_bounds_none (Lose m) h = refl
+keeping_bounds_none (Echo t m) h = refl
+keeping_bounds_none (Heed t m) h = refl
+keeping_bounds_none (Repeat m) h = refl
 keeping_bounds_none s h = absurd (cc)
 
 keeping_touches_none : (s : Step) → IsTrue (keeps_pending s) → IsFalse (touches s)
@@ -39,6 +42,9 @@ keeping_touches_none (New t b n v) h = refl
 keeping_touches_none (Drop t m) h = refl
 keeping_touches_none (Void t m) h = refl
 keeping_touches_none (Lose m) h = refl
+keeping_touches_none (Echo t m) h = refl
+keeping_touches_none (Heed t m) h = refl
+keeping_touches_none (Repeat m) h = refl
 keeping_touches_none s h = absurd (cc)
 
 does_not : (T : Run) (t k : ℕ) (test other : Step → Bool) → ((s : Step) → IsTrue (test s) → IsFalse (other s)) → Does test T t k → ¬ Does other T t k
@@ -93,11 +99,11 @@ turns_after_step T t k = record {
 -- without an open turn nothing is pending
 pub pending_turn : (T : Run) (t k : ℕ) (q : Point) → Pending T t k q → HasOpenTurn T t k
 pending_turn T t k q (touched {take = b} {m = m} u l h d e) = (b, (m, u))
-pending_turn T t k q (came {take = b} {m = m} u o p) = (b, (m, u))
+pending_turn T t k q (came {take = b} {m = m} u o x p) = (b, (m, u))
 
 pub pending_on : (T : Run) (t k : ℕ) (q : Point) → ¬ Does bounds T t k → Pending T t k q → Pending T t (suc k) q
 pending_on T t k q none (touched {take = b} {m = m} u l h d e) = touched (turn-on T t k b m none u) l (omega arith) d e
-pending_on T t k q none (came {take = b} {m = m} u o p) = came (turn-on T t k b m none u) o p
+pending_on T t k q none (came {take = b} {m = m} u o x p) = came (turn-on T t k b m none u) o x p
 
 -- what is pending after a step that begins and ends no turn was pending, or is the point of a touching step in a turn
 pending_back : (T : Run) (t k : ℕ) (q : Point) → ¬ Does bounds T t k → Pending T t (suc k) q → Pending T t k q ⊎ (Does touches T t k × HasOpenTurn T t k × (q ≡ point_at T t k))
@@ -105,7 +111,7 @@ pending_back T t k q none (touched {take = b} {m = m} {j = j} u l h d e) = ⊎_e
     (λ (at : j ≡ k). inr (subst (Does touches T t) at d, (b, (m, turn_back T t k b m none u)), e ∙ ap (point_at T t) at))
     (λ (less : j < k). inl (touched (turn_back T t k b m none u) l less d e))
     (cases_last j k h)
-pending_back T t k q none (came {take = b} {m = m} u o p) = inl (came (turn_back T t k b m none u) o p)
+pending_back T t k q none (came {take = b} {m = m} u o x p) = inl (came (turn_back T t k b m none u) o x p)
 
 kept_pending : (T : Run) (t k : ℕ) → ¬ Does bounds T t k → ¬ Does touches T t k → KeepsPending T t k
 kept_pending T t k none quiet q = (λ p. ⊎_elim (λ r. r) (λ d. absurd (quiet d.0)) (pending_back T t k q none p), pending_on T t k q none)
@@ -120,13 +126,13 @@ pub pending_taken : (T : Run) (t k m : ℕ) (q : Point) → step_at T k ≡ Some
 pending_taken T t k m q e = (forth, back) where
   forth : Pending T t (suc k) q → SentWith T m q
   forth (touched {take = b} {m = n} {j = j} u l h d f) = absurd (omega (arith, (only_turn T t k m b n e u).0, l, h))
-  forth (came {take = b} {m = n} {j = j} {by = by} u o p) =
-      record { place = j; by = by; origin = subst (IsOrigin T j by) (only_turn T t k m b n e u).1 o; carried = record { by = by; acts = origin_acts T j by n o; pending = p } }
+  forth (came {take = b} {m = n} {j = j} {by = by} u o x p) =
+      record { place = j; by = by; origin = subst (IsOrigin T j by) (only_turn T t k m b n e u).1 o; send = x; carried = record { by = by; acts = origin_acts T j by n o; pending = p } }
 
   back : SentWith T m q → Pending T t (suc k) q
   back s =
       let same : s.carried.by ≡ s.by = same_some (sym s.carried.acts ∙ origin_acts T s.place s.by m s.origin) in
-      came (begun T t k m e) s.origin (subst (λ u. Pending T u s.place q) same s.carried.pending)
+      came (begun T t k m e) s.origin s.send (subst (λ u. Pending T u s.place q) same s.carried.pending)
 
 pub pending_after_step : (T : Run) (t k : ℕ) → PendingAfterStep T t k
 pending_after_step T t k = record {

@@ -1,12 +1,13 @@
 -- What a transactor's next step would carry, one place further.
 use Rattle.std.proofs.Common.{◌≡◌, ◌⊎◌, ◌↔◌, inl, inr, ⊎_elim, ℕ, suc, ◌<◌, ◌≤◌, Bool, true, false, cond, Option, Some, None, refl, sym, ap, ◌∙◌, subst, arith}
 use Rattle.std.specs.Prelude.{◌||◌, option_map}
+use Rattle.std.specs.Option.{option_map_or}
 use Rattle.tau_points.specs.declared.point.Point.{Point}
 use Rattle.tau_trace.specs.declared.step.Step.{Step}
 use Rattle.tau_trace.specs.declared.step.Step.TheVariants.{Take}
-use Rattle.tau_trace.specs.Steps.{actor, ends_turn, is_take}
+use Rattle.tau_trace.specs.Steps.{actor, ends_turn, is_take, is_send}
 use Rattle.tau_trace.specs.Run.{Run, step_at, ActsAt, Does}
-use Rattle.tau_trace.specs.Numbering.{sent, IsPlaceOf}
+use Rattle.tau_trace.specs.Numbering.{sent, IsPlaceOf, IsSendAt}
 use Rattle.tau_trace.specs.Points.{point_at}
 use Rattle.tau_trace.specs.Turns.{IsOpenTurn, HasOpenTurn}
 use Rattle.tau_trace.proofs.Agreement.{origin_before}
@@ -17,8 +18,8 @@ use Rattle.tau_trace.proofs.Sequences.{cases_last}
 use Rattle.tau_trace.proofs.TrackingLemmas.{turn_same, turn_begins, turn_ends, bounds, turn-on}
 use Rattle.tau_past.specs.declared.carrying.Carrying.{Carrying}
 use Rattle.tau_past.specs.Carried.{touches, Pending, touched, came, Carried, SentWith}
-use Rattle.tau_past.specs.Tables.{CarriedFrom, TellsPoints, nothing, TellsTurn}
-use Rattle.tau_past.specs.TableSteps.{turn_after, carrying_of}
+use Rattle.tau_past.specs.Tables.{CarriedFrom, TellsPoints, nothing, TellsTurn, IsSendPlaceOf}
+use Rattle.tau_past.specs.TableSteps.{turn_after, carrying_of, send_place}
 use Rattle.tau_past.proofs.PendingLemmas.{turn_back, pending_on, pending_taken}
 
 pub does_not : (test : Step → Bool) (T : Run) (t k : ℕ) (s : Step) → step_at T k ≡ Some s → test s ≡ false → ¬ Does test T t k
@@ -35,7 +36,7 @@ touch-cases T t k q none (touched {take = b} {m = m} {j = j} u l h d e) = ⊎_el
     (λ (at : j ≡ k). inl (subst (Does touches T t) at d, e ∙ ap (point_at T t) at))
     (λ (less : j < k). inr (touched (turn_back T t k b m none u) l less d e))
     (cases_last j k h)
-touch-cases T t k q none (came {take = b} {m = m} u o p) = inr (came (turn_back T t k b m none u) o p)
+touch-cases T t k q none (came {take = b} {m = m} u o x p) = inr (came (turn_back T t k b m none u) o x p)
 
 -- after a step that bounds no turn and touches nothing
 pub pending_plain : (T : Run) (t k : ℕ) (q : Point) → ¬ Does bounds T t k → ¬ Does touches T t k → Pending T t (suc k) q ↔ Pending T t k q
@@ -62,7 +63,7 @@ carried_pending T t k q a = (
 
 has_turn : (T : Run) (t k : ℕ) (q : Point) → Pending T t k q → HasOpenTurn T t k
 has_turn T t k q (touched {take = b} {m = m} u l h d e) = (b, (m, u))
-has_turn T t k q (came {take = b} {m = m} u o p) = (b, (m, u))
+has_turn T t k q (came {take = b} {m = m} u o x p) = (b, (m, u))
 
 pub pending_idle : (T : Run) (t k : ℕ) (q : Point) → IsOpenTurn T t k None → ¬ Pending T t k q
 pending_idle T t k q idle p = let h = has_turn T t k q p in idle h.0 h.1.0 h.1.1
@@ -108,13 +109,13 @@ tells-own T k t s own o e by plain at h true c ends touch = turn_ends T t k s e 
 tells-own T k t s own o e by plain at h false true ends touch = tells-touched T k t own o (does_not bounds T t k s e (ap (λ b. b || is_take s) ends ∙ plain)) (does touches T t k s e by touch) at h
 tells-own T k t s own o e by plain at h false false ends touch = tells-plain T k t o (does_not bounds T t k s e (ap (λ b. b || is_take s) ends ∙ plain)) (does_not touches T t k s e touch) h
 
-tells-taken : (T : Run) (k t m : ℕ) (origin : Option ℕ) → step_at T k ≡ Some (Take t m) → m < sent T k → IsPlaceOf T m origin → TellsTurn T (suc k) t (Some (record { touched = None; rest = origin }))
+tells-taken : (T : Run) (k t m : ℕ) (origin : Option ℕ) → step_at T k ≡ Some (Take t m) → m < sent T k → IsSendPlaceOf T m origin → TellsTurn T (suc k) t (Some (record { touched = None; rest = origin }))
 tells-taken T k t m origin e lt told = ((k, turn_begins T t k m e), record { points = points; earlier = earlier origin told }) where
-  sent_with : (q : Point) (o : Option ℕ) → IsPlaceOf T m o → SentWith T m q ↔ CarriedFrom T o q
-  sent_with q None f = (λ s. f s.place s.by s.origin, λ n. absurd n)
+  sent_with : (q : Point) (o : Option ℕ) → IsSendPlaceOf T m o → SentWith T m q ↔ CarriedFrom T o q
+  sent_with q None f = (λ s. absurd (f s.place s.by s.origin s.send), λ n. absurd n)
   sent_with q (Some j) f = (
-    λ s. subst (λ i. Carried T i q) (origin_once T s.place j s.by f.0 m s.origin f.1) s.carried,
-    λ c. record { place = j; by = f.0; origin = f.1; carried = c },
+    λ s. subst (λ i. Carried T i q) (origin_once T s.place j s.by f.0.0 m s.origin f.0.1) s.carried,
+    λ c. record { place = j; by = f.0.0; origin = f.0.1; send = f.1; carried = c },
   )
 
   points : (q : Point) → Pending T t (suc k) q ↔ ((None ≡ Some q) ⊎ CarriedFrom T origin q)
@@ -125,12 +126,22 @@ tells-taken T k t m origin e lt told = ((k, turn_begins T t k m e), record { poi
         λ s. taken.1 (⊎_elim (λ (f : None ≡ Some q). absurd (cc)) (λ c. same.1 c) s),
       )
 
-  earlier : (o : Option ℕ) → IsPlaceOf T m o → (j : ℕ) → o ≡ Some j → j < suc k
+  earlier : (o : Option ℕ) → IsSendPlaceOf T m o → (j : ℕ) → o ≡ Some j → j < suc k
   earlier None f j g = absurd (cc)
-  earlier (Some i) f j g = omega (arith, origin_before T i f.0 m k f.1 lt, same_some g)
+  earlier (Some i) f j g = omega (arith, origin_before T i f.0.0 m k f.0.1 lt, same_some g)
+
+-- the place of a message's origin, where a Send stands there
+pub send_told : (T : Run) (m i : ℕ) → IsPlaceOf T m (Some i) → IsSendPlaceOf T m (send_place T i)
+send_told T m i f = by (option_map_or is_send (step_at T i) false) refl where
+  by : (b : Bool) → option_map_or is_send (step_at T i) false ≡ b → IsSendPlaceOf T m (cond b (Some i) None)
+  by true e = (f, e)
+  by false e = λ j u o s.
+      let here : IsSendAt T i = subst (IsSendAt T) (origin_once T j i u f.0 m o f.1) s in
+      let both : false ≡ true = sym e ∙ here in
+      cc
 
 -- after a step of its own
-pub tells_own : (T : Run) (k t : ℕ) (s : Step) (own : Point) (origin : Option ℕ) (o : Option Carrying) → step_at T k ≡ Some s → actor s ≡ Some t → own ≡ point_at T t k → ((m : ℕ) → s ≡ Take t m → (m < sent T k) × IsPlaceOf T m origin) → TellsTurn T k t o → TellsTurn T (suc k) t (turn_after s k own origin o)
+pub tells_own : (T : Run) (k t : ℕ) (s : Step) (own : Point) (origin : Option ℕ) (o : Option Carrying) → step_at T k ≡ Some s → actor s ≡ Some t → own ≡ point_at T t k → ((m : ℕ) → s ≡ Take t m → (m < sent T k) × IsSendPlaceOf T m origin) → TellsTurn T k t o → TellsTurn T (suc k) t (turn_after s k own origin o)
 tells_own T k t (Take u m) own origin o e by at told h =
     let same : u ≡ t = same_some by in
     let is : step_at T k ≡ Some (Take t m) = subst (λ w. step_at T k ≡ Some (Take w m)) same e in

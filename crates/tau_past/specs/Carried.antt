@@ -4,7 +4,7 @@ use Rattle.tau_points.specs.declared.point.Point.{Point}
 use Rattle.tau_trace.specs.declared.step.Step.{Step}
 use Rattle.tau_trace.specs.declared.step.Step.TheVariants.{Get, Set, Skip, Stabilize, Ask}
 use Rattle.tau_trace.specs.Run.{Run, ActsAt, Does}
-use Rattle.tau_trace.specs.Numbering.{IsNew, IsOrigin}
+use Rattle.tau_trace.specs.Numbering.{IsNew, IsOrigin, IsSendAt}
 use Rattle.tau_trace.specs.Points.{point_at}
 use Rattle.tau_trace.specs.Turns.{Turn}
 
@@ -22,10 +22,10 @@ is_set (Set t v) = true
 is_set s = false
 
 -- a step of t at place k would carry point q: an earlier touching step of t's open turn was made at q, or the message
--- of that turn's Take was made by a Send that carries q
+-- of that turn's Take has a Send as its origin, which carries q
 pub data Pending (T : Run) : ℕ → ℕ → Point → Type 0 where
   touched : {t k take m j : ℕ} {q : Point} → Turn T t k take m → take < j → j < k → Does touches T t j → q ≡ point_at T t j → Pending T t k q
-  came : {t k take m j by : ℕ} {q : Point} → Turn T t k take m → IsOrigin T j by m → Pending T by j q → Pending T t k q
+  came : {t k take m j by : ℕ} {q : Point} → Turn T t k take m → IsOrigin T j by m → IsSendAt T j → Pending T by j q → Pending T t k q
 
 -- the step at place k carries point q: it exists, and a step of its actor there would
 pub record Carried (T : Run) (k : ℕ) (q : Point) : Type 0 where
@@ -33,11 +33,12 @@ pub record Carried (T : Run) (k : ℕ) (q : Point) : Type 0 where
   pub acts : ActsAt T by k
   pub pending : Pending T by k q
 
--- message m carries point q: the Send that made it does; a post carries nothing
+-- message m carries point q: its origin is a Send that does; a post, a notice and copies of them carry nothing
 pub record SentWith (T : Run) (m : ℕ) (q : Point) : Type 0 where
   pub place : ℕ
   pub by : ℕ
   pub origin : IsOrigin T place by m
+  pub send : IsSendAt T place
   pub carried : Carried T place q
 
 -- the first point of a created transactor

@@ -2,15 +2,16 @@
 use Rattle.std.specs.Prelude.{◌≡◌, ◌⊎◌, ◌↔◌, ℕ, suc, ◌<◌, Option, Some, None, option_and_then}
 use Rattle.tau_points.specs.Reach.{Reach}
 use Rattle.tau_trace.specs.declared.step.Step.{Step}
-use Rattle.tau_trace.specs.declared.step.Step.TheVariants.{Take, Drop, Fall}
+use Rattle.tau_trace.specs.declared.step.Step.TheVariants.{Take, Drop, Fall, Heed}
 use Rattle.tau_trace.specs.Run.{Run, step_at, ActsAt}
 use Rattle.tau_trace.specs.Numbering.{IsNew, IsOrigin}
 
--- the message whose Send is heard by the step; a Void hears nothing of its message
+-- the message whose origin is heard by the step; a Void and an Echo hear nothing of their message
 abbrev pub heard_by : Step → Option ℕ
 heard_by (Take t m) = Some m
 heard_by (Drop t m) = Some m
 heard_by (Fall t m) = Some m
+heard_by (Heed t m) = Some m
 heard_by s = None
 
 -- a set of places is closed where it holds, with place k, each place j that k needs
@@ -28,7 +29,7 @@ pub data Own (T : Run) (t k : ℕ) (j : ℕ) : Type 0 where
   own_step : ActsAt T t j → j < k → Own T t k j
   own_birth : {by : ℕ} → IsNew T j by t → Own T t k j
 
--- the Send of message m
+-- the origin of message m
 pub record OriginOf (T : Run) (m : ℕ) (j : ℕ) : Type 0 where
   pub by : ℕ
   pub origin : IsOrigin T j by m
@@ -37,7 +38,7 @@ pub record OriginOf (T : Run) (m : ℕ) (j : ℕ) : Type 0 where
 abbrev pub Heard : Run → ℕ → ℕ → ℕ → Type 0
 Heard T t k = Reach (Needs T) (Own T t k)
 
--- the places that message m has heard of: the least closed set that holds its Send
+-- the places that message m has heard of: the least closed set that holds its origin
 abbrev pub HeardBy : Run → ℕ → ℕ → Type 0
 HeardBy T m = Reach (Needs T) (OriginOf T m)
 

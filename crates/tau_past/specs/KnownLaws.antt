@@ -79,7 +79,7 @@ SentPointsWereTouched = (T : Run) (m : ℕ) (q : Point) → SentWith T m q → T
 
 -- What is heard.
 
--- the step at place k hears of message m: it is a Take, a Drop or a Fall of it
+-- the step at place k hears of message m: it is a Take, a Drop, a Fall or a Heed of it
 abbrev pub HearsOf : Run → ℕ → ℕ → Type 0
 HearsOf T k m = option_and_then heard_by (step_at T k) ≡ Some m
 
@@ -121,7 +121,7 @@ pub record HoldsHeardAt (T : Run) (H : ℕ → Type 0) (j : ℕ) : Type 0 where
 abbrev pub ClosedSetsHoldWhatWasHeard : (ℕ → Type 0) → Type 0
 ClosedSetsHoldWhatWasHeard H = (T : Run) (j : ℕ) → IsCausallyClosed T H → H j → HoldsHeardAt T H j
 
--- what is heard stands before the place where it is heard, and what a message has heard not after its Send; a post has
+-- what is heard stands before the place where it is heard, and what a message has heard not after its origin; a post has
 -- heard nothing
 pub record HeardStandsBefore (T : Run) : Type 0 where
   pub transactor : (t k j : ℕ) → t < born T k → Heard T t k j → j < k
@@ -143,7 +143,7 @@ pub record HeardAfterStep (T : Run) (t k : ℕ) : Type 0 where
 abbrev pub HeardStepByStep : Type 0
 HeardStepByStep = (T : Run) (t k : ℕ) → WellFormed T → HeardAfterStep T t k
 
--- a message has heard what its sender had heard, and its Send
+-- a message has heard what its sender had heard at its origin, and its origin
 abbrev pub MessagesHearWithTheirSender : Type 0
 MessagesHearWithTheirSender = (T : Run) (m k by : ℕ) → IsOrigin T k by m → IsSame (HeardBy T m) (With (Heard T by k) k)
 

@@ -1,10 +1,12 @@
 -- How a step goes on with the tables, by its kind.
+use Rattle.std.specs.Option.{option_map_or}
 use Rattle.std.specs.Prelude.{ℕ, ◌-◌, Bool, true, false, Option, None, Some, List, slice_get, nat_lt, option_map, if◌then◌else◌, ◌||◌, ◌==◌}
 use Rattle.tau_history.specs.Timeline.{Timeline, interval, numbers, opening, newborn}
 use Rattle.tau_points.specs.declared.point.Point.{Point}
 use Rattle.tau_trace.specs.declared.step.Step.{Step}
 use Rattle.tau_trace.specs.declared.step.Step.TheVariants.{Take, Set, New}
-use Rattle.tau_trace.specs.Steps.{ends_turn}
+use Rattle.tau_trace.specs.Steps.{ends_turn, is_send}
+use Rattle.tau_trace.specs.Run.{Run, step_at}
 use Rattle.tau_past.specs.declared.carrying.Carrying.{Carrying}
 use Rattle.tau_past.specs.declared.made.Made.{Made}
 use Rattle.tau_past.specs.Carried.{touches, first_point}
@@ -19,6 +21,10 @@ carrying_of None = nothing
 abbrev pub carried_by : List (Option Carrying) → Option ℕ → Carrying
 carried_by turns None = nothing
 carried_by turns (Some t) = carrying_of (slice_get turns t)
+
+-- the place, where a Send stands there
+abbrev pub send_place : Run → ℕ → Option ℕ
+send_place T k = if option_map_or is_send (step_at T k) false then Some k else None
 
 -- what the turn carries after a step of its own
 abbrev pub turn_after : Step → ℕ → Point → Option ℕ → Option Carrying → Option Carrying

@@ -5,7 +5,7 @@ use Rattle.tau_points.specs.declared.point.Point.{Point}
 use Rattle.tau_trace.specs.declared.step.Step.{Step}
 use Rattle.tau_trace.specs.declared.step.Step.TheVariants.{Take}
 use Rattle.tau_trace.specs.Run.{Run, len, ActsAt, Does}
-use Rattle.tau_trace.specs.Numbering.{born, IsNew, IsPlaceOf}
+use Rattle.tau_trace.specs.Numbering.{born, IsNew, IsOrigin, IsSendAt, IsPlaceOf}
 use Rattle.tau_trace.specs.Histories.{history, Falls}
 use Rattle.tau_trace.specs.Points.{point_at}
 use Rattle.tau_trace.specs.Turns.{IsOpenTurn, HasOpenTurn}
@@ -43,9 +43,14 @@ TellsTurn T k t (Some c) = HasOpenTurn T t k × TellsPoints T k (Pending T t k) 
 abbrev pub TellsHistory : Run → ℕ → ℕ → Stored → Type 0
 TellsHistory T k t h = h.history ≡ history T t k
 
--- what the turn that the step begins goes on from: where it is a Take, the place of the Send of its message; None for a post
+-- the place of the origin of message m where a Send stands there; None where none does
+abbrev pub IsSendPlaceOf : Run → ℕ → Option ℕ → Type 0
+IsSendPlaceOf T m None = (j by : ℕ) → IsOrigin T j by m → ¬ IsSendAt T j
+IsSendPlaceOf T m (Some j) = IsPlaceOf T m (Some j) × IsSendAt T j
+
+-- what the turn that the step begins goes on from: where it is a Take, the place of the Send that is its message's origin
 abbrev pub TellsCarrier : Run → Step → Option ℕ → Type 0
-TellsCarrier T (Take t m) o = IsPlaceOf T m o
+TellsCarrier T (Take t m) o = IsSendPlaceOf T m o
 TellsCarrier T s o = o ≡ None
 
 -- what the step at place k carries

@@ -1,7 +1,7 @@
 //! What steps carry, each step by an earlier one.
 ghost use Rattle.std.specs.Prelude.{◌≡◌, Option, slice_get, option_map};
-ghost use Rattle.tau_past.specs.TableSteps.{carried_by, turn_after};
-ghost use Rattle.tau_past.specs.Tables.{TellsCarrier};
+ghost use Rattle.tau_past.specs.TableSteps.{carried_by, turn_after, send_place};
+ghost use Rattle.tau_past.specs.Tables.{IsSendPlaceOf, TellsCarrier};
 
 use tau_points::Point;
 use tau_trace::{Step, Trace};
@@ -64,16 +64,41 @@ pub(crate) fn turn_after(
         | Step::Void { .. }
         | Step::Send { .. }
         | Step::New { .. }
-        | Step::Lose { .. } => turn,
+        | Step::Lose { .. }
+        | Step::Echo { .. }
+        | Step::Heed { .. }
+        | Step::Repeat { .. } => turn,
     }
 }
 
-/// The place of the Send of the message that the step takes; `None` for a post, and for other steps.
+/// The place of the Send that is the origin of the message that the step takes; `None` where it has none, and for other
+/// steps.
 pub(crate) fn carrier_of(trace: &Trace, step: &Step) -> Option<u32>
     ensures { TellsCarrier trace.now.run step.now result }
 {
     match step {
-        Step::Take { message, .. } => trace.origin(*message),
+        Step::Take { message, .. } => send_of(trace, *message),
+        _ => None,
+    }
+}
+
+/// The place of the origin of a message where a Send stands there; `None` where none does: for a post, a notice, copies of
+/// them, and a message that doesn't exist (docs/definitions.md, "Origin").
+pub fn send_of(trace: &Trace, message: u32) -> Option<u32>
+    ensures { IsSendPlaceOf trace.now.run message result }
+{
+    match trace.origin(message) {
+        Some(place) => send_at(trace, place),
+        None => None,
+    }
+}
+
+/// The place where a Send stands there; `None` where none does.
+fn send_at(trace: &Trace, place: u32) -> Option<u32>
+    ensures { result ≡ send_place trace.now.run place }
+{
+    match trace.step(place) {
+        Some(Step::Send { .. }) => Some(place),
         _ => None,
     }
 }

@@ -17,7 +17,7 @@ mod search;
 
 pub use auditing::audit;
 pub use calls::{carried, past};
-pub use carrying::Carrying;
+pub use carrying::{Carrying, send_of};
 pub use findings::Audit;
 pub use index::Index;
 pub use known_laws::{

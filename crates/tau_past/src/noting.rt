@@ -21,7 +21,7 @@ use tau_history::History;
 use tau_points::Point;
 use tau_trace::{Step, Trace};
 
-/// The transactor that makes the step at a place; `None` for a Lose and from the length on.
+/// The transactor that makes the step at a place; `None` for a Lose, a Repeat and from the length on.
 fn actor_at(trace: &Trace, place: u32) -> Option<u32>
     ensures { result ≡ option_and_then actor (step_at trace.now.run place) }
 {

@@ -1,15 +1,16 @@
 -- The words that begin the forms of each kind.
-use Rattle.std.proofs.Common.{◌≡◌, ◌≢◌, ℕ, Bool, true, false, cond, List, [], codes, refl, sym, ap, ◌∙◌}
+use Rattle.std.proofs.Common.{◌≡◌, ◌≢◌, ℕ, Bool, true, false, cond, eqb, List, [], codes, refl, sym, ap, ◌∙◌, eqb-true, eq-eqb}
 use Rattle.std.specs.Str.{bytes_eq}
 use Rattle.std.proofs.lemmas.Slice.Eq.{bytes_eq-Decides}
 use Rattle.tau_trace.specs.declared.step.Step.{Step}
-use Rattle.tau_trace.specs.declared.step.Step.TheVariants.{Take}
+use Rattle.tau_trace.specs.declared.step.Step.TheVariants.{Take, Echo, Heed, Repeat}
+use Rattle.tau_trace.specs.Known.{IsInVersion}
 use Rattle.tau_steps.specs.StepForms.{kind_word}
 use Rattle.tau_steps.specs.declared.kinds.Kind.{Kind}
 use Rattle.tau_steps.specs.declared.kinds.Kind.TheVariants as kinds
 use Rattle.tau_steps.specs.declared.kinds.MessageKind.TheVariants as messages
 use Rattle.tau_steps.specs.declared.kinds.AloneKind.TheVariants as alone
-use Rattle.tau_steps.specs.Kinds.{kind_in, kind_of}
+use Rattle.tau_steps.specs.Kinds.{kind_in, is_later, kind_at, kind_of}
 
 -- the word of a kind
 abbrev word_of : Kind → List ℕ
@@ -32,6 +33,9 @@ word_of (kinds.Alone alone.Done) = codes "done"
 word_of kinds.Trap = codes "trap"
 word_of (kinds.Alone alone.Fail) = codes "fail"
 word_of kinds.Lose = codes "lose"
+word_of kinds.Echo = codes "echo"
+word_of (kinds.OfMessage messages.Heed) = codes "heed"
+word_of kinds.Repeat = codes "repeat"
 word_of kinds.Other = []
 
 -- one row of the table
@@ -64,7 +68,10 @@ word_in w =
     (row w (codes "trap") kinds.Trap _ refl
     (row w (codes "fail") (kinds.Alone alone.Fail) _ refl
     (row w (codes "lose") kinds.Lose _ refl
-    (λ ne. absurd (ne refl))))))))))))))))))))
+    (row w (codes "echo") kinds.Echo _ refl
+    (row w (codes "heed") (kinds.OfMessage messages.Heed) _ refl
+    (row w (codes "repeat") kinds.Repeat _ refl
+    (λ ne. absurd (ne refl)))))))))))))))))))))))
 
 -- a step begins with the word of its kind
 word_of-step : (s : Step) → word_of (kind_of s) ≡ kind_word s
@@ -84,3 +91,27 @@ word_of_kind w s e = word_in w (λ o. not_other s (e ∙ o)) ∙ ap word_of (sym
 pub kind_of-word : (s : Step) → kind_in (kind_word s) ≡ kind_of s
 kind_of-word (Take t m) = refl
 kind_of-word s = refl
+
+-- a step of its version is of its kind there
+pub kind_at-step : (v : ℕ) (s : Step) → IsInVersion v s → kind_at v (kind_of s) ≡ kind_of s
+kind_at-step v (Echo t m) e = ap (λ b. cond b kinds.Echo kinds.Other) (eq-eqb v 2 e)
+kind_at-step v (Heed t m) e = ap (λ b. cond b (kinds.OfMessage messages.Heed) kinds.Other) (eq-eqb v 2 e)
+kind_at-step v (Repeat m) e = ap (λ b. cond b kinds.Repeat kinds.Other) (eq-eqb v 2 e)
+kind_at-step v s e = refl
+
+-- a step whose kind is later is of version 2
+later_step : (v : ℕ) (s : Step) → (is_later (kind_of s) ≡ true → v ≡ 2) → IsInVersion v s
+later_step v (Echo t m) e = e refl
+later_step v (Heed t m) e = e refl
+later_step v (Repeat m) e = e refl
+later_step v s e = tt
+
+-- what a step's kind is in a version tells the kind, and that the step is of the version
+pub in_version : (v : ℕ) (k : Kind) (s : Step) → kind_of s ≡ kind_at v k → (kind_of s ≡ k) × IsInVersion v s
+in_version v k s e = by (is_later k) refl e where
+  by : (b : Bool) → is_later k ≡ b → kind_of s ≡ cond b (cond (eqb v 2) k kinds.Other) k → (kind_of s ≡ k) × IsInVersion v s
+  by false q f = (f, later_step v s (λ l. let both : false ≡ true = sym q ∙ ap is_later (sym f) ∙ l in cc))
+  by true q f = inner (eqb v 2) refl f where
+    inner : (b : Bool) → eqb v 2 ≡ b → kind_of s ≡ cond b k kinds.Other → (kind_of s ≡ k) × IsInVersion v s
+    inner true two g = (g, later_step v s (λ l. eqb-true v 2 two))
+    inner false not g = absurd (not_other s g)

@@ -4,7 +4,7 @@ use Rattle.std.specs.Prelude.{slice_get}
 use Rattle.std.specs.Option.{option_map_or}
 use Rattle.std.specs.Fmt.{decimal}
 use Rattle.std.proofs.lemmas.Option.{slice_get_cases, slice_get_within, slice_get_past}
-use Rattle.tau_sexpr.specs.Tree.{Tree, Trees, word, text, list, none, more}
+use Rattle.tau_sexpr.specs.Tree.{Tree, Trees, word, text, list, none, more, inside}
 use Rattle.tau_value.specs.Val as val
 use Rattle.tau_value.specs.Val.{Val}
 use Rattle.tau_value.specs.Value.{val_of}
@@ -19,11 +19,11 @@ use Rattle.tau_value.proofs.WrittenLemmas.{reads_back}
 use Rattle.tau_value.proofs.ValueLemmas.{value_at, value_at-val_of}
 use Rattle.tau_trace.specs.declared.opening.Opening.{Opening}
 use Rattle.tau_trace.specs.declared.step.Step.{Step}
-use Rattle.tau_trace.specs.declared.step.Step.TheVariants.{Take, Drop, Fall, Void, Get, Set, Skip, Send, New, Stabilize, Ask, Checkpoint, Hold, Rollback, Stay, Done, Trap, Fail, Lose}
+use Rattle.tau_trace.specs.declared.step.Step.TheVariants.{Take, Drop, Fall, Void, Get, Set, Skip, Send, New, Stabilize, Ask, Checkpoint, Hold, Rollback, Stay, Done, Trap, Fail, Lose, Echo, Heed, Repeat}
 use Rattle.tau_trace.specs.Run.{Run, len, step_at}
 use Rattle.tau_trace.specs.Numbering.{born, sent, number_made}
-use Rattle.tau_trace.specs.Known.{IsSound, IsKnown, IsKnownValue, WellFormed}
-use Rattle.tau_steps.specs.StepForms.{who_form, truth_form, value_form, step_form, step_form_at, IsWritten, ValueIsWritten, IsWrittenAt}
+use Rattle.tau_trace.specs.Known.{IsSound, IsKnown, IsKnownValue, IsInVersion, WellFormed}
+use Rattle.tau_steps.specs.StepForms.{who_form, truth_form, value_form, item_forms, step_form, step_form_at, IsWritten, ValueIsWritten, IsWrittenAt}
 use Rattle.tau_trace.proofs.Indexing.{born-le, sent-le}
 use Rattle.tau_trace.proofs.Lists.{same_some}
 use Rattle.tau_trace.proofs.Reading.{element}
@@ -84,26 +84,32 @@ module _ (o : Opening) (b m : ℕ) (sound : IsSound o) (fb : b < 2 ^ 32) (fm : m
   value_is v known is = is.read_back b known.in_bounds known.names
 
   -- each kind of step in turn
-  pub form_means : (s : Step) → IsKnown o b m s → ValueIsWritten o s → MeansStep o b m (step_form o (number_made s b m) s) s
-  form_means (Take t x) h w = (refl, (who t h.0, (message_is x h.1, tt)))
-  form_means (Drop t x) h w = (refl, (who t h.0, (message_is x h.1, tt)))
-  form_means (Fall t x) h w = (refl, (who t h.0, (message_is x h.1, tt)))
-  form_means (Void t x) h w = (refl, (who t h.0, (message_is x h.1, tt)))
-  form_means (Get t) h w = (refl, (who t h, tt))
-  form_means (Set t v) h w = (refl, (who t h.0, (value_is v h.1 w, tt)))
-  form_means (Skip t) h w = (refl, (who t h, tt))
-  form_means (Send t u v) h w = (refl, (who t h.0, (count_means m fm, (who u h.1, (value_is v h.2 w, tt)))))
-  form_means (New t c n v) h w = (refl, (who t h.0, (count_means b fb, (behaviour_means o.behaviours c sound.behaviours h.1, ((count_means n (omega (arith, h.2, sound.few_nodes)), h.2), (value_is v h.3 w, tt))))))
-  form_means (Stabilize t) h w = (refl, (who t h, tt))
-  form_means (Ask t a) h w = (refl, (who t h, (truth_means a, tt)))
-  form_means (Checkpoint t) h w = (refl, (who t h, tt))
-  form_means (Hold t) h w = (refl, (who t h, tt))
-  form_means (Rollback t) h w = (refl, (who t h, tt))
-  form_means (Stay t) h w = (refl, (who t h, tt))
-  form_means (Done t) h w = (refl, (who t h, tt))
-  form_means (Trap t c) h w = (refl, (who t h.0, ((count_means c (omega (arith, h.2)), h.1, h.2), tt)))
-  form_means (Fail t) h w = (refl, (who t h, tt))
-  form_means (Lose x) h w = (refl, (message_is x h, tt))
+  form_items : (s : Step) → IsKnown o b m s → ValueIsWritten o s → MeansItems o b m (items_of b m s) (inside (item_forms o (number_made s b m) s))
+  form_items (Take t x) h w = (who t h.0, (message_is x h.1, tt))
+  form_items (Drop t x) h w = (who t h.0, (message_is x h.1, tt))
+  form_items (Fall t x) h w = (who t h.0, (message_is x h.1, tt))
+  form_items (Void t x) h w = (who t h.0, (message_is x h.1, tt))
+  form_items (Get t) h w = (who t h, tt)
+  form_items (Set t v) h w = (who t h.0, (value_is v h.1 w, tt))
+  form_items (Skip t) h w = (who t h, tt)
+  form_items (Send t u v) h w = (who t h.0, (count_means m fm, (who u h.1, (value_is v h.2 w, tt))))
+  form_items (New t c n v) h w = (who t h.0, (count_means b fb, (behaviour_means o.behaviours c sound.behaviours h.1, ((count_means n (omega (arith, h.2, sound.few_nodes)), h.2), (value_is v h.3 w, tt)))))
+  form_items (Stabilize t) h w = (who t h, tt)
+  form_items (Ask t a) h w = (who t h, (truth_means a, tt))
+  form_items (Checkpoint t) h w = (who t h, tt)
+  form_items (Hold t) h w = (who t h, tt)
+  form_items (Rollback t) h w = (who t h, tt)
+  form_items (Stay t) h w = (who t h, tt)
+  form_items (Done t) h w = (who t h, tt)
+  form_items (Trap t c) h w = (who t h.0, ((count_means c (omega (arith, h.2)), h.1, h.2), tt))
+  form_items (Fail t) h w = (who t h, tt)
+  form_items (Lose x) h w = (message_is x h, tt)
+  form_items (Echo t x) h w = (who t h.0, (count_means m fm, (message_is x h.1, tt)))
+  form_items (Heed t x) h w = (who t h.0, (message_is x h.1, tt))
+  form_items (Repeat x) h w = (count_means m fm, (message_is x h, tt))
+
+  pub form_means : (s : Step) → IsKnown o b m s → IsInVersion o.version s → ValueIsWritten o s → MeansStep o b m (step_form o (number_made s b m) s) s
+  form_means s h v w = (refl, form_items s h w, v)
 
 -- a printed step means itself
 pub printed_step : (T : Run) → WellFormed T → (k : ℕ) (f : Tree) (s : Step) → IsWrittenAt T k → step_form_at T k ≡ Some f → step_at T k ≡ Some s → MeansStep T.opening (born T k) (sent T k) f s
@@ -113,7 +119,7 @@ printed_step T w k f s written form stands =
     let fm : sent T k < 2 ^ 32 = omega (arith, sent-le T k, w.opening.few_targets, w.few_steps, below) in
     let same : step_form T.opening (number_made s (born T k) (sent T k)) s ≡ f = same_some (sym (ap (option_map (λ x. step_form T.opening (number_made x (born T k) (sent T k)) x)) stands) ∙ form) in
     let P : Tree → Type 0 = λ x. MeansStep T.opening (born T k) (sent T k) x s in
-    subst P same (form_means T.opening (born T k) (sent T k) w.opening fb fm s (w.known k s stands) (written s stands))
+    subst P same (form_means T.opening (born T k) (sent T k) w.opening fb fm s (w.known k s stands) (w.versions k s stands) (written s stands))
 
 -- a list that has an element where another has one is as long
 same_length : {A B : Type 0} (xs : List A) (ys : List B) (g : ℕ → B → A) → ((k : ℕ) → slice_get xs k ≡ option_map (g k) (slice_get ys k)) → length xs ≡ length ys
@@ -189,6 +195,8 @@ step_in kinds.New (item.transactor t ∷ item.next n ∷ item.behaviour c ∷ it
 step_in kinds.Ask (item.transactor t ∷ item.truth a ∷ []) = Ask t a
 step_in kinds.Trap (item.transactor t ∷ item.code c ∷ []) = Trap t c
 step_in kinds.Lose (item.message x ∷ []) = Lose x
+step_in kinds.Echo (item.transactor t ∷ item.next n ∷ item.message x ∷ []) = Echo t x
+step_in kinds.Repeat (item.next n ∷ item.message x ∷ []) = Repeat x
 step_in k is = Lose 0
 
 -- that is the step

@@ -1,6 +1,6 @@
 -- Forms read one by one: the steps so far, and the first fault.
 use Rattle.std.proofs.Common.{◌≡◌, ◌⊎◌, ⊎_elim, ℕ, zero, suc, ◌+◌, ◌<◌, ◌≤◌, false, ◌-◌, take, drop, List, [], ◌∷◌, length, map, get_or, Some, Result, Ok, Err, IfErr, refl, sym, ap, ◌∙◌, subst, arith, codes}
-use Rattle.std.specs.Prelude.{slice_get, slice_range}
+use Rattle.std.specs.Prelude.{slice_get, slice_range, ◌||◌}
 use Rattle.std.proofs.lemmas.List.{take-map, drop-map}
 use Rattle.std.specs.Option.{option_map_or}
 use Rattle.std.specs.Str.{bytes_eq}
@@ -12,7 +12,7 @@ use Rattle.tau_value.specs.Meaning.{Fault, shape, unknown}
 use Rattle.tau_trace.specs.declared.opening.Opening.{Opening}
 use Rattle.tau_trace.specs.declared.step.Step.{Step}
 use Rattle.tau_trace.specs.declared.step.Step.TheVariants.{Take}
-use Rattle.tau_trace.specs.Steps.{is_new, is_send, makes_message}
+use Rattle.tau_trace.specs.Steps.{is_new, makes_message}
 use Rattle.tau_trace.specs.Run.{Run, len, step_at, appended}
 use Rattle.tau_trace.specs.Numbering.{born, sent}
 use Rattle.tau_steps.specs.StepForms.{kind_word}
@@ -24,7 +24,7 @@ use Rattle.tau_trace.proofs.Reading.{element}
 use Rattle.tau_steps.specs.declared.errors.StepError.{StepError}
 use Rattle.tau_steps.specs.declared.errors.StepError.TheVariants as errors
 use Rattle.tau_steps.specs.Meaning.{MeansStep, MeansSteps}
-use Rattle.tau_steps.specs.Faults.{FormFault, begins_with, transactors_before, messages_before, StepFault, in_form, too_many, IsFirst, IsFault}
+use Rattle.tau_steps.specs.Faults.{FormFault, begins_with, begins_message, transactors_before, messages_before, StepFault, in_form, too_many, IsFirst, IsFault}
 use Rattle.tau_steps.specs.Inner.Reading.{GoesOn, NextFault, AddsStep}
 use Rattle.tau_steps.proofs.StepLemmas.{clean_step}
 
@@ -55,9 +55,9 @@ new_word (Take t m) = refl
 new_word s = refl
 
 -- the same for messages
-send_word : (s : Step) → bytes_eq (kind_word s) (codes "send") ≡ is_send s
-send_word (Take t m) = refl
-send_word s = refl
+message_word : (s : Step) → (bytes_eq (kind_word s) (codes "send") || (bytes_eq (kind_word s) (codes "echo") || bytes_eq (kind_word s) (codes "repeat"))) ≡ makes_message s
+message_word (Take t m) = refl
+message_word s = refl
 
 -- a form that means a step begins with the word of its kind
 begins : (o : Opening) (b m : ℕ) (w : List ℕ) (f : Tree) (s : Step) → MeansStep o b m f s → begins_with w f ≡ bytes_eq (kind_word s) w
@@ -67,6 +67,11 @@ begins o b m w (list (more (list gs) fs)) s means = absurd means
 begins o b m w (list none) s means = absurd means
 begins o b m w (text x) s means = absurd means
 begins o b m w (word x) s means = absurd means
+
+-- and as a form of a step that makes a message where it is one
+begins_made : (o : Opening) (b m : ℕ) (f : Tree) (s : Step) → MeansStep o b m f s → begins_message f ≡ makes_message s
+begins_made o b m f s means =
+    (λ i. begins o b m (codes "send") f s means i || (begins o b m (codes "echo") f s means i || begins o b m (codes "repeat") f s means i)) ∙ message_word s
 
 module _ (o : Opening) (fs : List Tree) (n : ℕ) (T : Run) (within : n ≤ length fs) (r : IsReadTo o fs n T) where
   -- the forms before a place tell how many transactors and messages exist there
@@ -78,12 +83,12 @@ module _ (o : Opening) (fs : List Tree) (n : ℕ) (T : Run) (within : n ≤ leng
       ap (λ x. option_map_or is_new x false) s.1 ∙ sym (begins o (born T j) (sent T j) (codes "new") f.0 s.0 means ∙ new_word s.0) ∙ sym (ap (λ x. option_map_or (begins_with (codes "new")) x false) f.1)
 
   -- each form makes a message where its step does
-  send_at : (j : ℕ) → j < n → option_map_or makes_message (step_at T j) false ≡ option_map_or (begins_with (codes "send")) (slice_get fs j) false
+  send_at : (j : ℕ) → j < n → option_map_or makes_message (step_at T j) false ≡ option_map_or begins_message (slice_get fs j) false
   send_at j l =
       let f = element fs j (omega arith) in
       let s = element T.steps j (omega (arith, r.count)) in
       let means = r.each j f.0 s.0 f.1 s.1 in
-      ap (λ x. option_map_or makes_message x false) s.1 ∙ sym (begins o (born T j) (sent T j) (codes "send") f.0 s.0 means ∙ send_word s.0) ∙ sym (ap (λ x. option_map_or (begins_with (codes "send")) x false) f.1)
+      ap (λ x. option_map_or makes_message x false) s.1 ∙ sym (begins_made o (born T j) (sent T j) f.0 s.0 means) ∙ sym (ap (λ x. option_map_or begins_message x false) f.1)
 
   -- so many transactors exist before a form
   pub born_told : (k : ℕ) → k ≤ n → born T k ≡ transactors_before o fs k
@@ -91,7 +96,7 @@ module _ (o : Opening) (fs : List Tree) (n : ℕ) (T : Run) (within : n ≤ leng
 
   -- so many messages exist before a form
   pub sent_told : (k : ℕ) → k ≤ n → sent T k ≡ messages_before o fs k
-  sent_told k l = omega (arith, ap (λ p. length p.targets) r.opening, count-same (λ j. option_map_or makes_message (step_at T j) false) (λ j. option_map_or (begins_with (codes "send")) (slice_get fs j) false) k (λ j h. send_at j (omega arith)))
+  sent_told k l = omega (arith, ap (λ p. length p.targets) r.opening, count-same (λ j. option_map_or makes_message (step_at T j) false) (λ j. option_map_or begins_message (slice_get fs j) false) k (λ j h. send_at j (omega arith)))
 
   -- no step so far is faulty
   pub clean_below : (k : ℕ) (e : Fault) → StepFault o fs k e → n ≤ k

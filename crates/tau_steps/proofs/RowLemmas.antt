@@ -57,6 +57,7 @@ message_kind messages.Take t x = refl
 message_kind messages.Drop t x = refl
 message_kind messages.Fall t x = refl
 message_kind messages.Void t x = refl
+message_kind messages.Heed t x = refl
 
 -- such a step has two items
 message_items : (b m : ℕ) (k : MessageKind) (t x : ℕ) → items_of b m (message_step k t x) ≡ item.transactor t ∷ item.message x ∷ []
@@ -64,6 +65,7 @@ message_items b m messages.Take t x = refl
 message_items b m messages.Drop t x = refl
 message_items b m messages.Fall t x = refl
 message_items b m messages.Void t x = refl
+message_items b m messages.Heed t x = refl
 
 module _ (p : Place) where
   -- what items tell that have these roles
@@ -146,3 +148,27 @@ module _ (p : Place) where
       (tells_more p role.behaviour (role.node ∷ role.value ∷ []) item.behaviour (λ (y : ℕ × Value). item.node y.0 ∷ item.value (val_of y.1) ∷ []) (tree_of c) (more (tree_of d) (more (tree_of f) none)) behaviour (both_of node state) (λ x. refl) (λ y. refl) hc
       (tells_more p role.node (role.value ∷ []) item.node (λ v. item.value (val_of v) ∷ []) (tree_of d) (more (tree_of f) none) node state (λ x. refl) (λ y. refl) hd
       (tells_one p role.value (λ v. item.value (val_of v)) (tree_of f) state hf))))))
+
+  -- the items of (echo WHO N M)
+  pub tells_echo : (fs : List Form) (a b c : Form) (who : Result ℕ ItemError) (number : Result (Unit {0}) ItemError) (message : Result ℕ ItemError) (made : Result (Unit {0} × ℕ) ItemError) (all : Result (ℕ × (Unit {0} × ℕ)) ItemError) → length fs ≡ 3 → a ≡ get_or fs 0 a → b ≡ get_or fs 1 b → c ≡ get_or fs 2 c
+      → TellsItem p role.transactor item.transactor (tree_of a) who → TellsItem p (role.next p.messages) (λ _. item.next p.messages) (tree_of b) number → TellsItem p role.message item.message (tree_of c) message
+      → made ≡ both_of number message → all ≡ both_of who made
+      → IsRow kinds.Echo (trees_of fs) (λ (z : ℕ × (Unit {0} × ℕ)). steps.Echo z.0 z.1.1) all
+  tells_echo fs a b c who number message made all n ea eb ec ha hb hc im ia =
+      let rs : List Role = role.transactor ∷ role.next p.messages ∷ role.message ∷ [] in
+      is_row kinds.Echo rs (trees_of fs) (λ (z : ℕ × (Unit {0} × ℕ)). steps.Echo z.0 z.1.1) all refl (λ z. refl)
+      (moved rs (λ (z : ℕ × (Unit {0} × ℕ)). item.transactor z.0 ∷ item.next p.messages ∷ item.message z.1.1 ∷ []) (trees_of fs) (more (tree_of a) (more (tree_of b) (more (tree_of c) none))) all (both_of who (both_of number message)) (three_items fs a b c n ea eb ec) (ia ∙ ap (both_of who) im)
+      (tells_more p role.transactor (role.next p.messages ∷ role.message ∷ []) item.transactor (λ (y : Unit {0} × ℕ). item.next p.messages ∷ item.message y.1 ∷ []) (tree_of a) (more (tree_of b) (more (tree_of c) none)) who (both_of number message) (λ x. refl) (λ y. refl) ha
+      (tells_more p (role.next p.messages) (role.message ∷ []) (λ _. item.next p.messages) (λ (y : ℕ). item.message y ∷ []) (tree_of b) (more (tree_of c) none) number message (λ x. refl) (λ y. refl) hb
+      (tells_one p role.message item.message (tree_of c) message hc))))
+
+  -- the items of (repeat N M)
+  pub tells_repeat : (fs : List Form) (a b : Form) (number : Result (Unit {0}) ItemError) (message : Result ℕ ItemError) (all : Result (Unit {0} × ℕ) ItemError) → length fs ≡ 2 → a ≡ get_or fs 0 a → b ≡ get_or fs 1 b
+      → TellsItem p (role.next p.messages) (λ _. item.next p.messages) (tree_of a) number → TellsItem p role.message item.message (tree_of b) message → all ≡ both_of number message
+      → IsRow kinds.Repeat (trees_of fs) (λ (z : Unit {0} × ℕ). steps.Repeat z.1) all
+  tells_repeat fs a b number message all n ea eb ha hb ia =
+      let rs : List Role = role.next p.messages ∷ role.message ∷ [] in
+      is_row kinds.Repeat rs (trees_of fs) (λ (z : Unit {0} × ℕ). steps.Repeat z.1) all refl (λ z. refl)
+      (moved rs (λ (z : Unit {0} × ℕ). item.next p.messages ∷ item.message z.1 ∷ []) (trees_of fs) (more (tree_of a) (more (tree_of b) none)) all (both_of number message) (two_items fs a b n ea eb) ia
+      (tells_more p (role.next p.messages) (role.message ∷ []) (λ _. item.next p.messages) (λ (y : ℕ). item.message y ∷ []) (tree_of a) (more (tree_of b) none) number message (λ x. refl) (λ y. refl) ha
+      (tells_one p role.message item.message (tree_of b) message hb)))

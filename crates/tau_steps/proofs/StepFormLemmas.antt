@@ -20,7 +20,7 @@ use Rattle.tau_value.proofs.WrittenLemmas.{reads_back, number_nonempty, decimal_
 use Rattle.tau_value.proofs.ValueLemmas.{value_at, value_at-val_of}
 use Rattle.tau_trace.specs.declared.opening.Opening.{Opening}
 use Rattle.tau_trace.specs.declared.step.Step.{Step}
-use Rattle.tau_trace.specs.declared.step.Step.TheVariants.{Take, Drop, Fall, Void, Get, Set, Skip, Send, New, Stabilize, Ask, Checkpoint, Hold, Rollback, Stay, Done, Trap, Fail, Lose}
+use Rattle.tau_trace.specs.declared.step.Step.TheVariants.{Take, Drop, Fall, Void, Get, Set, Skip, Send, New, Stabilize, Ask, Checkpoint, Hold, Rollback, Stay, Done, Trap, Fail, Lose, Echo, Heed, Repeat}
 use Rattle.tau_trace.specs.Run.{Run, step_at}
 use Rattle.tau_trace.specs.Numbering.{born, sent, number_made}
 use Rattle.tau_trace.specs.Known.{IsSound, IsKnown, IsKnownValue, WellFormed}
@@ -78,7 +78,10 @@ read_kind o b k ts =
     else (if bytes_eq k (codes "done") then Done who
     else (if bytes_eq k (codes "trap") then Trap who (count_at (item_at ts 1))
     else (if bytes_eq k (codes "fail") then Fail who
-    else Lose (count_at (item_at ts 0)))))))))))))))))))
+    else (if bytes_eq k (codes "echo") then Echo who (count_at (item_at ts 2))
+    else (if bytes_eq k (codes "heed") then Heed who (count_at (item_at ts 1))
+    else (if bytes_eq k (codes "repeat") then Repeat (count_at (item_at ts 1))
+    else Lose (count_at (item_at ts 0))))))))))))))))))))))
 
 read_step : Opening → ℕ → Tree → Step
 read_step o b (list (more (word k) ts)) = read_kind o b k ts
@@ -125,6 +128,9 @@ read_back o b m made (Done t) sound fb fm h w = λ i. Done (name_back o.names b 
 read_back o b m made (Trap t c) sound fb fm h w = λ i. Trap (name_back o.names b t sound.names h.0 fb i) (count_back c (omega (arith, h.2)) i)
 read_back o b m made (Fail t) sound fb fm h w = λ i. Fail (name_back o.names b t sound.names h fb i)
 read_back o b m made (Lose x) sound fb fm h w = λ i. Lose (count_back x (omega (arith, h, fm)) i)
+read_back o b m made (Echo t x) sound fb fm h w = λ i. Echo (name_back o.names b t sound.names h.0 fb i) (count_back x (omega (arith, h.1, fm)) i)
+read_back o b m made (Heed t x) sound fb fm h w = λ i. Heed (name_back o.names b t sound.names h.0 fb i) (count_back x (omega (arith, h.1, fm)) i)
+read_back o b m made (Repeat x) sound fb fm h w = λ i. Repeat (count_back x (omega (arith, h, fm)) i)
 
 pub same_elements : {A : Type 0} (xs ys : List A) → ((k : ℕ) → slice_get xs k ≡ slice_get ys k) → xs ≡ ys
 same_elements [] [] e = refl
@@ -204,6 +210,9 @@ step_form-words o b m made s sound fb fm fn h w = (kind_nonempty s, items s h w)
   items (Trap t c) h w = (who t h.0, (decimal_filled c (omega (arith, h.2)), tt))
   items (Fail t) h w = (who t h, tt)
   items (Lose x) h w = (decimal_filled x (omega (arith, h)), tt)
+  items (Echo t x) h w = (who t h.0, (decimal_filled made (omega arith), (decimal_filled x (omega (arith, h.1)), tt)))
+  items (Heed t x) h w = (who t h.0, (decimal_filled x (omega (arith, h.1)), tt))
+  items (Repeat x) h w = (decimal_filled made (omega arith), (decimal_filled x (omega (arith, h)), tt))
 
 value_depth : (o : Opening) (b : ℕ) (v : Value) → IsKnownValue b v → IsWritten o.names v → depth_of (value_form o v) ≤ 64
 value_depth o b v known is = omega (arith, is.depth, known.in_bounds.1)

@@ -19,29 +19,35 @@ use Rattle.tau_value.specs.Meaning.{Fault, shape, counted, between, Means, too_l
 use Rattle.tau_value.proofs.MeaningLemmas.{counted-names_below, between-lt, bounded_from}
 use Rattle.tau_trace.specs.declared.opening.Opening.{Opening}
 use Rattle.tau_trace.specs.declared.step.Step.{Step}
-use Rattle.tau_trace.specs.declared.step.Step.TheVariants.{Take, Drop, Fall, Void, Get, Set, Skip, Send, New, Stabilize, Ask, Checkpoint, Hold, Rollback, Stay, Done, Trap, Fail, Lose}
-use Rattle.tau_trace.specs.Known.{IsKnown, IsKnownValue}
+use Rattle.tau_trace.specs.declared.step.Step.TheVariants.{Take, Drop, Fall, Void, Get, Set, Skip, Send, New, Stabilize, Ask, Checkpoint, Hold, Rollback, Stay, Done, Trap, Fail, Lose, Echo, Heed, Repeat}
+use Rattle.tau_trace.specs.Known.{IsKnown, IsKnownValue, IsInVersion}
 use Rattle.tau_steps.specs.declared.errors.ItemError.{ItemError}
 use Rattle.tau_steps.specs.declared.errors.ItemError.TheVariants as items
 use Rattle.tau_steps.specs.declared.items.Place.{Place}
 use Rattle.tau_steps.specs.declared.kinds.Kind.{Kind}
-use Rattle.tau_steps.specs.Kinds.{kind_in, kind_of}
+use Rattle.tau_steps.specs.Kinds.{kind_in, kind_at, kind_of}
 use Rattle.tau_steps.specs.Meaning as item
 use Rattle.tau_steps.specs.Meaning.{Item, items_of, named_at, place_at, MeansItem, MeansItems, MeansStep}
 use Rattle.tau_steps.specs.Faults.{Role, roles_of, RowFault, FormFault}
 use Rattle.tau_steps.specs.Inner.Reading.{TellsRow, TellsStep}
-use Rattle.tau_steps.proofs.KindLemmas.{word_of_kind, kind_of-word}
+use Rattle.tau_steps.proofs.KindLemmas.{word_of_kind, kind_of-word, kind_at-step, in_version}
 use Rattle.tau_steps.proofs.TellsLemmas.{role_of, clean_items}
 
 -- what is told of a form, by what is told of its other items
-told_row : (p : Place) (h : List ℕ) (fs : Trees) (answer : Result Step ItemError) → TellsRow p (kind_in h) fs answer → TellsStep p (list (more (word h) fs)) answer
-told_row p h fs (Ok s) t = (word_of_kind h s t.0, t.1)
+told_row : (p : Place) (h : List ℕ) (fs : Trees) (answer : Result Step ItemError) → TellsRow p (kind_at p.opening.now.version (kind_in h)) fs answer → TellsStep p (list (more (word h) fs)) answer
+told_row p h fs (Ok s) t =
+    let kind = in_version p.opening.now.version (kind_in h) s t.0 in
+    (word_of_kind h s kind.0, t.1, kind.1)
 told_row p h fs (Err items.Shape) t = t
 told_row p h fs (Err items.Unknown) t = t
 told_row p h fs (Err items.NoMemory) t = t
 
+-- the kind that a word tells in a version
+pub kind_told : (v : ℕ) (k : Kind) (h : List ℕ) (j : Kind) → j ≡ kind_at v k → k ≡ kind_in h → j ≡ kind_at v (kind_in h)
+kind_told v k h j e f = e ∙ ap (kind_at v) f
+
 -- the same of a form that is equal to such a list
-pub told_step : (p : Place) (f : Tree) (h : List ℕ) (k : Kind) (fs : Trees) (answer : Result Step ItemError) → f ≡ list (more (word h) fs) → k ≡ kind_in h → TellsRow p k fs answer → TellsStep p f answer
+pub told_step : (p : Place) (f : Tree) (h : List ℕ) (k : Kind) (fs : Trees) (answer : Result Step ItemError) → f ≡ list (more (word h) fs) → k ≡ kind_at p.opening.now.version (kind_in h) → TellsRow p k fs answer → TellsStep p f answer
 told_step p f h k fs answer e ek t =
     let P : Tree → Type 0 = λ g. TellsStep p g answer in
     let Q : Kind → Type 0 = λ j. TellsRow p j fs answer in
@@ -55,7 +61,8 @@ roles-step b m s = refl
 -- a form that means a step has no fault
 pub clean_step : (o : Opening) (b m : ℕ) (f : Tree) (s : Step) (e : Fault) → MeansStep o b m f s → ¬ FormFault o b m f e
 clean_step o b m (list (more (word h) fs)) s e means fault =
-    let same : roles_of b m (kind_in h) ≡ Some (map role_of (items_of b m s)) = ap (λ w. roles_of b m (kind_in w)) means.0 ∙ ap (roles_of b m) (kind_of-word s) ∙ roles-step b m s in
+    let kind : kind_at o.version (kind_in h) ≡ kind_of s = ap (λ w. kind_at o.version (kind_in w)) means.0 ∙ ap (kind_at o.version) (kind_of-word s) ∙ kind_at-step o.version s means.2 in
+    let same : roles_of b m (kind_at o.version (kind_in h)) ≡ Some (map role_of (items_of b m s)) = ap (roles_of b m) kind ∙ roles-step b m s in
     let P : Option (List Role) → Type 0 = λ r. RowFault o b m r fs e in
     clean_items o b m (items_of b m s) fs e means.1 (subst P same fault)
 clean_step o b m (list (more (text w) fs)) s e means fault = means
@@ -158,6 +165,9 @@ module _ (o : Opening) (b m : ℕ) (starts : length o.names ≤ b) where
   known_by_items (Trap t c) k = (k.0, k.1.0.0, k.1.0.1)
   known_by_items (Fail t) k = k.0
   known_by_items (Lose x) k = k.0
+  known_by_items (Echo t x) k = (k.0, k.1.1.0)
+  known_by_items (Heed t x) k = (k.0, k.1.0)
+  known_by_items (Repeat x) k = k.1.0
 
   -- what a step names that a form means exists
   pub step_known : (f : Tree) (s : Step) → MeansStep o b m f s → IsKnown o b m s
@@ -167,6 +177,15 @@ module _ (o : Opening) (b m : ℕ) (starts : length o.names ≤ b) where
   step_known (list none) s means = absurd means
   step_known (text w) s means = absurd means
   step_known (word w) s means = absurd means
+
+-- a step that a form means is of a kind of the version
+pub step_in_version : (o : Opening) (b m : ℕ) (f : Tree) (s : Step) → MeansStep o b m f s → IsInVersion o.version s
+step_in_version o b m (list (more (word h) fs)) s means = means.2
+step_in_version o b m (list (more (text w) fs)) s means = absurd means
+step_in_version o b m (list (more (list gs) fs)) s means = absurd means
+step_in_version o b m (list none) s means = absurd means
+step_in_version o b m (text w) s means = absurd means
+step_in_version o b m (word w) s means = absurd means
 
 -- the items of a form whose first is a word
 pub headed : (fs : List Form) (first : Form) (h : Word) → 1 ≤ length fs → first ≡ get_or fs 0 first → first ≡ forms.Word h → inside (map tree_of fs) ≡ more (word h) (inside (map tree_of (take (length fs - 1) (drop 1 fs))))

@@ -13,7 +13,7 @@ use Rattle.tau_steps.specs.declared.errors.StepError.{StepError}
 use Rattle.tau_steps.specs.declared.errors.StepError.TheVariants as errors
 use Rattle.tau_steps.specs.declared.kinds.Kind.{Kind}
 use Rattle.tau_steps.specs.declared.kinds.Kind.TheVariants as kinds
-use Rattle.tau_steps.specs.Kinds.{kind_in}
+use Rattle.tau_steps.specs.Kinds.{kind_in, kind_at}
 use Rattle.tau_steps.specs.Meaning.{count_at, truth_at}
 
 -- what is wanted of an item of the form of a step
@@ -38,6 +38,8 @@ roles_of transactors messages kinds.New = Some (transactor ∷ next transactors 
 roles_of transactors messages kinds.Ask = Some (transactor ∷ truth ∷ [])
 roles_of transactors messages kinds.Trap = Some (transactor ∷ code ∷ [])
 roles_of transactors messages kinds.Lose = Some (message ∷ [])
+roles_of transactors messages kinds.Echo = Some (transactor ∷ next messages ∷ message ∷ [])
+roles_of transactors messages kinds.Repeat = Some (next messages ∷ message ∷ [])
 roles_of transactors messages kinds.Other = None
 
 -- the fault of a form where a number is wanted: shape if it is no count, and this one if it is a count that fails the test
@@ -79,7 +81,7 @@ RowFault o transactors messages (Some rs) fs e = FaultIn o transactors messages 
 
 -- a form has a fault, where there are so many transactors and messages
 abbrev pub FormFault : Opening → ℕ → ℕ → Tree → Fault → Type 0
-FormFault o transactors messages (list (more (word h) fs)) e = RowFault o transactors messages (roles_of transactors messages (kind_in h)) fs e
+FormFault o transactors messages (list (more (word h) fs)) e = RowFault o transactors messages (roles_of transactors messages (kind_at o.version (kind_in h))) fs e
 FormFault o transactors messages f e = e ≡ shape
 
 -- whether a form begins with this word
@@ -91,9 +93,13 @@ begins_with w f = false
 abbrev pub transactors_before : Opening → List Tree → ℕ → ℕ
 transactors_before o fs k = length o.names + count_below (λ j. option_map_or (begins_with (codes "new")) (slice_get fs j) false) k
 
--- how many messages exist before form k: the posts, and one for each Send among the forms before it
+-- whether a form begins as that of a step that makes a message
+abbrev pub begins_message : Tree → Bool
+begins_message f = begins_with (codes "send") f || (begins_with (codes "echo") f || begins_with (codes "repeat") f)
+
+-- how many messages exist before form k: the posts, and one for each Send, Echo and Repeat among the forms before it
 abbrev pub messages_before : Opening → List Tree → ℕ → ℕ
-messages_before o fs k = length o.targets + count_below (λ j. option_map_or (begins_with (codes "send")) (slice_get fs j) false) k
+messages_before o fs k = length o.targets + count_below (λ j. option_map_or begins_message (slice_get fs j) false) k
 
 -- step k has a fault: form k has it, or it is the 1,000,001st form, which is a shape
 pub data StepFault (o : Opening) (fs : List Tree) (k : ℕ) (e : Fault) : Type 0 where

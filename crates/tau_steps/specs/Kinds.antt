@@ -1,5 +1,5 @@
 -- The kinds of steps, by the words that begin their forms.
-use Rattle.std.specs.Prelude.{ℕ, List, codes, if◌then◌else◌}
+use Rattle.std.specs.Prelude.{ℕ, Bool, true, false, ◌==◌, List, codes, if◌then◌else◌}
 use Rattle.std.specs.Str.{bytes_eq}
 use Rattle.tau_trace.specs.declared.step.Step.{Step}
 use Rattle.tau_trace.specs.declared.step.Step.TheVariants as steps
@@ -32,7 +32,21 @@ kind_in w =
     else (if bytes_eq w (codes "trap") then kinds.Trap
     else (if bytes_eq w (codes "fail") then kinds.Alone alone.Fail
     else (if bytes_eq w (codes "lose") then kinds.Lose
-    else kinds.Other))))))))))))))))))
+    else (if bytes_eq w (codes "echo") then kinds.Echo
+    else (if bytes_eq w (codes "heed") then kinds.OfMessage messages.Heed
+    else (if bytes_eq w (codes "repeat") then kinds.Repeat
+    else kinds.Other)))))))))))))))))))))
+
+-- the kinds of steps that stand in version 2 alone
+abbrev pub is_later : Kind → Bool
+is_later kinds.Echo = true
+is_later (kinds.OfMessage messages.Heed) = true
+is_later kinds.Repeat = true
+is_later k = false
+
+-- what a form of the kind is in a version: in version 1 no step is of a later kind
+abbrev pub kind_at : ℕ → Kind → Kind
+kind_at v k = if is_later k then (if v == 2 then k else kinds.Other) else k
 
 -- the kind of a step
 abbrev pub kind_of : Step → Kind
@@ -55,6 +69,9 @@ kind_of (steps.Done t) = kinds.Alone alone.Done
 kind_of (steps.Trap t c) = kinds.Trap
 kind_of (steps.Fail t) = kinds.Alone alone.Fail
 kind_of (steps.Lose m) = kinds.Lose
+kind_of (steps.Echo t m) = kinds.Echo
+kind_of (steps.Heed t m) = kinds.OfMessage messages.Heed
+kind_of (steps.Repeat m) = kinds.Repeat
 
 -- the step of a kind that names a transactor and a message
 abbrev pub message_step : MessageKind → ℕ → ℕ → Step
@@ -62,6 +79,7 @@ message_step messages.Take t m = steps.Take t m
 message_step messages.Drop t m = steps.Drop t m
 message_step messages.Fall t m = steps.Fall t m
 message_step messages.Void t m = steps.Void t m
+message_step messages.Heed t m = steps.Heed t m
 
 -- the step of a kind that names its transactor alone
 abbrev pub alone_step : AloneKind → ℕ → Step

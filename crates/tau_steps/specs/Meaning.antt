@@ -10,9 +10,10 @@ use Rattle.tau_value.specs.Numbers.{count_in}
 use Rattle.tau_value.specs.Meaning.{number_named, Means}
 use Rattle.tau_trace.specs.declared.opening.Opening.{Opening}
 use Rattle.tau_trace.specs.declared.step.Step.{Step}
-use Rattle.tau_trace.specs.declared.step.Step.TheVariants.{Take, Drop, Fall, Void, Get, Set, Skip, Send, New, Stabilize, Ask, Checkpoint, Hold, Rollback, Stay, Done, Trap, Fail, Lose}
+use Rattle.tau_trace.specs.declared.step.Step.TheVariants.{Take, Drop, Fall, Void, Get, Set, Skip, Send, New, Stabilize, Ask, Checkpoint, Hold, Rollback, Stay, Done, Trap, Fail, Lose, Echo, Heed, Repeat}
 use Rattle.tau_trace.specs.Run.{Run, len, step_at}
 use Rattle.tau_trace.specs.Numbering.{born, sent}
+use Rattle.tau_trace.specs.Known.{IsInVersion}
 use Rattle.tau_steps.specs.StepForms.{kind_word}
 
 -- what an item of the form of a step means
@@ -53,6 +54,9 @@ items_of transactors messages (Done t) = transactor t ∷ []
 items_of transactors messages (Trap t c) = transactor t ∷ code c ∷ []
 items_of transactors messages (Fail t) = transactor t ∷ []
 items_of transactors messages (Lose m) = message m ∷ []
+items_of transactors messages (Echo t m) = transactor t ∷ next messages ∷ message m ∷ []
+items_of transactors messages (Heed t m) = transactor t ∷ message m ∷ []
+items_of transactors messages (Repeat m) = next messages ∷ message m ∷ []
 
 -- the number that a form names a transactor by: a start's by its name, another's by a count below the bound
 abbrev pub named_at : List (List ℕ) → ℕ → Tree → Option ℕ
@@ -92,9 +96,9 @@ MeansItems o transactors messages (i ∷ is) (more f fs) = MeansItem o transacto
 MeansItems o transactors messages [] (more f fs) = ⊥
 MeansItems o transactors messages (i ∷ is) none = ⊥
 
--- a form means a step, where there are so many transactors and messages
+-- a form means a step, where there are so many transactors and messages; in version 1 none means a step of a later kind
 abbrev pub MeansStep : Opening → ℕ → ℕ → Tree → Step → Type 0
-MeansStep o transactors messages (list (more (word h) fs)) s = (h ≡ kind_word s) × MeansItems o transactors messages (items_of transactors messages s) fs
+MeansStep o transactors messages (list (more (word h) fs)) s = (h ≡ kind_word s) × MeansItems o transactors messages (items_of transactors messages s) fs × IsInVersion o.version s
 MeansStep o transactors messages f s = ⊥
 
 -- forms mean the steps of a run with this opening, one by one

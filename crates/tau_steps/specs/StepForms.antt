@@ -8,7 +8,7 @@ use Rattle.tau_value.specs.Value.{val_of}
 use Rattle.tau_value.specs.Written.{name_written, written, ReadsBack, count_form}
 use Rattle.tau_trace.specs.declared.opening.Opening.{Opening}
 use Rattle.tau_trace.specs.declared.step.Step.{Step}
-use Rattle.tau_trace.specs.declared.step.Step.TheVariants.{Take, Drop, Fall, Void, Get, Set, Skip, Send, New, Stabilize, Ask, Checkpoint, Hold, Rollback, Stay, Done, Trap, Fail, Lose}
+use Rattle.tau_trace.specs.declared.step.Step.TheVariants.{Take, Drop, Fall, Void, Get, Set, Skip, Send, New, Stabilize, Ask, Checkpoint, Hold, Rollback, Stay, Done, Trap, Fail, Lose, Echo, Heed, Repeat}
 use Rattle.tau_trace.specs.Run.{Run, step_at}
 use Rattle.tau_trace.specs.Numbering.{born, sent, number_made}
 
@@ -33,6 +33,9 @@ kind_word (Done t) = codes "done"
 kind_word (Trap t c) = codes "trap"
 kind_word (Fail t) = codes "fail"
 kind_word (Lose m) = codes "lose"
+kind_word (Echo t m) = codes "echo"
+kind_word (Heed t m) = codes "heed"
+kind_word (Repeat m) = codes "repeat"
 
 -- a start by its name and another transactor by its number; a number; a truth; a value
 abbrev pub who_form : Opening → ℕ → Tree
@@ -47,7 +50,7 @@ behaviour_form o b = word (name_written o.behaviours b)
 abbrev pub value_form : Opening → Value → Tree
 value_form o v = written o.names (val_of v)
 
--- the other items of the form of a step; `made` is the number that a Send or a New makes
+-- the other items of the form of a step; `made` is the number that a Send, an Echo, a Repeat or a New makes
 abbrev pub item_forms : Opening → ℕ → Step → List Tree
 item_forms o made (Take t m) = who_form o t ∷ count_form m ∷ []
 item_forms o made (Drop t m) = who_form o t ∷ count_form m ∷ []
@@ -68,6 +71,9 @@ item_forms o made (Done t) = who_form o t ∷ []
 item_forms o made (Trap t c) = who_form o t ∷ count_form c ∷ []
 item_forms o made (Fail t) = who_form o t ∷ []
 item_forms o made (Lose m) = count_form m ∷ []
+item_forms o made (Echo t m) = who_form o t ∷ count_form made ∷ count_form m ∷ []
+item_forms o made (Heed t m) = who_form o t ∷ count_form m ∷ []
+item_forms o made (Repeat m) = count_form made ∷ count_form m ∷ []
 
 -- the form of a step
 abbrev pub step_form : Opening → ℕ → Step → Tree

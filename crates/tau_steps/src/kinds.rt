@@ -1,6 +1,6 @@
 //! The words that begin the forms of steps.
 ghost use Rattle.std.specs.Prelude.{◌≡◌};
-ghost use Rattle.tau_steps.specs.Kinds.{kind_in, message_step, alone_step};
+ghost use Rattle.tau_steps.specs.Kinds.{kind_in, kind_at, message_step, alone_step};
 
 use tau_sexpr::Word;
 use tau_trace::Step;
@@ -16,6 +16,8 @@ pub(crate) enum Kind {
     Ask,
     Trap,
     Lose,
+    Echo,
+    Repeat,
     Other,
 }
 
@@ -26,6 +28,7 @@ pub(crate) enum MessageKind {
     Drop,
     Fall,
     Void,
+    Heed,
 }
 
 /// The kinds of steps that name their transactor alone.
@@ -104,7 +107,30 @@ pub(crate) fn kind_of(word: &Word) -> Kind
     if bytes == b"lose".as_slice() {
         return Kind::Lose;
     }
+    if bytes == b"echo".as_slice() {
+        return Kind::Echo;
+    }
+    if bytes == b"heed".as_slice() {
+        return Kind::OfMessage(MessageKind::Heed);
+    }
+    if bytes == b"repeat".as_slice() {
+        return Kind::Repeat;
+    }
     Kind::Other
+}
+
+impl Kind {
+    /// What a form of this kind is in a version: in version 1 no step is an Echo, a Heed or a Repeat.
+    pub(crate) fn in_version(self, version: u32) -> Kind
+        ensures { result ≡ kind_at version self }
+    {
+        match self {
+            Kind::Echo | Kind::OfMessage(MessageKind::Heed) | Kind::Repeat => {
+                if version == 2 { self } else { Kind::Other }
+            }
+            _ => self,
+        }
+    }
 }
 
 impl MessageKind {
@@ -117,6 +143,7 @@ impl MessageKind {
             MessageKind::Drop => Step::Drop { who, message },
             MessageKind::Fall => Step::Fall { who, message },
             MessageKind::Void => Step::Void { who, message },
+            MessageKind::Heed => Step::Heed { who, message },
         }
     }
 }

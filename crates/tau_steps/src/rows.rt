@@ -23,7 +23,10 @@ pub(crate) fn read_step(alloc: Global, form: &Form, place: Place<'_>) -> Result<
         return Err(ItemError::Shape);
     };
     match first {
-        Form::Word(head) => read_row(alloc, kind_of(head), rest, place),
+        Form::Word(head) => {
+            let kind = kind_of(head).in_version(place.opening.version);
+            read_row(alloc, kind, rest, place)
+        }
         Form::Text(_) | Form::List(_) => Err(ItemError::Shape),
     }
 }
@@ -42,6 +45,8 @@ fn read_row(alloc: Global, kind: Kind, items: &[Form], place: Place<'_>) -> Resu
         Kind::Ask => ask(items, place),
         Kind::Trap => trap(items, place),
         Kind::Lose => lose(items, place),
+        Kind::Echo => echo(items, place),
+        Kind::Repeat => repeat(items, place),
         Kind::Other => Err(ItemError::Shape),
     }
 }
@@ -149,4 +154,28 @@ fn lose(items: &[Form], place: Place<'_>) -> Result<Step, ItemError>
     };
     let message = place.message(message)?;
     Ok(Step::Lose { message })
+}
+
+/// `(echo WHO N M)`.
+fn echo(items: &[Form], place: Place<'_>) -> Result<Step, ItemError>
+    requires { IsPlace place }
+    ensures { TellsRow place.entry Kind.Echo (inside (map tree_of items.now)) result }
+{
+    let [who, number, message] = items else {
+        return Err(ItemError::Shape);
+    };
+    let made = both(items::next(number, place.messages), place.message(message));
+    let (who, (_, message)) = both(place.transactor(who), made)?;
+    Ok(Step::Echo { who, message })
+}
+
+/// `(repeat N M)`.
+fn repeat(items: &[Form], place: Place<'_>) -> Result<Step, ItemError>
+    ensures { TellsRow place.entry Kind.Repeat (inside (map tree_of items.now)) result }
+{
+    let [number, message] = items else {
+        return Err(ItemError::Shape);
+    };
+    let told = both(items::next(number, place.messages), place.message(message))?;
+    Ok(Step::Repeat { message: told.1 })
 }

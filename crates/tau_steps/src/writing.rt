@@ -33,7 +33,7 @@ pub fn form_of_step(alloc: Global, trace: &Trace, place: u32) -> Result<Form, Al
     }
 }
 
-/// The form of a step; `made` is the number that a Send or a New makes.
+/// The form of a step; `made` is the number that a Send, an Echo, a Repeat or a New makes.
 fn write_step(alloc: Global, opening: &Opening, made: u32, step: &Step) -> Result<Form, AllocError>
     requires { AreNames opening.now.names }
     ensures form { IfOk result (λ f. tree_of f ≡ step_form opening.now made step.now) }
@@ -71,6 +71,9 @@ fn kind_of(step: &Step) -> &'static [u8]
         Step::Trap { .. } => b"trap",
         Step::Fail { .. } => b"fail",
         Step::Lose { .. } => b"lose",
+        Step::Echo { .. } => b"echo",
+        Step::Heed { .. } => b"heed",
+        Step::Repeat { .. } => b"repeat",
     }
 }
 
@@ -90,7 +93,8 @@ fn add_items(
         Step::Take { who, message }
         | Step::Drop { who, message }
         | Step::Fall { who, message }
-        | Step::Void { who, message } => {
+        | Step::Void { who, message }
+        | Step::Heed { who, message } => {
             add_name(alloc, forms, &opening.names, *who)?;
             add_count(alloc, forms, *message)
         }
@@ -125,6 +129,15 @@ fn add_items(
             add_count(alloc, forms, u32::from(*code))
         }
         Step::Lose { message } => add_count(alloc, forms, *message),
+        Step::Echo { who, message } => {
+            add_name(alloc, forms, &opening.names, *who)?;
+            add_count(alloc, forms, made)?;
+            add_count(alloc, forms, *message)
+        }
+        Step::Repeat { message } => {
+            add_count(alloc, forms, made)?;
+            add_count(alloc, forms, *message)
+        }
         Step::Get { who }
         | Step::Skip { who }
         | Step::Stabilize { who }

@@ -7,7 +7,7 @@ use Rattle.tau_trace.specs.declared.step.Step.{Step}
 use Rattle.tau_trace.specs.Steps.{actor, removed_by, is_new, makes_message}
 use Rattle.tau_trace.specs.Run.{Run, Agree, step_at, len, appended, starts, ActsAt, Does}
 use Rattle.tau_trace.specs.Places.{count_below}
-use Rattle.tau_trace.specs.Numbering.{born, sent, IsNew, IsSent, IsOrigin, direct, Receives, post, message, IsHome, start, created, Removes, InFlight}
+use Rattle.tau_trace.specs.Numbering.{born, sent, IsNew, IsSent, IsEchoed, IsRepeated, IsOrigin, direct, echoed, copied, HasSender, Receives, post, message, notice, copy, IsHome, start, created, Removes, InFlight}
 use Rattle.tau_trace.specs.Histories.{history, opened, move_at, move_by, Falls, EndsAt, Ended}
 use Rattle.tau_trace.specs.Turns.{Turn}
 use Rattle.tau_trace.specs.Laws.{SameAt}
@@ -74,6 +74,20 @@ module _ {T U : Run} where
     made = o.made ∙ sent-same j (agree_below j (omega arith) a);
   }
 
+  is_echoed-same : (j by n m : ℕ) → Agree T U (suc j) → IsEchoed T j by n m → IsEchoed U j by n m
+  is_echoed-same j by n m a o = record {
+    stands = sym (a.steps j (omega arith)) ∙ o.stands;
+    made = o.made ∙ sent-same j (agree_below j (omega arith) a);
+    earlier = o.earlier;
+  }
+
+  is_repeated-same : (j n m : ℕ) → Agree T U (suc j) → IsRepeated T j n m → IsRepeated U j n m
+  is_repeated-same j n m a o = record {
+    stands = sym (a.steps j (omega arith)) ∙ o.stands;
+    made = o.made ∙ sent-same j (agree_below j (omega arith) a);
+    earlier = o.earlier;
+  }
+
   pub removes-same : (m j : ℕ) → Agree T U (suc j) → Removes T m j → Removes U m j
   removes-same m j a e = ap (option_and_then removed_by) (sym (a.steps j (omega arith))) ∙ e
 
@@ -96,24 +110,40 @@ sent-grows T i j h = omega (arith, count-grows (λ n. option_map_or makes_messag
 pub born-grows : (T : Run) (i j : ℕ) → i ≤ j → born T i ≤ born T j
 born-grows T i j h = omega (arith, count-grows (λ n. option_map_or is_new (step_at T n) false) i j h)
 
+made_at_before : (T : Run) (j m k : ℕ) → m ≡ sent T j → m < sent T k → j < k
+made_at_before T j m k e h = made_before (sent T) (sent-grows T) j k (omega (arith, e))
+
 pub sent_before : (T : Run) (j by m k : ℕ) → IsSent T j by m → m < sent T k → j < k
-sent_before T j by m k o h = made_before (sent T) (sent-grows T) j k (omega (arith, o.made))
+sent_before T j by m k o h = made_at_before T j m k o.made h
 
 pub origin_before : (T : Run) (j by m k : ℕ) → IsOrigin T j by m → m < sent T k → j < k
-origin_before T j by m k (direct o) h = sent_before T j by m k o h
+origin_before T j by m k (direct o) h = made_at_before T j m k o.made h
+origin_before T j by m k (echoed o) h = made_at_before T j m k o.made h
+origin_before T j by m k (copied {n = n} o r) h = origin_before T j by n k r (omega (arith, o.earlier, h))
 
 pub new_before : (T : Run) (j by u k : ℕ) → IsNew T j by u → u < born T k → j < k
 new_before T j by u k n h = made_before (born T) (born-grows T) j k (omega (arith, n.made))
 
 module _ {T U : Run} where
+  pub origin-same : (k j by m : ℕ) → Agree T U k → m < sent T k → IsOrigin T j by m → IsOrigin U j by m
+  origin-same k j by m a h (direct o) = direct (is_sent-same j by m (agree_below (suc j) (made_at_before T j m k o.made h) a) o)
+  origin-same k j by m a h (echoed {n = n} o) =
+      echoed {n = n} (is_echoed-same j by n m (agree_below (suc j) (made_at_before T j m k o.made h) a) o)
+  origin-same k j by m a h (copied {k = i} {n = n} o r) =
+      copied {k = i} {n = n} (is_repeated-same i n m (agree_below (suc i) (made_at_before T i m k o.made h) a) o) (origin-same k j by n a (omega (arith, o.earlier, h)) r)
+
+  sender-same : (k m u : ℕ) → Agree T U k → m < sent T k → HasSender T m u → HasSender U m u
+  sender-same k m u a h s = record { place = s.place; origin = origin-same k s.place u m a h s.origin }
+
   pub receives-same : (k m u : ℕ) → Agree T U k → m < sent T k → Receives T m u → Receives U m u
   unfolding is_sent-same
   receives-same k m u a h (post e) = post (ap (λ o. slice_get o.targets m) (sym a.opening) ∙ e)
   receives-same k m u a h (message {j = j} {by = by} o e) =
-      message (is_sent-same j by m (agree_below (suc j) (sent_before T j by m k o h) a) o) e
-
-  pub origin-same : (k m j by : ℕ) → Agree T U k → m < sent T k → IsOrigin T j by m → IsOrigin U j by m
-  origin-same k m j by a h (direct o) = direct (is_sent-same j by m (agree_below (suc j) (sent_before T j by m k o h) a) o)
+      message (is_sent-same j by m (agree_below (suc j) (made_at_before T j m k o.made h) a) o) e
+  receives-same k m u a h (notice {j = j} {by = by} {n = n} o s) =
+      notice {by = by} (is_echoed-same j by n m (agree_below (suc j) (made_at_before T j m k o.made h) a) o) (sender-same k n u a (omega (arith, o.earlier, h)) s)
+  receives-same k m u a h (copy {k = i} {n = n} o r) =
+      copy (is_repeated-same i n m (agree_below (suc i) (made_at_before T i m k o.made h) a) o) (receives-same k n u a (omega (arith, o.earlier, h)) r)
 
   pub home-same : (k t n : ℕ) → Agree T U k → t < born T k → IsHome T t n → IsHome U t n
   unfolding is_new-same
@@ -148,6 +178,6 @@ same_at T U k a =
       ended = λ t. (ended-same t k a, ended-same t k b);
       turn = λ t place m. (turn-same t k place m a, turn-same t k place m b);
       receives = λ m u h. (receives-same k m u a h, receives-same k m u b (omega (arith, h, sent-same k a)));
-      origin = λ m j by h. (origin-same k m j by a h, origin-same k m j by b (omega (arith, h, sent-same k a)));
+      origin = λ m j by h. (origin-same k j by m a h, origin-same k j by m b (omega (arith, h, sent-same k a)));
       home = λ t n h. (home-same k t n a h, home-same k t n b (omega (arith, h, born-same k a)));
     }

@@ -1,4 +1,4 @@
--- What a trace keeps beside its run, at the opening and after a step.
+-- Numbers, and what a trace keeps of its transactors, after a step.
 use Rattle.std.proofs.Common.{◌≡◌, ◌⊎◌, inl, inr, ⊎_elim, ℕ, suc, ◌+◌, ◌^◌, ◌<◌, ◌≤◌, Bool, true, false, cond, eqb, ltb, List, [], ◌∷◌, ◌++◌, length, map, set, Option, Some, None, refl, sym, ap, ◌∙◌, subst, arith, length-append, length-set, ltb-true, lt-ltb}
 use Rattle.std.specs.Prelude.{slice_get, option_and_then}
 use Rattle.std.specs.Option.{option_map_or, option_or, option_map}
@@ -9,25 +9,25 @@ use Rattle.tau_value.specs.declared.shared.Value.{Value}
 use Rattle.tau_history.specs.Timeline.{interval, opening, newborn}
 use Rattle.tau_trace.specs.declared.opening.Opening.{Opening}
 use Rattle.tau_trace.specs.declared.step.Step.{Step}
-use Rattle.tau_trace.specs.declared.step.Step.TheVariants.{Send, New}
+use Rattle.tau_trace.specs.declared.step.Step.TheVariants.{Send, New, Echo, Repeat}
 use Rattle.tau_trace.specs.declared.transactor.Transactor.{Transactor}
 use Rattle.tau_trace.specs.declared.message.Message.{Message}
 use Rattle.tau_trace.specs.Steps.{actor, removed_by, is_new, makes_message}
 use Rattle.tau_trace.specs.Run.{Run, len, step_at, starts, appended, Agree}
 use Rattle.tau_trace.specs.Places.{IsFirst}
-use Rattle.tau_trace.specs.Numbering.{born, sent, IsOrigin, direct, post, message, start, created, IsPlaceOf, IsReceiver, Removes, number_made}
+use Rattle.tau_trace.specs.Numbering.{born, sent, created, number_made}
 use Rattle.tau_trace.specs.Histories.{history, EndsAt}
 use Rattle.tau_trace.specs.Turns.{IsOpenTurn}
-use Rattle.tau_trace.specs.Known.{IsSound, IsKnown, IsKnownAt, MayFollow, WellFormed}
-use Rattle.tau_trace.specs.Tracking.{Tracks, TracksAll, transactor_after, opened_at, created_at}
+use Rattle.tau_trace.specs.Known.{IsKnown, IsKnownAt, IsInVersion, MayFollow, WellFormed}
+use Rattle.tau_trace.specs.Tracking.{Tracks, TracksAll, transactor_after, created_at}
 use Rattle.tau_trace.specs.Living.{Tracked}
-use Rattle.tau_trace.specs.Stored.{noted_at, noted_of, with_new, transactors_after, sent_to, removed_at, removed_by_record, removed_of, with_sent, messages_after, posted, TracksMessage, TracksMessages, HasNumbers, IsIndexed}
+use Rattle.tau_trace.specs.Stored.{noted_at, noted_of, with_new, transactors_after, HasNumbers, IsIndexed}
 use Rattle.tau_trace.proofs.Lists.{same_some, slice_get-set_same, slice_get-set_other, slice_get-front, slice_get-last, slice_get-push_cases}
-use Rattle.tau_trace.proofs.Counts.{count-suc, count-zero, count-le}
+use Rattle.tau_trace.proofs.Counts.{count-suc, count-le}
 use Rattle.tau_trace.proofs.Counted.{history-zero}
-use Rattle.tau_trace.proofs.Agreement.{agree_appended, agree_below, agree_sym, step_at-appended, born-same, sent-same, ends-same, removes-same, home-same, receives-same, origin-same, same_at}
-use Rattle.tau_trace.proofs.TrackingLemmas.{tracks_own, tracks_other, first-not, first-here, first-later}
-use Rattle.tau_trace.proofs.Quiet.{IsQuiet, quiet_history, quiet_turn, quiet_end, known_actor, known_removed, unborn_quiet, unsent_kept}
+use Rattle.tau_trace.proofs.Agreement.{agree_appended, agree_below, agree_sym, step_at-appended, born-same, sent-same, ends-same, home-same, same_at}
+use Rattle.tau_trace.proofs.TrackingLemmas.{tracks_own, tracks_other}
+use Rattle.tau_trace.proofs.Quiet.{IsQuiet, quiet_history, quiet_turn, quiet_end, known_actor, unborn_quiet}
 use Rattle.tau_trace.proofs.Sequences.{cases_last}
 
 abbrev one_if : Bool → ℕ
@@ -62,14 +62,21 @@ known_appended T s w may j r e = ⊎_elim old new (slice_get-push_cases T.steps 
   new : (j ≡ len T) × (s ≡ r) → IsKnownAt (appended T s) j r
   new p = let P : ℕ → Type 0 = λ i. IsKnownAt (appended T s) i r in subst P (sym p.0) (carry (len T) (omega arith) (subst (IsKnownAt T (len T)) p.1 may.known))
 
+versions_appended : (T : Run) (s : Step) → WellFormed T → MayFollow T s → (j : ℕ) (r : Step) → step_at (appended T s) j ≡ Some r → IsInVersion T.opening.version r
+versions_appended T s w may j r e = ⊎_elim
+    (λ f. w.versions j r f)
+    (λ p. let P : Step → Type 0 = IsInVersion T.opening.version in subst P p.1 may.version)
+    (slice_get-push_cases T.steps s r j e)
+
 pub well_formed_appended : (T : Run) (s : Step) → WellFormed T → MayFollow T s → WellFormed (appended T s)
 well_formed_appended T s w may = record {
   opening = w.opening;
   known = known_appended T s w may;
+  versions = versions_appended T s w may;
   few_steps = omega (arith, may.few_steps, len-appended T s);
 }
 
-made_same : (s : Step) (a b m n : ℕ) → a ≡ b → m ≡ n → number_made s a m ≡ number_made s b n
+pub made_same : (s : Step) (a b m n : ℕ) → a ≡ b → m ≡ n → number_made s a m ≡ number_made s b n
 made_same s a b m n e f = λ i. number_made s (e i) (f i)
 
 pub numbers_appended : (T : Run) (s : Step) (made : List ℕ) (number : ℕ) → number ≡ number_made s (born T (len T)) (sent T (len T)) → HasNumbers T made → HasNumbers (appended T s) (made ++ number ∷ [])
@@ -206,157 +213,6 @@ transactors_appended T s ts w may h = record {
       (cases_last j (len T) l) in
       tracks_new (appended T s) (len T) t s r (step_at-appended T s) (is ∙ born-same (len T) (agree_appended T s)) p.1 quiet
 
-length-removed : (k : ℕ) (ms : List Message) (o : Option ℕ) → length (removed_of k ms o) ≡ length ms
-length-removed k ms None = refl
-length-removed k ms (Some m) = by (slice_get ms m) where
-  by : (o : Option Message) → length (removed_by_record k ms m o) ≡ length ms
-  by None = refl
-  by (Some r) = length-set ms m (removed_at k r)
-
-length-with_sent : (k : ℕ) (s : Step) (ms : List Message) → length (with_sent k s ms) ≡ length ms + one_if (makes_message s)
-length-with_sent k (Send t u v) ms = length-append ms (sent_to (Some u) (Some k) ∷ [])
-length-with_sent k s ms = omega arith
-
--- the record of a message that a step made
-record MadeSend (k : ℕ) (s : Step) (r : Message) : Type 0 where
-  by : ℕ
-  to : ℕ
-  value : Value
-  is : s ≡ Send by to value
-  record_is : sent_to (Some to) (Some k) ≡ r
-
-with_sent-cases : (k : ℕ) (s : Step) (ms : List Message) (m : ℕ) (r : Message) → slice_get (with_sent k s ms) m ≡ Some r → (slice_get ms m ≡ Some r) ⊎ ((m ≡ length ms) × MadeSend k s r)
-with_sent-cases k (Send t u v) ms m r e = ⊎_elim (λ x. inl x) (λ p. inr (p.0, record { by = t; to = u; value = v; is = refl; record_is = p.1 })) (slice_get-push_cases ms (sent_to (Some u) (Some k)) r m e)
-with_sent-cases k s ms m r e = inl e
-
-data RemovedCase (k : ℕ) (ms : List Message) (o : Option ℕ) (m : ℕ) (r : Message) : Type 0 where
-  own_message : o ≡ Some m → (q : Message) → slice_get ms m ≡ Some q → removed_at k q ≡ r → RemovedCase k ms o m r
-  other_message : ¬ (o ≡ Some m) → slice_get ms m ≡ Some r → RemovedCase k ms o m r
-
-removed-cases : (k : ℕ) (ms : List Message) (o : Option ℕ) (m : ℕ) (r : Message) → slice_get (removed_of k ms o) m ≡ Some r → RemovedCase k ms o m r
-removed-cases k ms None m r e = other_message (λ f. cc) e
-removed-cases k ms (Some u) m r e = by (slice_get ms u) refl e where
-  by : (o : Option Message) → slice_get ms u ≡ o → slice_get (removed_by_record k ms u o) m ≡ Some r → RemovedCase k ms (Some u) m r
-  by None f g = other_message (λ x. let both = sym g ∙ ap (slice_get ms) (sym (same_some x)) ∙ f in cc) g
-  by (Some q) f g = ⊎_elim
-      (λ (x : m ≡ u). own_message (ap Some (sym x)) q (ap (slice_get ms) x ∙ f) (same_some (sym (slice_get-set_same ms u (removed_at k q) (slice_get_within ms u q f)) ∙ ap (slice_get (set ms u (removed_at k q))) (sym x) ∙ g)))
-      (λ ne. other_message (λ x. ne (sym (same_some x))) (sym (slice_get-set_other ms u m (removed_at k q) ne) ∙ g))
-      (cases_eq m u)
-
--- the record of a message after a step that takes it out of flight
-removed_own : (T : Run) (k m : ℕ) (q : Message) → Removes T m k → TracksMessage T k m q → TracksMessage T (suc k) m (removed_at k q)
-removed_own T k m q r h = record { receiver = h.receiver; origin = h.origin; ended_by = by q.ended_by h.ended_by } where
-  by : (o : Option ℕ) → IsFirst (Removes T m) k o → IsFirst (Removes T m) (suc k) (option_or o (Some k))
-  by None f = first-here (Removes T m) k r f
-  by (Some j) f = first-later (Removes T m) k j f
-
-removed_other : (T : Run) (k m : ℕ) (r : Message) → ¬ Removes T m k → TracksMessage T k m r → TracksMessage T (suc k) m r
-removed_other T k m r n h = record { receiver = h.receiver; origin = h.origin; ended_by = first-not (Removes T m) k r.ended_by n h.ended_by }
-
-receiver_same : (T U : Run) (k m : ℕ) (o : Option ℕ) → Agree T U k → m < sent T k → IsReceiver T m o → IsReceiver U m o
-receiver_same T U k m None a b h = λ u r. h u (receives-same k m u (agree_sym a) (omega (arith, b, sent-same k a)) r)
-receiver_same T U k m (Some u) a b h = receives-same k m u a b h
-
-place_same : (T U : Run) (k m : ℕ) (o : Option ℕ) → Agree T U k → m < sent T k → IsPlaceOf T m o → IsPlaceOf U m o
-place_same T U k m None a b h = λ j by r. h j by (origin-same k m j by (agree_sym a) (omega (arith, b, sent-same k a)) r)
-place_same T U k m (Some j) a b h = (h.0, origin-same k m j h.0 a b h.1)
-
-message_same : (T U : Run) (k m : ℕ) (r : Message) → Agree T U k → m < sent T k → TracksMessage T k m r → TracksMessage U k m r
-message_same T U k m r a b h = record { receiver = receiver_same T U k m r.target a b h.receiver; origin = place_same T U k m r.origin a b h.origin; ended_by = by r.ended_by h.ended_by } where
-  by : (o : Option ℕ) → IsFirst (Removes T m) k o → IsFirst (Removes U m) k o
-  by None n = λ j l e. n j l (removes-same m j (agree_below (suc j) l (agree_sym a)) e)
-  by (Some i) n = (n.0, removes-same m i (agree_below (suc i) n.0 a) n.1, λ j l e. n.2 j l (removes-same m j (agree_below (suc j) (omega (arith, l, n.0)) (agree_sym a)) e))
-
--- the record of a message right after its Send
-message_new : (T : Run) (k m : ℕ) (s : Step) (r : Message) → step_at T k ≡ Some s → m ≡ sent T k → MadeSend k s r → IsFirst (Removes T m) (suc k) None → TracksMessage T (suc k) m r
-message_new T k m s r e is x f =
-    let P : Message → Type 0 = λ y. TracksMessage T (suc k) m y in
-    subst P x.record_is (record {
-      receiver = message {j = k} {by = x.by} (record { to = x.to; value = x.value; stands = e ∙ ap Some x.is; made = is }) refl;
-      origin = (x.by, direct (record { to = x.to; value = x.value; stands = e ∙ ap Some x.is; made = is }));
-      ended_by = f;
-    })
-
-pub messages_appended : (T : Run) (s : Step) (ms : List Message) → WellFormed T → MayFollow T s → TracksMessages T ms → TracksMessages (appended T s) (messages_after s (len T) ms)
-messages_appended T s ms w may h = record {
-  count = omega (arith, length-with_sent (len T) s (removed_of (len T) ms (removed_by s)), length-removed (len T) ms (removed_by s), h.count, sent-same (len T) (agree_appended T s), sent-next (appended T s) (len T) s (step_at-appended T s), ap (sent (appended T s)) (len-appended T s));
-  each = λ m r e. let P : ℕ → Type 0 = λ k. TracksMessage (appended T s) k m r in subst P (sym (len-appended T s)) (⊎_elim (old m r) (new m r) (with_sent-cases (len T) s (removed_of (len T) ms (removed_by s)) m r e));
-} where
-  removes : (m : ℕ) → removed_by s ≡ Some m → Removes (appended T s) m (len T)
-  removes m e = ap (option_and_then removed_by) (step_at-appended T s) ∙ e
-
-  removed : (m : ℕ) → Removes (appended T s) m (len T) → removed_by s ≡ Some m
-  removed m e = sym (ap (option_and_then removed_by) (step_at-appended T s)) ∙ e
-
-  before : (m : ℕ) (r : Message) → slice_get ms m ≡ Some r → TracksMessage (appended T s) (len T) m r
-  before m r e = message_same T (appended T s) (len T) m r (agree_appended T s) (omega (arith, slice_get_within ms m r e, h.count)) (h.each m r e)
-
-  old : (m : ℕ) (r : Message) → slice_get (removed_of (len T) ms (removed_by s)) m ≡ Some r → TracksMessage (appended T s) (suc (len T)) m r
-  old m r e = by (removed-cases (len T) ms (removed_by s) m r e) where
-    by : RemovedCase (len T) ms (removed_by s) m r → TracksMessage (appended T s) (suc (len T)) m r
-    by (own_message a q f g) = let P : Message → Type 0 = λ x. TracksMessage (appended T s) (suc (len T)) m x in subst P g (removed_own (appended T s) (len T) m q (removes m a) (before m q f))
-    by (other_message n f) = removed_other (appended T s) (len T) m r (λ x. n (removed m x)) (before m r f)
-
-  new : (m : ℕ) (r : Message) → (m ≡ length (removed_of (len T) ms (removed_by s))) × MadeSend (len T) s r → TracksMessage (appended T s) (suc (len T)) m r
-  new m r p =
-      let is : m ≡ sent T (len T) = omega (arith, p.0, length-removed (len T) ms (removed_by s), h.count) in
-      let kept : IsFirst (Removes (appended T s) m) (suc (len T)) None = λ j l a. ⊎_elim
-      (λ (x : j ≡ len T). omega (arith, is, known_removed T.opening (born T (len T)) (sent T (len T)) m s may.known (removed m (ap (λ i. option_and_then removed_by (step_at (appended T s) i)) (sym x) ∙ a))))
-      (λ b. unsent_kept T m (len T) w.known (omega (arith, is)) j b (ap (option_and_then removed_by) ((agree_appended T s).steps j b) ∙ a))
-      (cases_last j (len T) l) in
-      message_new (appended T s) (len T) m s r (step_at-appended T s) (is ∙ sent-same (len T) (agree_appended T s)) p.1 kept
-
--- all of it after a step
-pub index_appended : (T : Run) (s : Step) (made : List ℕ) (old new : Tracked) (records : List Message) (number : ℕ) → MayFollow T s → number ≡ number_made s (length old.transactors) (length records) → new.transactors ≡ transactors_after s (len T) old.transactors → new.nodes ≡ old.nodes → IsIndexed T made old records → IsIndexed (appended T s) (made ++ number ∷ []) new (messages_after s (len T) records)
-index_appended T s made old new records number may is after nodes x = record {
-  well_formed = well_formed_appended T s x.well_formed may;
-  numbers = numbers_appended T s made number (is ∙ made_same s _ _ _ _ x.transactors.count x.messages.count) x.numbers;
-  transactors = subst (TracksAll (appended T s)) (sym after) (transactors_appended T s old.transactors x.well_formed may x.transactors);
-  nodes = nodes ∙ x.nodes;
-  messages = messages_appended T s records x.well_formed may x.messages;
-}
-
--- and at the opening
-pub index_opened : (o : Opening) (tracked : Tracked) (records : List Message) → IsSound o → tracked.transactors ≡ map opened_at o.homes → tracked.nodes ≡ o.nodes → records ≡ map posted o.targets → IsIndexed (record { opening = o; steps = [] }) [] tracked records
-index_opened o tracked records sound ts nodes ms = record {
-  well_formed = record { opening = sound; known = λ k s e. absurd (cc); few_steps = omega arith };
-  numbers = record { count = refl; each = λ k s e. absurd (cc) };
-  transactors = subst (TracksAll T) (sym ts) (record { count = omega (arith, length-map o.homes opened_at, sound.a_home_each, count-zero (λ j. option_map_or is_new (step_at T j) false)); each = starts_at });
-  nodes = nodes;
-  messages = subst (TracksMessages T) (sym ms) (record { count = omega (arith, length-map o.targets posted, count-zero (λ j. option_map_or makes_message (step_at T j) false)); each = posts_at });
-} where
-  T : Run
-  T = record { opening = o; steps = [] }
-
-  starts_at : (t : ℕ) (r : Transactor) → slice_get (map opened_at o.homes) t ≡ Some r → Tracks (record { opening = o; steps = [] }) 0 t r
-  starts_at t r e = by (slice_get o.homes t) refl (sym (slice_get-map opened_at o.homes t) ∙ e) where
-    first : t < length o.homes → history (record { opening = o; steps = [] }) t 0 ≡ opening
-    first l = history-zero (record { opening = o; steps = [] }) t ∙ ap (λ b. cond b opening newborn) (lt-ltb t (length o.names) (omega (arith, l, sound.a_home_each)))
-
-    by : (h : Option ℕ) → slice_get o.homes t ≡ h → option_map opened_at h ≡ Some r → Tracks (record { opening = o; steps = [] }) 0 t r
-    by None f g = absurd (cc)
-    by (Some n) f g =
-        let P : Transactor → Type 0 = λ x. Tracks (record { opening = o; steps = [] }) 0 t x in
-        let here = first (slice_get_within o.homes t n f) in
-        subst P (same_some g) (record {
-          home = start f;
-          turn = λ place m u. omega (arith, u.before);
-          end = λ j l. absurd (omega (arith, l));
-          stable = ap (λ x. x.stable) (sym here);
-          at_opening = ap (λ x. eqb (interval x) 0) (sym here);
-        })
-
-  no_origin : (m j by : ℕ) → ¬ IsOrigin (record { opening = o; steps = [] }) j by m
-  no_origin m j by (direct x) = let none = x.stands in cc
-
-  posts_at : (m : ℕ) (r : Message) → slice_get (map posted o.targets) m ≡ Some r → TracksMessage (record { opening = o; steps = [] }) 0 m r
-  posts_at m r e = by (slice_get o.targets m) refl (sym (slice_get-map posted o.targets m) ∙ e) where
-    by : (h : Option ℕ) → slice_get o.targets m ≡ h → option_map posted h ≡ Some r → TracksMessage (record { opening = o; steps = [] }) 0 m r
-    by None f g = absurd (cc)
-    by (Some n) f g =
-        let P : Message → Type 0 = λ x. TracksMessage (record { opening = o; steps = [] }) 0 m x in
-        subst P (same_some g) (record { receiver = post f; origin = no_origin m; ended_by = λ j l. absurd (omega (arith, l)) })
-
 -- how many transactors and messages there can be
 pub born-le : (T : Run) (k : ℕ) → born T k ≤ starts T + k
 born-le T k = omega (arith, count-le (λ j. option_map_or is_new (step_at T j) false) k)
@@ -372,6 +228,8 @@ few_messages T made tracked records x = omega (arith, x.messages.count, sent-le 
 
 made-lt : (s : Step) (a m n : ℕ) → a < n → m < n → 0 < n → number_made s a m < n
 made-lt (Send t u v) a m n h k z = k
+made-lt (Echo t x) a m n h k z = k
+made-lt (Repeat x) a m n h k z = k
 made-lt (New t b c v) a m n h k z = h
 made-lt s a m n h k z = z
 

@@ -13,5 +13,6 @@ pub mod Quiet
 pub mod Indexing
 pub mod Once
 pub mod Reading
+pub mod MessageRecords
 pub mod Prefix
 pub mod NamePlaces

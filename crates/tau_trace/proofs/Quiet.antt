@@ -5,7 +5,7 @@ use Rattle.std.proofs.lemmas.Option.{slice_get_within, option_and_then_some}
 use Rattle.tau_history.specs.Timeline.{Timeline, Move, keep, fall, moved}
 use Rattle.tau_trace.specs.declared.opening.Opening.{Opening}
 use Rattle.tau_trace.specs.declared.step.Step.{Step}
-use Rattle.tau_trace.specs.declared.step.Step.TheVariants.{Take, Drop, Fall, Void, Get, Set, Skip, Send, New, Stabilize, Ask, Checkpoint, Hold, Rollback, Stay, Done, Trap, Fail, Lose}
+use Rattle.tau_trace.specs.declared.step.Step.TheVariants.{Take, Drop, Fall, Void, Get, Set, Skip, Send, New, Stabilize, Ask, Checkpoint, Hold, Rollback, Stay, Done, Trap, Fail, Lose, Echo, Heed, Repeat}
 use Rattle.tau_trace.specs.Steps.{actor, removed_by}
 use Rattle.tau_trace.specs.Run.{Run, step_at, len, ActsAt}
 use Rattle.tau_trace.specs.Places.{IsFirst}
@@ -59,12 +59,17 @@ known_actor o b m t (Done u) h e = omega (arith, h, same_some e)
 known_actor o b m t (Trap u c) h e = omega (arith, h.0, same_some e)
 known_actor o b m t (Fail u) h e = omega (arith, h, same_some e)
 known_actor o b m t (Lose x) h e = absurd (cc)
+known_actor o b m t (Echo u x) h e = omega (arith, h.0, same_some e)
+known_actor o b m t (Heed u x) h e = omega (arith, h.0, same_some e)
+known_actor o b m t (Repeat x) h e = absurd (cc)
 
 pub known_removed : (o : Opening) (b m x : ℕ) (s : Step) → IsKnown o b m s → removed_by s ≡ Some x → x < m
 known_removed o b m x (Take u y) h e = omega (arith, h.1, same_some e)
 known_removed o b m x (Drop u y) h e = omega (arith, h.1, same_some e)
 known_removed o b m x (Void u y) h e = omega (arith, h.1, same_some e)
 known_removed o b m x (Lose y) h e = omega (arith, h, same_some e)
+known_removed o b m x (Echo u y) h e = omega (arith, h.1, same_some e)
+known_removed o b m x (Heed u y) h e = omega (arith, h.1, same_some e)
 known_removed o b m x s h e = absurd (cc)
 
 -- the step at a place below n names only what exists at n

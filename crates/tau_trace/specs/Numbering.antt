@@ -4,8 +4,8 @@ use Rattle.std.specs.Prelude.{◌≡◌, ℕ, ◌+◌, ◌<◌, Bool, false, Opt
 use Rattle.std.specs.Option.{option_map_or}
 use Rattle.tau_value.specs.declared.shared.Value.{Value}
 use Rattle.tau_trace.specs.declared.step.Step.{Step}
-use Rattle.tau_trace.specs.declared.step.Step.TheVariants.{Send, New}
-use Rattle.tau_trace.specs.Steps.{removed_by, is_new, is_send, makes_message}
+use Rattle.tau_trace.specs.declared.step.Step.TheVariants.{Send, New, Echo, Repeat}
+use Rattle.tau_trace.specs.Steps.{removed_by, is_new, is_send, is_echo, makes_message}
 use Rattle.tau_trace.specs.Run.{Run, step_at, starts}
 use Rattle.tau_trace.specs.Places.{count_below}
 
@@ -32,11 +32,26 @@ pub record IsSent (T : Run) (j by m : ℕ) : Type 0 where
   pub stands : step_at T j ≡ Some (Send by to value)
   pub made : m ≡ sent T j
 
--- the origin of a message is the step at place j, by transactor `by`: the Send that made it
+-- the step at place j is an Echo of message n by transactor `by`, and makes message m
+pub record IsEchoed (T : Run) (j by n m : ℕ) : Type 0 where
+  pub stands : step_at T j ≡ Some (Echo by n)
+  pub made : m ≡ sent T j
+  pub earlier : n < m
+
+-- the step at place j is a Repeat of message n, and makes message m
+pub record IsRepeated (T : Run) (j n m : ℕ) : Type 0 where
+  pub stands : step_at T j ≡ Some (Repeat n)
+  pub made : m ≡ sent T j
+  pub earlier : n < m
+
+-- the origin of a message is the step at place j, by transactor `by`: the Send or the Echo that made it, or the origin of
+-- the message that it repeats
 pub data IsOrigin (T : Run) (j by : ℕ) : ℕ → Type 0 where
   direct : {m : ℕ} → IsSent T j by m → IsOrigin T j by m
+  echoed : {n m : ℕ} → IsEchoed T j by n m → IsOrigin T j by m
+  copied : {k n m : ℕ} → IsRepeated T k n m → IsOrigin T j by n → IsOrigin T j by m
 
--- transactor u is the sender of message m; a post has none
+-- transactor u is the sender of message m; a post and its copies have none
 pub record HasSender (T : Run) (m u : ℕ) : Type 0 where
   pub place : ℕ
   pub origin : IsOrigin T place u m
@@ -45,10 +60,24 @@ pub record HasSender (T : Run) (m u : ℕ) : Type 0 where
 abbrev pub IsSendAt : Run → ℕ → Type 0
 IsSendAt T j = IsTrue (option_map_or is_send (step_at T j) false)
 
--- transactor u is the receiver of message m
+-- the step at place j is an Echo
+abbrev pub IsEchoAt : Run → ℕ → Type 0
+IsEchoAt T j = IsTrue (option_map_or is_echo (step_at T j) false)
+
+-- message m is a notice: its origin is an Echo
+pub record IsNotice (T : Run) (m : ℕ) : Type 0 where
+  pub place : ℕ
+  pub by : ℕ
+  pub origin : IsOrigin T place by m
+  pub echo : IsEchoAt T place
+
+-- transactor u is the receiver of message m: that of the post or of the Send; of a notice the sender of the message that
+-- was echoed; of a copy that of the message that it repeats
 pub data Receives (T : Run) : ℕ → ℕ → Type 0 where
   post : {m u : ℕ} → slice_get T.opening.targets m ≡ Some u → Receives T m u
   message : {j by m u : ℕ} → (origin : IsSent T j by m) → origin.to ≡ u → Receives T m u
+  notice : {j by n m u : ℕ} → IsEchoed T j by n m → HasSender T n u → Receives T m u
+  copy : {k n m u : ℕ} → IsRepeated T k n m → Receives T n u → Receives T m u
 
 -- the place of the origin of message m; None where it has none
 abbrev pub IsPlaceOf : Run → ℕ → Option ℕ → Type 0
@@ -79,8 +108,10 @@ pub record InFlight (T : Run) (m k : ℕ) : Type 0 where
   pub exists : m < sent T k
   pub not_removed : (j : ℕ) → j < k → ¬ Removes T m j
 
--- the number that a Send or a New makes, where there are so many transactors and messages
+-- the number that a Send, an Echo, a Repeat or a New makes, where there are so many transactors and messages
 abbrev pub number_made : Step → ℕ → ℕ → ℕ
 number_made (Send t u v) transactors messages = messages
+number_made (Echo t m) transactors messages = messages
+number_made (Repeat m) transactors messages = messages
 number_made (New t b n v) transactors messages = transactors
 number_made s transactors messages = 0

@@ -24,6 +24,13 @@ starts T = length T.opening.names
 abbrev pub appended : Run → Step → Run
 appended T s = record { opening = T.opening; steps = T.steps ++ s ∷ [] }
 
+-- the same steps in this version
+abbrev pub versioned : ℕ → Run → Run
+versioned v T = record { opening = record T.opening { version = v }; steps = T.steps }
+
+abbrev pub second : Run → Run
+second T = versioned 2 T
+
 -- transactor t makes the step at place k
 abbrev pub ActsAt : Run → ℕ → ℕ → Type 0
 ActsAt T t k = option_and_then actor (step_at T k) ≡ Some t

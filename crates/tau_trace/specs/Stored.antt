@@ -1,12 +1,12 @@
 -- What contracts see of the type `Trace`, and what it keeps.
-use Rattle.std.specs.Prelude.{◌≡◌, ℕ, Bool, ◌&&◌, List, ◌++◌, ◌∷◌, [], Option, Some, None, slice_get, slice_set, length, nat_lt, vec_len}
+use Rattle.std.specs.Prelude.{◌≡◌, ℕ, Bool, ◌&&◌, List, ◌++◌, ◌∷◌, [], Option, Some, None, slice_get, slice_set, length, nat_lt, vec_len, option_and_then}
 use Rattle.std.specs.Vec.{vec_capacity}
 use Rattle.std.specs.Option.{option_or}
 use Rattle.std.specs.declared.alloc.Global.{Global}
 use Rattle.std.specs.declared.vec.Vec.{Vec}
 use Rattle.tau_trace.specs.declared.opening.Opening.{Opening}
 use Rattle.tau_trace.specs.declared.step.Step.{Step}
-use Rattle.tau_trace.specs.declared.step.Step.TheVariants.{Send, New}
+use Rattle.tau_trace.specs.declared.step.Step.TheVariants.{Send, New, Echo, Repeat}
 use Rattle.tau_trace.specs.declared.transactor.Transactor.{Transactor}
 use Rattle.tau_trace.specs.declared.message.Message.{Message}
 use Rattle.tau_trace.specs.Steps.{actor, removed_by}
@@ -67,14 +67,28 @@ abbrev pub removed_of : ℕ → List Message → Option ℕ → List Message
 removed_of k ms None = ms
 removed_of k ms (Some m) = removed_by_record k ms m (slice_get ms m)
 
+-- the place of the origin of a message, by its record
+abbrev pub origin_in : List Message → ℕ → Option ℕ
+origin_in ms m = option_and_then (λ r. r.origin) (slice_get ms m)
+
+-- the receiver of a message, by its record
+abbrev pub target_in : List Message → ℕ → Option ℕ
+target_in ms m = option_and_then (λ r. r.target) (slice_get ms m)
+
+-- the sender of a message, by its record: the actor of the step at the place of its origin
+abbrev pub sender_in : List Step → List Message → ℕ → Option ℕ
+sender_in steps ms m = option_and_then (λ j. option_and_then actor (slice_get steps j)) (origin_in ms m)
+
 -- the records after a step at place k that may make a message
-abbrev pub with_sent : ℕ → Step → List Message → List Message
-with_sent k (Send t u v) ms = ms ++ sent_to (Some u) (Some k) ∷ []
-with_sent k s ms = ms
+abbrev pub with_sent : List Step → ℕ → Step → List Message → List Message
+with_sent steps k (Send t u v) ms = ms ++ sent_to (Some u) (Some k) ∷ []
+with_sent steps k (Echo t m) ms = ms ++ sent_to (sender_in steps ms m) (Some k) ∷ []
+with_sent steps k (Repeat m) ms = ms ++ sent_to (target_in ms m) (origin_in ms m) ∷ []
+with_sent steps k s ms = ms
 
 -- the records of messages after a step at place k
-abbrev pub messages_after : Step → ℕ → List Message → List Message
-messages_after s k ms = with_sent k s (removed_of k ms (removed_by s))
+abbrev pub messages_after : List Step → Step → ℕ → List Message → List Message
+messages_after steps s k ms = with_sent steps k s (removed_of k ms (removed_by s))
 
 -- the number that the step at place k made
 abbrev pub IsMadeAt : Run → ℕ → ℕ → Type 0

@@ -1,6 +1,6 @@
 //! Whether a step names only what exists.
 ghost use Rattle.std.specs.Prelude.{◌↔◌, IsTrue, length};
-ghost use Rattle.tau_trace.specs.Known.{IsKnown, IsKnownValue};
+ghost use Rattle.tau_trace.specs.Known.{IsKnown, IsKnownValue, IsInVersion};
 
 use crate::opening::Opening;
 use crate::step::Step;
@@ -15,7 +15,9 @@ pub(crate) fn is_known(opening: &Opening, transactors: u32, messages: u32, step:
         Step::Take { who, message }
         | Step::Drop { who, message }
         | Step::Fall { who, message }
-        | Step::Void { who, message } => *who < transactors && *message < messages,
+        | Step::Void { who, message }
+        | Step::Echo { who, message }
+        | Step::Heed { who, message } => *who < transactors && *message < messages,
         Step::Set { who, value } => *who < transactors && is_known_value(value, transactors),
         Step::Send { who, to, value } => {
             *who < transactors && *to < transactors && is_known_value(value, transactors)
@@ -32,7 +34,7 @@ pub(crate) fn is_known(opening: &Opening, transactors: u32, messages: u32, step:
                 && is_known_value(state, transactors)
         }
         Step::Trap { who, code } => *who < transactors && 1 <= *code && *code <= 8,
-        Step::Lose { message } => *message < messages,
+        Step::Lose { message } | Step::Repeat { message } => *message < messages,
         Step::Get { who }
         | Step::Skip { who }
         | Step::Stabilize { who }
@@ -43,6 +45,16 @@ pub(crate) fn is_known(opening: &Opening, transactors: u32, messages: u32, step:
         | Step::Stay { who }
         | Step::Done { who }
         | Step::Fail { who } => *who < transactors,
+    }
+}
+
+/// Whether steps of this kind stand in the version.
+pub(crate) fn is_in_version(version: u32, step: &Step) -> bool
+    ensures { IsTrue result ↔ IsInVersion version step.now }
+{
+    match step {
+        Step::Echo { .. } | Step::Heed { .. } | Step::Repeat { .. } => version == 2,
+        _ => true,
     }
 }
 

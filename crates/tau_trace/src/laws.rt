@@ -1,6 +1,6 @@
 //! Laws of runs, each the contract of a function that does nothing.
 ghost use Rattle.tau_trace.specs.Laws.{HistoriesAreCounted, LocalByAgreement, HistoriesLieOnAChain, PointsGrow, PointsDoNotReturn, FatesAreLocal, StableAtAPoint, VolatileFallsWereNeverStable, EachNumberIsMadeOnce};
-ghost use Rattle.tau_trace.specs.MessageLaws.{EachMessageHasOneOrigin};
+ghost use Rattle.tau_trace.specs.MessageLaws.{EachMessageHasOneOrigin, CopiesHaveTheirOrigin};
 
 /// Histories are what counting steps gives (docs/rules.md, "Histories", "Steps").
 pub fn histories_are_counted()
@@ -50,4 +50,9 @@ pub fn each_number_is_made_once()
 /// A message has one origin (docs/rules.md, "Numbers").
 pub fn each_message_has_one_origin()
     ensures { EachMessageHasOneOrigin }
+{}
+
+/// A copy has the origin of the message that it repeats (docs/rules.md, "Numbers").
+pub fn copies_have_their_origin()
+    ensures { CopiesHaveTheirOrigin }
 {}

@@ -1,6 +1,6 @@
 //! What the steps so far say of one message.
 ghost use Rattle.std.specs.Prelude.{◌≡◌, slice_get};
-ghost use Rattle.tau_trace.specs.Stored.{sent_to, removed_at};
+ghost use Rattle.tau_trace.specs.Stored.{sent_to, removed_at, origin_in, target_in};
 
 /// Its receiver, the place of its origin, and that of the step that took it out of flight.
 #[derive(Clone, Copy)]
@@ -38,4 +38,18 @@ pub(crate) fn message_of(messages: &[Message], message: u32) -> Option<Message>
     ensures { result ≡ slice_get messages.now message }
 {
     messages.get(message as usize).copied()
+}
+
+/// The place of the origin of a message, by its record.
+pub(crate) fn origin_of(messages: &[Message], message: u32) -> Option<u32>
+    ensures { result ≡ origin_in messages.now message }
+{
+    message_of(messages, message)?.origin
+}
+
+/// The receiver of a message, by its record.
+pub(crate) fn target_of(messages: &[Message], message: u32) -> Option<u32>
+    ensures { result ≡ target_in messages.now message }
+{
+    message_of(messages, message)?.target
 }

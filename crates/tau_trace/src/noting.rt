@@ -2,11 +2,11 @@
 ghost use Rattle.std.specs.Prelude.{◌≡◌, ◌<◌, ◌^◌, ℕ, Some, length, vec_len, IsTrue};
 ghost use Rattle.std.specs.Vec.{vec_capacity};
 ghost use Rattle.tau_trace.specs.Steps.{actor, removed_by};
-ghost use Rattle.tau_trace.specs.Stored.{has_room, noted_of, with_new, removed_of, with_sent};
+ghost use Rattle.tau_trace.specs.Stored.{has_room, noted_of, with_new, removed_of, with_sent, sender_in};
 ghost use Rattle.tau_trace.specs.Inner.Noting.{MakesNodeBelow};
 ghost use Rattle.tau_trace.specs.Numbering.{number_made};
 
-use crate::message::Message;
+use crate::message::{Message, origin_of, target_of};
 use crate::step::Step;
 use crate::transactor::Transactor;
 use crate::transactors::Transactors;
@@ -49,22 +49,39 @@ pub(crate) fn note_removed(messages: &mut Vec<Message>, step: &Step, place: u32)
     }
 }
 
-/// Adds the message that a Send at this place makes, in the room that there is.
-pub(crate) fn add_sent(messages: &mut Vec<Message>, step: &Step, place: u32)
+/// Adds the message that a Send, an Echo or a Repeat at this place makes, in the room that there is.
+pub(crate) fn add_sent(messages: &mut Vec<Message>, steps: &[Step], step: &Step, place: u32)
     requires { IsTrue (has_room messages.old) }
-    ensures { messages.new.items ≡ with_sent place step.now messages.old.items }
+    ensures { messages.new.items ≡ with_sent steps.now place step.now messages.old.items }
 {
-    if let Step::Send { to, .. } = step {
-        messages.push_reserved(Message::new(Some(*to), Some(place)));
+    match step {
+        Step::Send { to, .. } => messages.push_reserved(Message::new(Some(*to), Some(place))),
+        Step::Echo { message, .. } => {
+            let sender = sender_of(steps, messages, *message);
+            messages.push_reserved(Message::new(sender, Some(place)));
+        }
+        Step::Repeat { message } => {
+            let copy = Message::new(target_of(messages, *message), origin_of(messages, *message));
+            messages.push_reserved(copy);
+        }
+        _ => {}
     }
 }
 
-/// The number that a Send or a New makes, where there are so many transactors and messages; 0 for other steps.
+/// The sender of a message: the transactor of the step at the place of its origin.
+fn sender_of(steps: &[Step], messages: &[Message], message: u32) -> Option<u32>
+    ensures { result ≡ sender_in steps.now messages.now message }
+{
+    let place = origin_of(messages, message)?;
+    steps.get(place as usize)?.actor()
+}
+
+/// The number that a Send, an Echo, a Repeat or a New makes, where there are so many transactors and messages; 0 for other steps.
 pub(crate) fn number_made(step: &Step, transactors: usize, messages: usize) -> usize
     ensures { result ≡ number_made step.now transactors messages }
 {
     match step {
-        Step::Send { .. } => messages,
+        Step::Send { .. } | Step::Echo { .. } | Step::Repeat { .. } => messages,
         Step::New { .. } => transactors,
         _ => 0,
     }

@@ -8,7 +8,8 @@ use tau_sexpr::Word;
 use tau_value::{BEHAVIOUR_LIMIT, NODE_LIMIT, Names, POST_LIMIT, START_LIMIT, is_name};
 
 /// What stands before the first step (docs/rules.md, "Numbers"): the names of the start transactors and of the
-/// behaviours, the number of nodes, the node of each start, and the receiver of each post.
+/// behaviours, the number of nodes, the node of each start, the receiver of each post, and the version (docs/rules.md,
+/// "Version 1 and version 2").
 #[derive(Drop)]
 pub struct Opening {
     pub names: Names,
@@ -16,14 +17,15 @@ pub struct Opening {
     pub nodes: u32,
     pub homes: Numbers,
     pub targets: Numbers,
+    pub version: u32,
 }
 
 impl Opening {
     ghost use Rattle.tau_trace.specs.Known.{IsSound};
 
     /// Whether the opening is one that a trace may have: the names of starts and of behaviours are distinct names, at
-    /// most 1,024 and 256; there are 1 to 64 nodes; each start has a node that is there; and each of at most 4,096 posts
-    /// has a start as its receiver (docs/limits.md).
+    /// most 1,024 and 256; there are 1 to 64 nodes; each start has a node that is there; each of at most 4,096 posts has
+    /// a start as its receiver (docs/limits.md); and the version is 1 or 2.
     pub fn is_sound(&self) -> bool
         ensures { IsTrue result ↔ IsSound self.now }
     {
@@ -32,6 +34,8 @@ impl Opening {
             && self.targets.len() <= POST_LIMIT
             && 1 <= self.nodes
             && self.nodes <= NODE_LIMIT
+            && 1 <= self.version
+            && self.version <= 2
             && self.homes.len() == self.names.len()
             && are_names(&self.names)
             && are_names(&self.behaviours)
@@ -43,12 +47,20 @@ impl Opening {
     pub fn copy(&self) -> Result<Opening, AllocError>
         ensures { IfOk result (λ o. o ≡ self.now) }
     {
+        self.in_version(self.version)
+    }
+
+    /// The same opening in another version. The error is want of memory.
+    pub(crate) fn in_version(&self, version: u32) -> Result<Opening, AllocError>
+        ensures { IfOk result (λ o. o ≡ record self.now { version = version }) }
+    {
         Ok(Opening {
             names: self.names.copy()?,
             behaviours: self.behaviours.copy()?,
             nodes: self.nodes,
             homes: self.homes.copy()?,
             targets: self.targets.copy()?,
+            version,
         })
     }
 }

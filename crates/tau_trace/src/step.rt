@@ -1,11 +1,12 @@
 //! Steps.
 ghost use Rattle.std.specs.Prelude.{◌≡◌, IfOk};
-ghost use Rattle.tau_trace.specs.Steps.{actor, removed_by};
+ghost use Rattle.tau_trace.specs.Steps.{actor, removed_by, is_echo};
 
 use std::alloc::AllocError;
 use tau_value::Value;
 
-/// A step of a run (docs/rules.md, "Steps"). `who` is the transactor that makes it.
+/// A step of a run (docs/rules.md, "Steps"). `who` is the transactor that makes it. An Echo, a Heed and a Repeat stand in
+/// version 2 alone.
 #[derive(Drop)]
 pub enum Step {
     Take {
@@ -77,10 +78,21 @@ pub enum Step {
     Lose {
         message: u32,
     },
+    Echo {
+        who: u32,
+        message: u32,
+    },
+    Heed {
+        who: u32,
+        message: u32,
+    },
+    Repeat {
+        message: u32,
+    },
 }
 
 impl Step {
-    /// The transactor that makes the step; `None` for a Lose.
+    /// The transactor that makes the step; `None` for a Lose and a Repeat.
     pub fn actor(&self) -> Option<u32>
         ensures { result ≡ actor self.now }
     {
@@ -102,12 +114,14 @@ impl Step {
             | Step::Stay { who }
             | Step::Done { who }
             | Step::Trap { who, .. }
-            | Step::Fail { who } => Some(*who),
-            Step::Lose { .. } => None,
+            | Step::Fail { who }
+            | Step::Echo { who, .. }
+            | Step::Heed { who, .. } => Some(*who),
+            Step::Lose { .. } | Step::Repeat { .. } => None,
         }
     }
 
-    /// The message that the step takes out of flight: that of a Take, Drop, Void or Lose.
+    /// The message that the step takes out of flight: that of a Take, Drop, Void, Echo, Heed or Lose.
     pub fn removed(&self) -> Option<u32>
         ensures { result ≡ removed_by self.now }
     {
@@ -115,9 +129,18 @@ impl Step {
             Step::Take { message, .. }
             | Step::Drop { message, .. }
             | Step::Void { message, .. }
-            | Step::Lose { message } => Some(*message),
+            | Step::Lose { message }
+            | Step::Echo { message, .. }
+            | Step::Heed { message, .. } => Some(*message),
             _ => None,
         }
+    }
+
+    /// Whether the step is an Echo.
+    pub fn is_echo(&self) -> bool
+        ensures { result ≡ is_echo self.now }
+    {
+        matches!(self, Step::Echo { .. })
     }
 
     /// An equal step, which shares its value. The error is want of memory.
@@ -181,6 +204,15 @@ impl Step {
             },
             Step::Fail { who } => Step::Fail { who: *who },
             Step::Lose { message } => Step::Lose { message: *message },
+            Step::Echo { who, message } => Step::Echo {
+                who: *who,
+                message: *message,
+            },
+            Step::Heed { who, message } => Step::Heed {
+                who: *who,
+                message: *message,
+            },
+            Step::Repeat { message } => Step::Repeat { message: *message },
         };
         Ok(copy)
     }

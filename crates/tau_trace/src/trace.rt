@@ -1,16 +1,17 @@
 //! Traces.
-ghost use Rattle.std.specs.Prelude.{◌≡◌, ◌<◌, ◌≤◌, ◌↔◌, [], IsTrue, IfOk, IfErr, OnOk, OnErr, IsSome, IfSome, option_copied};
-ghost use Rattle.tau_trace.specs.Run.{Run, len, step_at, appended};
+ghost use Rattle.std.specs.Prelude.{◌≡◌, ◌<◌, ◌≤◌, ◌↔◌, ◌⊎◌, [], IsTrue, IfOk, IfErr, OnOk, OnErr, IsSome, IfSome, option_copied, option_and_then};
+ghost use Rattle.tau_trace.specs.Steps.{actor};
+ghost use Rattle.tau_trace.specs.Run.{Run, len, step_at, appended, versioned, second};
 ghost use Rattle.tau_trace.specs.Known.{IsSound, MayFollow, WellFormed};
 ghost use Rattle.tau_trace.specs.Places.{IsFirst};
 ghost use Rattle.tau_trace.specs.Numbering as numbering;
-ghost use Rattle.tau_trace.specs.Numbering.{Removes, IsPlaceOf, IsSender, IsReceiver, IsHome};
+ghost use Rattle.tau_trace.specs.Numbering.{Removes, IsPlaceOf, IsSender, IsEchoAt, IsNotice, IsReceiver, IsHome};
 ghost use Rattle.tau_trace.specs.Histories.{EndsAt};
 ghost use Rattle.tau_trace.specs.Turns.{IsOpenTurn};
 ghost use Rattle.tau_trace.specs.Nodes.{IsNextLiving};
 ghost use Rattle.tau_trace.specs.Stored.{Stored, IsMadeAt};
 
-use crate::known::is_known;
+use crate::known::{is_in_version, is_known};
 use crate::message::{Message, message_of};
 use crate::noting::{add_new, add_sent, note_actor, note_removed, number_made};
 use crate::opening::Opening;
@@ -22,8 +23,8 @@ use std::marker::Model;
 use tau_value::STEP_LIMIT;
 
 /// A trace: an opening and the list of the steps of a run (docs/rules.md, "Steps"). Each step names what exists
-/// before it, and there are at most 1,000,000 steps. Contracts see the run, and whether one more step can be appended
-/// without memory. The readers take constant or logarithmic time.
+/// before it and is of a kind of the version, and there are at most 1,000,000 steps. Contracts see the run, and
+/// whether one more step can be appended without memory. The readers take constant or logarithmic time.
 #[derive(Drop)]
 pub struct Trace {
     opening: Opening,
@@ -87,11 +88,13 @@ impl Trace {
     }
 
     /// Whether a step may be appended: what it names exists, also in its value; its value is in bounds; a code is 1 to
-    /// 8; and there are fewer than 1,000,000 steps.
+    /// 8; an Echo, a Heed or a Repeat is in version 2; and there are fewer than 1,000,000 steps.
     pub fn admits(&self, step: &Step) -> bool
         ensures { IsTrue result ↔ MayFollow self.now.run step.now }
     {
-        self.len() < STEP_LIMIT && is_known(&self.opening, self.born(), self.sent(), step)
+        self.len() < STEP_LIMIT
+            && is_in_version(self.opening.version, step)
+            && is_known(&self.opening, self.born(), self.sent(), step)
     }
 
     /// Makes room, so that one step can be appended without memory.
@@ -117,7 +120,7 @@ impl Trace {
         note_actor(&mut self.transactors, &step, place);
         add_new(&mut self.transactors, &step);
         note_removed(&mut self.messages, &step, place);
-        add_sent(&mut self.messages, &step, place);
+        add_sent(&mut self.messages, &self.steps, &step, place);
         self.made.push_reserved(number);
         self.steps.push_reserved(step);
     }
@@ -144,8 +147,8 @@ impl Trace {
         self.steps.get(place as usize)
     }
 
-    /// The number that the step at a place made (docs/rules.md, "Numbers"): a message's for a Send, a transactor's for a New, 0 for
-    /// other steps; `None` from the length on.
+    /// The number that the step at a place made (docs/rules.md, "Numbers"): a message's for a Send, an Echo and a Repeat,
+    /// a transactor's for a New, 0 for other steps; `None` from the length on.
     pub fn made_at(&self, place: u32) -> Option<u32>
         ensures exists { IsSome result ↔ (place < len self.now.run) }
         ensures made { IfSome result (IsMadeAt self.now.run place) }
@@ -160,6 +163,7 @@ impl Trace {
     {
         &self.opening
     }
+
     /// How many transactors exist (docs/rules.md, "Numbers").
     pub fn born(&self) -> u32
         ensures { result ≡ numbering.born self.now.run (len self.now.run) }
@@ -174,7 +178,7 @@ impl Trace {
         self.messages.len() as u32
     }
 
-    /// The place of the first Take, Drop, Void or Lose of a message; `None` where there is none.
+    /// The place of the first Take, Drop, Void, Echo, Heed or Lose of a message; `None` where there is none.
     pub fn ended_by(&self, message: u32) -> Option<u32>
         ensures { IsFirst (Removes self.now.run message) (len self.now.run) result }
     {
@@ -203,26 +207,59 @@ impl Trace {
         Some(self.transactors.get(who)?.home)
     }
 
-    /// The receiver of a message; `None` where it doesn't exist.
+    /// The receiver of a message; `None` where it has none or doesn't exist.
     pub fn target(&self, message: u32) -> Option<u32>
         ensures { IsReceiver self.now.run message result }
     {
         message_of(&self.messages, message)?.target
     }
 
-    /// The place of the Send that made a message; `None` for a post, and where the message doesn't exist.
+    /// The place of the Send or the Echo that made a message, or that made what it is a copy of; `None` for a post and its
+    /// copies, and where the message doesn't exist.
     pub fn origin(&self, message: u32) -> Option<u32>
         ensures { IsPlaceOf self.now.run message result }
     {
         message_of(&self.messages, message)?.origin
     }
 
-    /// The sender of a message; `None` for a post, and where the message doesn't exist.
+    /// The sender of a message: the transactor of its origin; `None` where it has no origin.
     pub fn sender(&self, message: u32) -> Option<u32>
         ensures { IsSender self.now.run message result }
     {
-        let place = self.origin(message)?;
-        self.step(place)?.actor()
+        match self.origin(message) {
+            Some(place) => self.actor_at(place),
+            None => None,
+        }
+    }
+
+    /// The transactor that makes the step at a place; `None` for a step of nobody and from the length on.
+    fn actor_at(&self, place: u32) -> Option<u32>
+        ensures { result ≡ option_and_then actor (step_at self.now.run place) }
+    {
+        match self.step(place) {
+            Some(step) => step.actor(),
+            None => None,
+        }
+    }
+
+    /// Whether a message is a notice: whether its origin is an Echo.
+    pub fn is_notice(&self, message: u32) -> bool
+        ensures { IsTrue result ↔ IsNotice self.now.run message }
+    {
+        match self.origin(message) {
+            Some(place) => self.is_echo_at(place),
+            None => false,
+        }
+    }
+
+    /// Whether the step at a place is an Echo.
+    fn is_echo_at(&self, place: u32) -> bool
+        ensures { IsTrue result ↔ IsEchoAt self.now.run place }
+    {
+        match self.step(place) {
+            Some(step) => step.is_echo(),
+            None => false,
+        }
     }
 
     /// The least transactor of a node that has not ended and has at least the number `from`; `None` where there is
@@ -232,11 +269,27 @@ impl Trace {
     {
         self.transactors.first_living(node, from)
     }
+
     /// An equal trace. The error is want of memory.
     pub fn copy(&self) -> Result<Trace, AllocError>
         ensures { IfOk result (λ t. t.run ≡ self.now.run) }
     {
-        let mut trace = Trace::begin(self.alloc, self.opening.copy()?)?;
+        self.with_version(self.opening.version)
+    }
+
+    /// The trace with the same steps in version 2. The error is want of memory.
+    pub fn in_second(&self) -> Result<Trace, AllocError>
+        ensures { IfOk result (λ t. t.run ≡ second self.now.run) }
+    {
+        self.with_version(2)
+    }
+
+    /// The trace with the same steps in its own version or in version 2.
+    fn with_version(&self, version: u32) -> Result<Trace, AllocError>
+        requires { (version ≡ self.now.run.opening.version) ⊎ (version ≡ 2) }
+        ensures { IfOk result (λ t. t.run ≡ versioned version self.now.run) }
+    {
+        let mut trace = Trace::begin(self.alloc, self.opening.in_version(version)?)?;
         for step in &self.steps {
             trace.reserve()?;
             trace.push_spare(step.copy()?);

@@ -80,7 +80,10 @@ impl Transactor {
             | Step::Send { .. }
             | Step::New { .. }
             | Step::Ask { .. }
-            | Step::Lose { .. } => self,
+            | Step::Lose { .. }
+            | Step::Echo { .. }
+            | Step::Heed { .. }
+            | Step::Repeat { .. } => self,
         }
     }
 

@@ -6,7 +6,7 @@ use Rattle.std.proofs.lemmas.Bool.{cases_eq}
 use Rattle.tau_view.specs.Held.{Held}
 use Rattle.tau_view.specs.Trim.{EdgeTest, RootTest}
 use Rattle.tau_trace.specs.declared.step.Step.{Step}
-use Rattle.tau_trace.specs.Steps.{actor, removed_by, is_new, is_send}
+use Rattle.tau_trace.specs.Steps.{actor, removed_by, is_new, makes_message}
 use Rattle.tau_trace.specs.Run.{Run, len, appended}
 use Rattle.tau_trace.specs.Numbering.{born, sent, InFlight}
 use Rattle.tau_trace.specs.Known.{MayFollow, WellFormed}
@@ -29,10 +29,10 @@ abbrev pub NewbornFollows : EdgeTest → RootTest → Run → Step → Option He
 NewbornFollows de dr T s None = IsFalse (is_new s)
 NewbornFollows de dr T s (Some h) = IsTrue (is_new s) × IsTrimmed de dr (IsViewOf (appended T s) (born T (len T)) (suc (len T))) h
 
--- and a Send that of a message
+-- and a Send, an Echo and a Repeat that of a message
 abbrev pub LetterFollows : EdgeTest → RootTest → Run → Step → Option Held → Type 0
-LetterFollows de dr T s None = IsFalse (is_send s)
-LetterFollows de dr T s (Some h) = IsTrue (is_send s) × IsTrimmed de dr (IsMessageView (appended T s) (sent T (len T))) h
+LetterFollows de dr T s None = IsFalse (makes_message s)
+LetterFollows de dr T s (Some h) = IsTrue (makes_message s) × IsTrimmed de dr (IsMessageView (appended T s) (sent T (len T))) h
 
 pub record Follows (de : EdgeTest) (dr : RootTest) (T : Run) (s : Step) (c : ViewChange Held) : Type 0 where
   pub own : OwnFollows de dr T s c.own
@@ -114,12 +114,12 @@ module _ (de : EdgeTest) (dr : RootTest) (T : Run) (s : Step) (own : List Held) 
   kept_in o None m x e = e
   kept_in o (Some k) m x e = sym (slice_get-front (without_item o letters) (Some k) m (slice_get_within (without_item o letters) m x e)) ∙ e
 
-  below_or_new : (m : ℕ) → m < sent (appended T s) (suc (len T)) → (m < sent T (len T)) ⊎ ((sent T (len T) ≤ m) × (is_send s ≡ true) × (m ≡ sent T (len T)))
-  below_or_new m l = by (is_send s) refl (split m (sent T (len T))) where
+  below_or_new : (m : ℕ) → m < sent (appended T s) (suc (len T)) → (m < sent T (len T)) ⊎ ((sent T (len T) ≤ m) × (makes_message s ≡ true) × (m ≡ sent T (len T)))
+  below_or_new m l = by (makes_message s) refl (split m (sent T (len T))) where
     split : (a b : ℕ) → (a < b) ⊎ (b ≤ a)
     split a b = grind arith
 
-    by : (b : Bool) → is_send s ≡ b → (m < sent T (len T)) ⊎ (sent T (len T) ≤ m) → (m < sent T (len T)) ⊎ ((sent T (len T) ≤ m) × (is_send s ≡ true) × (m ≡ sent T (len T)))
+    by : (b : Bool) → makes_message s ≡ b → (m < sent T (len T)) ⊎ (sent T (len T) ≤ m) → (m < sent T (len T)) ⊎ ((sent T (len T) ≤ m) × (makes_message s ≡ true) × (m ≡ sent T (len T)))
     by b e (inl a) = inl a
     by true e (inr g) = inr (g, e, omega (arith, g, l, sent_then T s, ap one_if e))
     by false e (inr g) = absurd (omega (arith, g, l, sent_then T s, ap one_if e))
@@ -131,7 +131,7 @@ module _ (de : EdgeTest) (dr : RootTest) (T : Run) (s : Step) (own : List Held) 
         let x = views.in_flight m (flew T s m b f) in
         (x.0, kept_in (removed_by s) l m (Some x.0) (left_other (removed_by s) letters m (not_removed T s m f) ∙ x.1))
 
-    new : (l : Option Held) → LetterFollows de dr T s l → is_send s ≡ true → m ≡ sent T (len T) → (h : Held) × (slice_get (with_letter l (without_item (removed_by s) letters)) m ≡ Some (Some h))
+    new : (l : Option Held) → LetterFollows de dr T s l → makes_message s ≡ true → m ≡ sent T (len T) → (h : Held) × (slice_get (with_letter l (without_item (removed_by s) letters)) m ≡ Some (Some h))
     new None g e is = absurd (let both = sym e ∙ g in cc)
     new (Some k) g e is =
         let at : m ≡ length (without_item (removed_by s) letters) = omega (arith, is, length-without_item (removed_by s) letters, views.messages) in

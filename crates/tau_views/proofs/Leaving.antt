@@ -8,7 +8,7 @@ use Rattle.tau_view.specs.Trim.{EdgeTest, RootTest, trim}
 use Rattle.tau_view.specs.Laws.{MayNote}
 use Rattle.tau_trace.specs.declared.step.Step.{Step}
 use Rattle.tau_trace.specs.declared.step.Step.TheVariants.{Take, Drop, Fall, Void, Get, Set, Skip, Send, New, Stabilize, Ask, Checkpoint, Hold, Rollback, Stay, Done, Trap, Fail, Lose}
-use Rattle.tau_trace.specs.Steps.{actor, removed_by, ends_turn, is_new, is_send}
+use Rattle.tau_trace.specs.Steps.{actor, removed_by, ends_turn, is_new, makes_message}
 use Rattle.tau_trace.specs.Run.{Run, len, appended}
 use Rattle.tau_trace.specs.Histories.{history, move_of, move_at}
 use Rattle.tau_trace.proofs.Counted.{move_at-own}
@@ -65,7 +65,7 @@ module _ (de : EdgeTest) (dr : RootTest) {V : Type 0} (held : V → Held) (v : V
         let step = after_step T s next.well_formed next.follows t x.whole (actor_exists de dr held v T s next t by) x.is_whole in
         let moves_then : k ≡ moved close (history (appended T s) t (len T)) = moves ∙ ap (moved close) (sym (history_then de dr held v T s next t)) in
         let Q : Timeline → Type 0 = λ j. IsViewOf (appended T s) t (suc (len T)) (with_no_roots (noted t j x.whole)) in
-        next_own de dr held v T s next t a None (with_no_roots (noted t k x.whole)) c is by (ap is_new kind) (ap is_send kind) (sym (ap removed_by kind)) (after x.whole x.is)
+        next_own de dr held v T s next t a None (with_no_roots (noted t k x.whole)) c is by (ap is_new kind) (ap makes_message kind) (sym (ap removed_by kind)) (after x.whole x.is)
         (subst Q (sym moves_then) (step.closing (here T s ∙ ap Some kind)))
 
     -- a step by which t falls and hears of no message

@@ -7,10 +7,10 @@ use Rattle.tau_view.specs.Rules.{with_no_roots}
 use Rattle.tau_view.specs.Trim.{EdgeTest, RootTest, trim}
 use Rattle.tau_view.specs.Laws.{MayNote}
 use Rattle.tau_trace.specs.declared.step.Step.{Step}
-use Rattle.tau_trace.specs.declared.step.Step.TheVariants.{Void, Send, New, Lose}
-use Rattle.tau_trace.specs.Steps.{actor, removed_by, is_new, is_send}
+use Rattle.tau_trace.specs.declared.step.Step.TheVariants.{Void, Send, New, Lose, Echo, Repeat}
+use Rattle.tau_trace.specs.Steps.{actor, removed_by, is_new, is_send, makes_message}
 use Rattle.tau_trace.specs.Run.{Run, len, step_at, appended}
-use Rattle.tau_trace.specs.Numbering.{born, sent, IsNew, IsSent}
+use Rattle.tau_trace.specs.Numbering.{born, sent, IsNew, IsSent, IsEchoed, IsRepeated}
 use Rattle.tau_trace.proofs.Lists.{same_some}
 use Rattle.tau_views.specs.Views.{IsViewOf, IsMessageView}
 use Rattle.tau_views.specs.Laws.{ViewAfterStep, with_newborn}
@@ -19,8 +19,10 @@ use Rattle.tau_views.specs.declared.views.ViewChange.{ViewChange}
 use Rattle.tau_views.specs.Kept.{AreViews, held_of, letters_of}
 use Rattle.tau_views.specs.Inner.Trims.{IsAfter}
 use Rattle.tau_views.specs.Inner.Next.{IsNext, AreNext, only_removes}
-use Rattle.tau_views.proofs.Appended.{here, born_here, sent_here, after_step}
+use Rattle.tau_views.proofs.Appended.{here, born_here, sent_here, does_here, message_stays, after_step}
 use Rattle.tau_views.proofs.Next.{actor_exists, unborn_history, next_by}
+use Rattle.tau_views.proofs.ViewSteps.{copies_have_their_view}
+use Rattle.tau_trace.specs.Known.{IsKnownAt}
 
 not_new : (s : Step) → IsTrue (is_send s) → is_new s ≡ false
 not_new (Send t u x) k = refl
@@ -30,7 +32,11 @@ send_keeps : (s : Step) → IsTrue (is_send s) → removed_by s ≡ None
 send_keeps (Send t u x) k = refl
 send_keeps s k = absurd (cc)
 
-not_send : (s : Step) → IsTrue (is_new s) → is_send s ≡ false
+send_makes : (s : Step) → IsTrue (is_send s) → IsTrue (makes_message s)
+send_makes (Send t u x) k = refl
+send_makes s k = absurd (cc)
+
+not_send : (s : Step) → IsTrue (is_new s) → makes_message s ≡ false
 not_send (New t b n x) k = refl
 not_send s k = absurd (cc)
 
@@ -58,7 +64,7 @@ removal_not_new (Void t m) k = refl
 removal_not_new (Lose m) k = refl
 removal_not_new s k = absurd (cc)
 
-removal_not_send : (s : Step) → IsTrue (only_removes s) → is_send s ≡ false
+removal_not_send : (s : Step) → IsTrue (only_removes s) → makes_message s ≡ false
 removal_not_send (Void t m) k = refl
 removal_not_send (Lose m) k = refl
 removal_not_send s k = absurd (cc)
@@ -83,10 +89,25 @@ module _ (de : EdgeTest) (dr : RootTest) {V : Type 0} (held : V → Held) (v : V
         let x = next.views.each t h e in
         let step = after_step T s next.well_formed next.follows t x.whole (actor_exists de dr held v T s next t by) x.is_whole in
         subst P (sym is) (next_by de dr held v T s next (record { own = None; newborn = None; letter = Some a; gone = None }) (record {
-          own = λ u y acts exists own. (after_step T s next.well_formed next.follows u y exists own).send (sent T (len T)) (sends_there (appended T s) (len T) u (sent T (len T)) s (here T s) kind acts (sym (sent_here T s)));
+          own = λ u y acts exists own. (after_step T s next.well_formed next.follows u y exists own).making (does_here T s makes_message u acts (send_makes s kind));
           newborn = not_new s kind;
-          letter = (kind, record { whole = x.whole; is_whole = step.message (sent T (len T)) (sends_there (appended T s) (len T) t (sent T (len T)) s (here T s) kind by (sym (sent_here T s))); is = same ∙ x.is });
+          letter = (send_makes s kind, record { whole = x.whole; is_whole = step.message (sent T (len T)) (sends_there (appended T s) (len T) t (sent T (len T)) s (here T s) kind by (sym (sent_here T s))); is = same ∙ x.is });
           gone = sym (send_keeps s kind);
+        }))
+
+    -- an Echo
+    pub by_echo : (n : ℕ) (a : V) (c : ViewChange V) → s ≡ Echo t n → IsAfter de dr with_no_roots h (held a) → c ≡ record { own = None; newborn = None; letter = Some a; gone = Some n } → AreNext de dr held v T s c
+    by_echo n a c kind after is =
+        let P : ViewChange V → Type 0 = λ d. AreNext de dr held v T s d in
+        let x = next.views.each t h e in
+        let step = after_step T s next.well_formed next.follows t x.whole (actor_exists de dr held v T s next t (ap actor kind)) x.is_whole in
+        let known : (t < born T (len T)) × (n < sent T (len T)) = subst (IsKnownAt T (len T)) kind next.follows.known in
+        let made : IsEchoed (appended T s) (len T) t n (sent T (len T)) = record { stands = here T s ∙ ap Some kind; made = sym (sent_here T s); earlier = known.1 } in
+        subst P (sym is) (next_by de dr held v T s next (record { own = None; newborn = None; letter = Some a; gone = Some n }) (record {
+          own = λ u y acts exists own. (after_step T s next.well_formed next.follows u y exists own).making (does_here T s makes_message u acts (ap makes_message kind));
+          newborn = ap is_new kind;
+          letter = (ap makes_message kind, record { whole = with_no_roots x.whole; is_whole = step.notice n (sent T (len T)) made; is = after x.whole x.is });
+          gone = sym (ap removed_by kind);
         }))
 
     pub may_note_new : actor s ≡ Some t → MayNote (born T (len T)) newborn h.history
@@ -110,3 +131,18 @@ module _ (de : EdgeTest) (dr : RootTest) {V : Type 0} (held : V → Held) (v : V
           letter = not_send s kind;
           gone = sym (new_keeps s kind);
         }))
+
+  -- a Repeat
+  pub by_copy : (n : ℕ) (l : Held) (a : V) (c : ViewChange V) → slice_get (letters_of held v.letters.items) n ≡ Some (Some l) → s ≡ Repeat n → held a ≡ l → c ≡ record { own = None; newborn = None; letter = Some a; gone = None } → AreNext de dr held v T s c
+  by_copy n l a c f kind same is =
+      let P : ViewChange V → Type 0 = λ d. AreNext de dr held v T s d in
+      let y = next.views.letter n l f in
+      let exists : n < sent T (len T) = (next.ready.repeating n kind).exists in
+      let made : IsRepeated (appended T s) (len T) n (sent T (len T)) = record { stands = here T s ∙ ap Some kind; made = sym (sent_here T s); earlier = exists } in
+      let view : IsMessageView (appended T s) (sent T (len T)) y.whole = copies_have_their_view (appended T s) (len T) n (sent T (len T)) y.whole made (message_stays T s next.well_formed next.follows n y.whole exists y.is_whole) in
+      subst P (sym is) (next_by de dr held v T s next (record { own = None; newborn = None; letter = Some a; gone = None }) (record {
+        own = λ u x acts exists own. absurd (let both : None ≡ Some u = sym (ap actor kind) ∙ acts in cc);
+        newborn = ap is_new kind;
+        letter = (ap makes_message kind, record { whole = y.whole; is_whole = view; is = same ∙ y.is });
+        gone = sym (ap removed_by kind);
+      }))

@@ -8,7 +8,7 @@ use Rattle.tau_view.specs.Held.{Held, AllComparable}
 use Rattle.tau_view.specs.Trim.{EdgeTest, RootTest, trim}
 use Rattle.tau_view.specs.Laws.{MayNote}
 use Rattle.tau_trace.specs.declared.step.Step.{Step}
-use Rattle.tau_trace.specs.Steps.{actor, removed_by, is_new, is_send}
+use Rattle.tau_trace.specs.Steps.{actor, removed_by, is_new, makes_message}
 use Rattle.tau_trace.specs.Run.{Run, len, step_at, starts, appended}
 use Rattle.tau_trace.specs.Numbering.{born, sent, InFlight}
 use Rattle.tau_trace.specs.Histories.{history, move_at, is_close, is_fall}
@@ -47,7 +47,7 @@ few_incarnations T t k =
 -- a step that makes no transactor and no message, and takes none out of flight
 pub record IsPlain (s : Step) : Type 0 where
   pub new : is_new s ≡ false
-  pub send : is_send s ≡ false
+  pub send : makes_message s ≡ false
   pub removed : removed_by s ≡ None
 
 -- a change, by what its views hold
@@ -109,7 +109,7 @@ module _ (de : EdgeTest) (dr : RootTest) {V : Type 0} (held : V → Held) (v : V
         (subst (AreViews de dr (appended T s) (own_after (held_change held c) (held_of held v.own.items))) (sym letters) given)
 
     -- a step of t that changes t's view alone
-    pub next_own : (t : ℕ) (a : V) (gone : Option ℕ) (x : Held) (c : ViewChange V) → c ≡ own_change t a gone → actor s ≡ Some t → is_new s ≡ false → is_send s ≡ false → gone ≡ removed_by s → held a ≡ trim de dr x → IsViewOf (appended T s) t (suc (len T)) x → AreNext de dr held v T s c
+    pub next_own : (t : ℕ) (a : V) (gone : Option ℕ) (x : Held) (c : ViewChange V) → c ≡ own_change t a gone → actor s ≡ Some t → is_new s ≡ false → makes_message s ≡ false → gone ≡ removed_by s → held a ≡ trim de dr x → IsViewOf (appended T s) t (suc (len T)) x → AreNext de dr held v T s c
     next_own t a gone x c is by new send removed e after =
         let P : ViewChange V → Type 0 = λ d. AreNext de dr held v T s d in
         subst P (sym is) (next_by (own_change t a gone) (record {

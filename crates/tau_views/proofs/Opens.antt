@@ -23,7 +23,7 @@ abbrev opened : Opening → Run
 opened o = record { opening = o; steps = [] }
 
 opened_well_formed : (o : Opening) → IsSound o → WellFormed (opened o)
-opened_well_formed o sound = record { opening = sound; known = λ k s e. absurd (cc); few_steps = omega arith }
+opened_well_formed o sound = record { opening = sound; known = λ k s e. absurd (cc); versions = λ k s e. absurd (cc); few_steps = omega arith }
 
 module _ (de : EdgeTest) (dr : RootTest) where
   -- one start more

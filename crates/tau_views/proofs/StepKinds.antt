@@ -3,15 +3,15 @@ use Rattle.std.proofs.Common.{◌≡◌, ℕ, Bool, IsTrue, Some, None, refl, sy
 use Rattle.std.specs.Prelude.{option_and_then}
 use Rattle.tau_history.specs.Timeline.{keep}
 use Rattle.tau_trace.specs.declared.step.Step.{Step}
-use Rattle.tau_trace.specs.declared.step.Step.TheVariants.{Fall, Get, Set, Skip, Ask, Checkpoint, Hold, Rollback, Stay, Done, Trap, Fail}
-use Rattle.tau_trace.specs.Steps.{actor, ends_turn}
+use Rattle.tau_trace.specs.declared.step.Step.TheVariants.{Drop, Fall, Send, Echo, Heed, Repeat, Get, Set, Skip, Ask, Checkpoint, Hold, Rollback, Stay, Done, Trap, Fail}
+use Rattle.tau_trace.specs.Steps.{actor, ends_turn, makes_message}
 use Rattle.tau_trace.specs.Run.{Run, step_at, Does}
 use Rattle.tau_trace.specs.Histories.{history, move_at, move_of, Falls, IsFallingStep, by_fall, by_rollback, by_trap, by_fail}
 use Rattle.tau_trace.proofs.Counted.{move_at-own, falls_falling}
 use Rattle.tau_past.specs.Carried.{touches, is_set}
 use Rattle.tau_past.specs.Heard.{heard_by}
-use Rattle.tau_past.specs.KnownLaws.{HearsOfNone}
-use Rattle.tau_views.specs.Laws.{only_touches}
+use Rattle.tau_past.specs.KnownLaws.{keeps_pending, HearsOfNone}
+use Rattle.tau_views.specs.Laws.{only_touches, only_hears}
 use Rattle.tau_views.proofs.OwnSteps.{is_plain}
 
 -- a step that stands at a place and passes a test
@@ -57,6 +57,52 @@ touching_keeps b (Get t) h = refl
 touching_keeps b (Skip t) h = refl
 touching_keeps b (Ask t a) h = refl
 touching_keeps b s h = absurd (cc)
+
+-- the kinds that make a message are plain
+pub making_plain : (s : Step) → IsTrue (makes_message s) → IsTrue (is_plain s)
+making_plain (Send t u v) h = refl
+making_plain (Echo t m) h = refl
+making_plain (Repeat m) h = refl
+making_plain s h = absurd (cc)
+
+-- they keep what is pending
+pub making_keeps_pending : (s : Step) → IsTrue (makes_message s) → IsTrue (keeps_pending s)
+making_keeps_pending (Send t u v) h = refl
+making_keeps_pending (Echo t m) h = refl
+making_keeps_pending (Repeat m) h = refl
+making_keeps_pending s h = absurd (cc)
+
+-- they hear of no message
+pub making_hears_none : (s : Step) → IsTrue (makes_message s) → heard_by s ≡ None
+making_hears_none (Send t u v) h = refl
+making_hears_none (Echo t m) h = refl
+making_hears_none (Repeat m) h = refl
+making_hears_none s h = absurd (cc)
+
+-- and keep the history
+pub making_keeps : (b : Bool) (s : Step) → IsTrue (makes_message s) → move_of b s ≡ keep
+making_keeps b (Send t u v) h = refl
+making_keeps b (Echo t m) h = refl
+making_keeps b (Repeat m) h = refl
+making_keeps b s h = absurd (cc)
+
+-- the kinds that hear of a message and do nothing else are plain
+pub hearing_plain : (s : Step) → IsTrue (only_hears s) → IsTrue (is_plain s)
+hearing_plain (Drop t m) h = refl
+hearing_plain (Heed t m) h = refl
+hearing_plain s h = absurd (cc)
+
+-- they keep what is pending
+pub hearing_keeps_pending : (s : Step) → IsTrue (only_hears s) → IsTrue (keeps_pending s)
+hearing_keeps_pending (Drop t m) h = refl
+hearing_keeps_pending (Heed t m) h = refl
+hearing_keeps_pending s h = absurd (cc)
+
+-- and keep the history
+pub hearing_keeps : (b : Bool) (s : Step) → IsTrue (only_hears s) → move_of b s ≡ keep
+hearing_keeps b (Drop t m) h = refl
+hearing_keeps b (Heed t m) h = refl
+hearing_keeps b s h = absurd (cc)
 
 -- a Set touches
 pub set_touches : (s : Step) → IsTrue (is_set s) → IsTrue (touches s)

@@ -8,7 +8,7 @@ use Rattle.tau_view.specs.Rules.{noted, touched, depended}
 use Rattle.tau_view.specs.Trim.{EdgeTest, RootTest, trim}
 use Rattle.tau_trace.specs.declared.step.Step.{Step}
 use Rattle.tau_trace.specs.declared.step.Step.TheVariants.{Get, Set, Skip, Stabilize, Ask}
-use Rattle.tau_trace.specs.Steps.{actor, removed_by, is_new, is_send}
+use Rattle.tau_trace.specs.Steps.{actor, removed_by, is_new, makes_message}
 use Rattle.tau_trace.specs.Run.{Run, len, appended}
 use Rattle.tau_trace.specs.Histories.{history}
 use Rattle.tau_trace.specs.Points.{point_at}
@@ -81,5 +81,5 @@ module _ (de : EdgeTest) (dr : RootTest) {V : Type 0} (held : V → Held) (v : V
       let moves_then : k ≡ moved stabilize (history (appended T s) t (len T)) = moves ∙ ap (moved stabilize) (sym (history_then de dr held v T s next t)) in
       let P : Point → Type 0 = λ q. IsViewOf (appended T s) t (suc (len T)) (touched q (noted t k x.whole)) in
       let Q : Timeline → Type 0 = λ j. IsViewOf (appended T s) t (suc (len T)) (touched (point_at (appended T s) t (len T)) (noted t j x.whole)) in
-      next_own de dr held v T s next t a None (touched p (noted t k x.whole)) c is by (ap is_new kind) (ap is_send kind) (sym (ap removed_by kind)) (after x.whole x.is)
+      next_own de dr held v T s next t a None (touched p (noted t k x.whole)) c is by (ap is_new kind) (ap makes_message kind) (sym (ap removed_by kind)) (after x.whole x.is)
       (subst P (sym at_then) (subst Q (sym moves_then) (step.stabilize (here T s ∙ ap Some kind) turn)))

@@ -1,6 +1,7 @@
 -- What becomes of the view of what was heard, step by step.
-use Rattle.std.proofs.Common.{◌≡◌, ◌↔◌, inl, inr, ⊎_elim, ℕ, suc, ◌<◌, false, IsTrue, Option, Some, None, refl, ap, subst, arith}
+use Rattle.std.proofs.Common.{◌≡◌, ◌↔◌, inl, inr, ⊎_elim, ℕ, suc, ◌<◌, true, false, IsTrue, Option, Some, None, refl, sym, ap, ◌∙◌, subst, arith}
 use Rattle.std.specs.Prelude.{option_and_then}
+use Rattle.std.specs.Option.{option_map_or}
 use Rattle.tau_history.specs.Timeline as timeline
 use Rattle.tau_history.specs.Timeline.{Timeline, newborn, moved, keep, close}
 use Rattle.tau_points.specs.declared.point.Point.{Point}
@@ -8,30 +9,30 @@ use Rattle.tau_view.specs.Edges.{edges_to}
 use Rattle.tau_view.specs.Held.{Held, same_point}
 use Rattle.tau_view.specs.Rules.{noted, noted_in, touched, depended, merged, with_roots, with_no_roots}
 use Rattle.tau_view.proofs.Sets.{or_cases, or_left, or_right, is_same, same_of}
-use Rattle.tau_trace.specs.declared.step.Step.TheVariants.{Take, Drop, Fall, Void, Send, New, Stabilize, Checkpoint}
-use Rattle.tau_trace.specs.Steps.{ends_turn}
+use Rattle.tau_trace.specs.declared.step.Step.TheVariants.{Take, Fall, Void, Send, New, Stabilize, Checkpoint, Echo}
+use Rattle.tau_trace.specs.Steps.{ends_turn, is_send, makes_message}
 use Rattle.tau_trace.specs.Run.{Run, step_at, ActsAt, Does}
-use Rattle.tau_trace.specs.Numbering.{born, sent, IsNew, IsSent, direct}
+use Rattle.tau_trace.specs.Numbering.{born, sent, IsNew, IsSent, IsEchoed, IsRepeated, direct, echoed, IsSendAt}
 use Rattle.tau_trace.specs.Histories.{history, move_at, Closes, Falls}
 use Rattle.tau_trace.specs.Points.{point_at, Stabilizes}
 use Rattle.tau_trace.specs.Known.{WellFormed}
 use Rattle.tau_trace.proofs.Agreement.{born-grows}
 use Rattle.tau_trace.proofs.Counted.{move_at-own, closes_move, stabilizes_move}
 use Rattle.tau_trace.proofs.Lists.{same_some}
-use Rattle.tau_trace.proofs.Once.{origin_once, origin_acts}
+use Rattle.tau_trace.proofs.Once.{origin_once, origin_acts, copies_have_their_origin}
 use Rattle.tau_trace.proofs.Quiet.{acts}
 use Rattle.tau_trace.specs.Turns.{HasOpenTurn}
 use Rattle.tau_past.specs.Carried.{touches, is_set, Pending, Carried, SentWith, first_point}
 use Rattle.tau_past.specs.Heard.{heard_by, Heard, HeardBy, HeardTogether, HoldsStepsBefore}
 use Rattle.tau_past.specs.KnownLaws.{keeps_pending, HearsOf, HearsOfNone, With, HasBounds}
 use Rattle.tau_past.proofs.BoundLemmas.{has_bounds}
-use Rattle.tau_past.proofs.HeardLemmas.{new_acts, heard_after_step, heard_with_sender}
+use Rattle.tau_past.proofs.HeardLemmas.{new_acts, heard_after_step, heard_with_sender, copies_hear}
 use Rattle.tau_past.proofs.Known.{acts_known, hears_known, heard_before}
 use Rattle.tau_past.proofs.PendingLemmas.{pending_turn, pending_after_step}
 use Rattle.tau_views.specs.Views.{IsPresent, is_owner, by_step, by_birth, IsViewOf, IsMessageView}
-use Rattle.tau_views.specs.Laws.{only_touches, with_newborn, ViewsStepByStep}
+use Rattle.tau_views.specs.Laws.{only_touches, only_hears, with_newborn, ViewsStepByStep, CopiesHaveTheirView}
 use Rattle.tau_views.proofs.Facts.{Knows, knows, view_of, with_owner, view_same}
-use Rattle.tau_views.proofs.StepKinds.{does_of, does_as, hears_none, keeps_history, touching_touches, touching_plain, touching_hears_none, touching_keeps, set_touches, set_hears_none, set_keeps, ending_plain, ending_hears_none, falling_ends}
+use Rattle.tau_views.proofs.StepKinds.{does_of, does_as, hears_none, keeps_history, making_plain, making_keeps_pending, making_hears_none, making_keeps, hearing_plain, hearing_keeps_pending, hearing_keeps, touching_touches, touching_plain, touching_hears_none, touching_keeps, set_touches, set_hears_none, set_keeps, ending_plain, ending_hears_none, falling_ends}
 use Rattle.tau_views.proofs.OwnSteps.{is_plain, carried_pending, set_makes_none, set_takes, new_takes, kept_told, newborn_told, more_edges, kept_step, noted_step}
 use Rattle.tau_views.proofs.Unions.{knows_union}
 
@@ -128,21 +129,26 @@ module _ (T : Run) (t k : ℕ) (x : Held) (w : WellFormed T) (there : t < born T
   after_void : (m : ℕ) → step_at T k ≡ Some (Void t m) → IsViewOf T t (suc k) x
   after_void m e = after_nothing (does_of T t k is_plain (Void t m) e refl refl) (does_of T t k keeps_pending (Void t m) e refl refl) (ap (option_and_then heard_by) e) (move_at-own T t k (Void t m) e refl)
 
+  after_making : Does makes_message T t k → IsViewOf T t (suc k) x
+  after_making d =
+      after_nothing (does_as T t k makes_message is_plain making_plain d) (does_as T t k makes_message keeps_pending making_keeps_pending d)
+      (hears_none T t k makes_message making_hears_none d) (keeps_history T t k makes_message making_keeps d)
+
+  -- the facts of a message that the step makes
+  made_facts : Does makes_message T t k → Knows T (With (Heard T t k) k) None x.history x.edge
+  made_facts d =
+      with_owner T (With (Heard T t k) k) (Some t) None x.history x.edge
+      (λ u. (owner_moves T (With (Heard T t k) k) None t u present_here, no_owner_moves T (With (Heard T t k) k) (Some t) u))
+      (kept_facts (does_as T t k makes_message is_plain making_plain d) (keeps_history T t k makes_message making_keeps d)) where
+        present_here : (owner : Option ℕ) → IsPresent T (With (Heard T t k) k) owner t
+        present_here owner = by_step (inr refl) (acts T t k d.step d.stands d.by)
+
   module _ (m : ℕ) (o : IsSent T k t m) where
-    sends_plain : Does is_plain T t k
-    sends_plain = does_of T t k is_plain (Send t o.to o.value) o.stands refl refl
-
-    sends_move : move_at T t k ≡ keep
-    sends_move = move_at-own T t k (Send t o.to o.value) o.stands refl
-
-    after_send : IsViewOf T t (suc k) x
-    after_send = after_nothing sends_plain (does_of T t k keeps_pending (Send t o.to o.value) o.stands refl refl) (ap (option_and_then heard_by) o.stands) sends_move
-
     -- the message carries what was pending for its sender
     sent_pending : (q : Point) → SentWith T m q ↔ Pending T t k q
     sent_pending q = (
       λ s. (carried_pending T t k q at).0 (subst (λ j. Carried T j q) (origin_once T s.place k s.by t m s.origin (direct o)) s.carried),
-      λ p. record { place = k; by = t; origin = direct o; carried = (carried_pending T t k q at).1 p },
+      λ p. record { place = k; by = t; origin = direct o; send = ap (λ s. option_map_or is_send s false) o.stands; carried = (carried_pending T t k q at).1 p },
     ) where
       at : ActsAt T t k
       at = origin_acts T k t m (direct o)
@@ -150,15 +156,22 @@ module _ (T : Run) (t k : ℕ) (x : Held) (w : WellFormed T) (there : t < born T
     after_message : IsMessageView T m x
     after_message =
         view_same T (With (Heard T t k) k) (HeardBy T m) None (Pending T t k) (SentWith T m) x (heard_with_sender T m k t (direct o)) sent_pending
-        (view_of T (With (Heard T t k) k) None (Pending T t k) x facts v.root) where
-          present_here : (owner : Option ℕ) → IsPresent T (With (Heard T t k) k) owner t
-          present_here owner = by_step (inr refl) (origin_acts T k t m (direct o))
+        (view_of T (With (Heard T t k) k) None (Pending T t k) x (made_facts (does_of T t k makes_message (Send t o.to o.value) o.stands refl refl)) v.root)
 
-          facts : Knows T (With (Heard T t k) k) None x.history x.edge
-          facts =
-              with_owner T (With (Heard T t k) k) (Some t) None x.history x.edge
-              (λ u. (owner_moves T (With (Heard T t k) k) None t u present_here, no_owner_moves T (With (Heard T t k) k) (Some t) u))
-              (kept_facts sends_plain sends_move)
+  module _ (n m : ℕ) (o : IsEchoed T k t n m) where
+    -- a notice carries nothing
+    notice_carries_none : (q : Point) → ¬ SentWith T m q
+    notice_carries_none q s =
+        let sends : IsSendAt T k = subst (IsSendAt T) (origin_once T s.place k s.by t m s.origin (echoed {n = n} o)) s.send in
+        let both : false ≡ true = sym (ap (λ r. option_map_or is_send r false) o.stands) ∙ sends in
+        cc
+
+    after_notice : IsMessageView T m (with_no_roots x)
+    after_notice =
+        view_same T (With (Heard T t k) k) (HeardBy T m) None (SentWith T m) (SentWith T m) (with_no_roots x) (heard_with_sender T m k t (echoed {n = n} o)) (λ q. (λ p. p, λ p. p))
+        (view_of T (With (Heard T t k) k) None (SentWith T m) (with_no_roots x) (made_facts (does_of T t k makes_message (Echo t n) o.stands refl refl)) none) where
+          none : (q : Point) → IsTrue false ↔ SentWith T m q
+          none q = (λ h. absurd (cc), λ s. absurd (notice_carries_none q s))
 
   module _ (u : ℕ) (n : IsNew T k t u) where
     new_facts : Knows T (With (Heard T t k) k) (Some t) (with_newborn u x).history (with_newborn u x).edge
@@ -223,10 +236,11 @@ module _ (T : Run) (t k : ℕ) (x : Held) (w : WellFormed T) (there : t < born T
           let after = (pending_after_step T t k).take m e q in
           (λ r. after.1 ((vm.root q).0 r), λ p. (vm.root q).1 (after.0 p))
 
-    after_drop : step_at T k ≡ Some (Drop t m) → IsViewOf T t (suc k) (merged x y)
-    after_drop e =
-        hearing_view m (acts T t k (Drop t m) e refl) hears (merged x y) (kept_merged (does_of T t k is_plain (Drop t m) e refl refl) (move_at-own T t k (Drop t m) e refl))
-        (kept_roots (does_of T t k keeps_pending (Drop t m) e refl refl))
+    after_hearing : Does only_hears T t k → IsViewOf T t (suc k) (merged x y)
+    after_hearing d =
+        hearing_view m (acts T t k d.step d.stands d.by) hears (merged x y)
+        (kept_merged (does_as T t k only_hears is_plain hearing_plain d) (keeps_history T t k only_hears hearing_keeps d))
+        (kept_roots (does_as T t k only_hears keeps_pending hearing_keeps_pending d))
 
     after_fall : step_at T k ≡ Some (Fall t m) → IsViewOf T t (suc k) (with_no_roots (noted t (moved timeline.fall (history T t k)) (merged x y)))
     after_fall e =
@@ -262,15 +276,27 @@ views_step_by_step T t k x w there v = record {
   touching = after_touching T t k x w there v;
   set = after_set T t k x w there v;
   stabilize = after_stabilize T t k x w there v;
-  send = after_send T t k x w there v;
+  making = after_making T t k x w there v;
   message = after_message T t k x w there v;
+  notice = after_notice T t k x w there v;
   new = after_new T t k x w there v;
   newborn = after_newborn T t k x w there v;
   take = λ m y e vm. after_take T t k x w there v m y vm (ap (option_and_then heard_by) e) e;
-  drop = λ m y e vm. after_drop T t k x w there v m y vm (ap (option_and_then heard_by) e) e;
+  hearing = λ m y d e vm. after_hearing T t k x w there v m y vm e d;
   fall_by = λ m y e vm. after_fall T t k x w there v m y vm (ap (option_and_then heard_by) e) e;
   void = after_void T t k x w there v;
   closing = after_closing T t k x w there v;
   falling = after_falling T t k x w there v;
   ending = after_ending T t k x w there v;
 }
+
+-- a copy carries what the message that it repeats does
+copies_carry : (T : Run) (k n m : ℕ) (q : Point) → IsRepeated T k n m → SentWith T m q ↔ SentWith T n q
+copies_carry T k n m q c = (
+  λ s. record { place = s.place; by = s.by; origin = (copies_have_their_origin T k n m s.place s.by c).0 s.origin; send = s.send; carried = s.carried },
+  λ s. record { place = s.place; by = s.by; origin = (copies_have_their_origin T k n m s.place s.by c).1 s.origin; send = s.send; carried = s.carried },
+)
+
+pub copies_have_their_view : CopiesHaveTheirView
+copies_have_their_view T k n m x c v =
+    view_same T (HeardBy T n) (HeardBy T m) None (SentWith T n) (SentWith T m) x (copies_hear T k n m c) (λ q. copies_carry T k n m q c) v

@@ -5,17 +5,17 @@ use Rattle.tau_points.specs.declared.point.Point.{Point}
 use Rattle.tau_view.specs.Held.{Held, AllPrecede, AllComparable}
 use Rattle.tau_view.specs.Rules.{nothing, noted, touched, depended, merged, with_roots, with_no_roots}
 use Rattle.tau_trace.specs.declared.step.Step.{Step}
-use Rattle.tau_trace.specs.declared.step.Step.TheVariants.{Take, Drop, Fall, Void, Get, Skip, Ask}
-use Rattle.tau_trace.specs.Steps.{ends_turn, is_send}
+use Rattle.tau_trace.specs.declared.step.Step.TheVariants.{Take, Drop, Fall, Void, Get, Skip, Ask, Heed}
+use Rattle.tau_trace.specs.Steps.{ends_turn, makes_message}
 use Rattle.tau_trace.specs.Run.{Run, Agree, starts, step_at, ActsAt, Does}
-use Rattle.tau_trace.specs.Numbering.{born, sent, IsNew, IsSent}
+use Rattle.tau_trace.specs.Numbering.{born, sent, IsNew, IsSent, IsEchoed, IsRepeated}
 use Rattle.tau_trace.specs.Histories.{history, move_at, Closes, Falls}
 use Rattle.tau_trace.specs.Points.{point_at, Stabilizes}
 use Rattle.tau_trace.specs.Known.{WellFormed}
 use Rattle.tau_trace.specs.Turns.{HasOpenTurn}
 use Rattle.tau_past.specs.Carried.{is_set, first_point}
 use Rattle.tau_past.specs.Heard.{heard_by}
-use Rattle.tau_past.specs.KnownLaws.{HearsOfNone}
+use Rattle.tau_past.specs.KnownLaws.{HearsOf, HearsOfNone}
 use Rattle.tau_views.specs.Views.{IsViewOf, IsMessageView}
 
 -- the kinds that touch and do nothing else
@@ -25,23 +25,31 @@ only_touches (Skip t) = true
 only_touches (Ask t a) = true
 only_touches s = false
 
+-- the kinds that hear of a message and do nothing else
+abbrev pub only_hears : Step → Bool
+only_hears (Drop t m) = true
+only_hears (Heed t m) = true
+only_hears s = false
+
 -- the view after a New of transactor u
 abbrev pub with_newborn : ℕ → Held → Held
 with_newborn u x = noted u newborn (depended (first_point u) x)
 
 -- what becomes of the view x of t by the step at place k: after a step of another one it stays; a step of t does what the
--- rules say of its kind. A message that t sends has t's view; a transactor that t makes has t's view without the roots
+-- rules say of its kind. A message that t sends has t's view; a notice that t makes, and a transactor, has t's view without
+-- the roots
 pub record ViewAfterStep (T : Run) (t k : ℕ) (x : Held) : Type 0 where
   pub other : ¬ ActsAt T t k → IsViewOf T t (suc k) x
   pub touching : Does only_touches T t k → HasOpenTurn T t k → IsViewOf T t (suc k) (touched (point_at T t k) x)
   pub set : Does is_set T t k → HasOpenTurn T t k → IsViewOf T t (suc k) (touched (point_at T t k) (depended (point_at T t k) x))
   pub stabilize : Stabilizes T t k → HasOpenTurn T t k → IsViewOf T t (suc k) (touched (point_at T t k) (noted t (moved stabilize (history T t k)) x))
-  pub send : (m : ℕ) → IsSent T k t m → IsViewOf T t (suc k) x
+  pub making : Does makes_message T t k → IsViewOf T t (suc k) x
   pub message : (m : ℕ) → IsSent T k t m → IsMessageView T m x
+  pub notice : (n m : ℕ) → IsEchoed T k t n m → IsMessageView T m (with_no_roots x)
   pub new : (u : ℕ) → IsNew T k t u → IsViewOf T t (suc k) (with_newborn u x)
   pub newborn : (u : ℕ) → IsNew T k t u → IsViewOf T u (suc k) (with_no_roots (with_newborn u x))
   pub take : (m : ℕ) (y : Held) → step_at T k ≡ Some (Take t m) → IsMessageView T m y → IsViewOf T t (suc k) (with_roots y.root (merged x y))
-  pub drop : (m : ℕ) (y : Held) → step_at T k ≡ Some (Drop t m) → IsMessageView T m y → IsViewOf T t (suc k) (merged x y)
+  pub hearing : (m : ℕ) (y : Held) → Does only_hears T t k → HearsOf T k m → IsMessageView T m y → IsViewOf T t (suc k) (merged x y)
   pub fall_by : (m : ℕ) (y : Held) → step_at T k ≡ Some (Fall t m) → IsMessageView T m y → IsViewOf T t (suc k) (with_no_roots (noted t (moved fall (history T t k)) (merged x y)))
   pub void : (m : ℕ) → step_at T k ≡ Some (Void t m) → IsViewOf T t (suc k) x
   pub closing : Closes T t k → IsViewOf T t (suc k) (with_no_roots (noted t (moved close (history T t k)) x))
@@ -57,6 +65,10 @@ StartsOpenAlone = (T : Run) (t : ℕ) → WellFormed T → t < starts T → IsVi
 
 abbrev pub PostsHaveHeardNothing : Type 0
 PostsHaveHeardNothing = (T : Run) (m : ℕ) → m < length T.opening.targets → IsMessageView T m nothing
+
+-- a copy has heard and carries what the message that it repeats does
+abbrev pub CopiesHaveTheirView : Type 0
+CopiesHaveTheirView = (T : Run) (k n m : ℕ) (x : Held) → IsRepeated T k n m → IsMessageView T n x → IsMessageView T m x
 
 -- the view of t has t's own history
 abbrev pub ViewsHaveTheOwnHistory : Type 0

@@ -1,13 +1,13 @@
 //! What each kind of step changes in the views.
 ghost use Rattle.std.specs.Prelude.{◌≡◌, IfOk, IsTrue, None, Some};
 ghost use Rattle.tau_history.specs.Timeline.{keep, fall};
-ghost use Rattle.tau_trace.specs.declared.step.Step.TheVariants.{Take, Drop, Fall, Stabilize, Checkpoint};
+ghost use Rattle.tau_trace.specs.declared.step.Step.TheVariants.{Take, Fall, Stabilize, Checkpoint, Echo, Repeat};
 ghost use Rattle.tau_trace.specs.Steps.{actor, removed_by, ends_turn, is_send, is_new};
 ghost use Rattle.tau_trace.specs.Run.{len};
 ghost use Rattle.tau_trace.specs.Histories as histories;
 ghost use Rattle.tau_past.specs.Carried.{is_set};
 ghost use Rattle.tau_past.specs.Heard.{heard_by};
-ghost use Rattle.tau_views.specs.Laws.{only_touches};
+ghost use Rattle.tau_views.specs.Laws.{only_touches, only_hears};
 ghost use Rattle.tau_views.specs.Inner.Next.{IsNext, AreNext, only_ends, falls_if_volatile, only_removes};
 
 use crate::after::{
@@ -38,8 +38,8 @@ impl<V: View + Drop> Views<V> {
         Ok(ViewChange::own(who, next, Some(message)))
     }
 
-    /// A Drop: the message's facts are merged in.
-    pub(crate) fn by_drop(
+    /// A Drop or a Heed: the message's facts are merged in.
+    pub(crate) fn by_merge(
         &self,
         trace: &Trace,
         step: &Step,
@@ -47,7 +47,9 @@ impl<V: View + Drop> Views<V> {
         message: u32,
     ) -> Result<ViewChange<V>, AllocError>
         requires next { IsNext V.drops_edge V.drops_root V.held self.now trace.now.run step.now }
-        requires kind { step.now ≡ Drop who message }
+        requires by { actor step.now ≡ Some who }
+        requires kind { IsTrue (only_hears step.now) }
+        requires hears { heard_by step.now ≡ Some message }
         ensures { IfOk result (AreNext V.drops_edge V.drops_root V.held self.now trace.now.run step.now) }
     {
         let view = self.own_view(trace, who);
@@ -157,6 +159,47 @@ impl<V: View + Drop> Views<V> {
         ensures { IfOk result (AreNext V.drops_edge V.drops_root V.held self.now trace.now.run step.now) }
     {
         let letter = self.own_view(trace, who).try_copy()?;
+        Ok(ViewChange {
+            own: None,
+            newborn: None,
+            letter: Some(letter),
+            gone: None,
+        })
+    }
+
+    /// An Echo: the message is gone, and the notice has heard what the transactor that makes it had heard.
+    pub(crate) fn by_echo(
+        &self,
+        trace: &Trace,
+        step: &Step,
+        who: u32,
+        message: u32,
+    ) -> Result<ViewChange<V>, AllocError>
+        requires next { IsNext V.drops_edge V.drops_root V.held self.now trace.now.run step.now }
+        requires kind { step.now ≡ Echo who message }
+        ensures { IfOk result (AreNext V.drops_edge V.drops_root V.held self.now trace.now.run step.now) }
+    {
+        let letter = after_turn(self.own_view(trace, who))?;
+        Ok(ViewChange {
+            own: None,
+            newborn: None,
+            letter: Some(letter),
+            gone: Some(message),
+        })
+    }
+
+    /// A Repeat: the copy has heard what the message has heard.
+    pub(crate) fn by_copy(
+        &self,
+        trace: &Trace,
+        step: &Step,
+        message: u32,
+    ) -> Result<ViewChange<V>, AllocError>
+        requires next { IsNext V.drops_edge V.drops_root V.held self.now trace.now.run step.now }
+        requires kind { step.now ≡ Repeat message }
+        ensures { IfOk result (AreNext V.drops_edge V.drops_root V.held self.now trace.now.run step.now) }
+    {
+        let letter = self.letter_view(trace, message).try_copy()?;
         Ok(ViewChange {
             own: None,
             newborn: None,

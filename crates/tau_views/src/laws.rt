@@ -1,5 +1,5 @@
 //! Laws of the views of what was heard, each the contract of a function that does nothing.
-ghost use Rattle.tau_views.specs.Laws.{ViewsStepByStep, StartsOpenAlone, PostsHaveHeardNothing, ViewsHaveTheOwnHistory, ViewsLackTheUnborn, ViewsAreComparable, MergedViewsAreLater, ViewsAreLocal};
+ghost use Rattle.tau_views.specs.Laws.{ViewsStepByStep, StartsOpenAlone, PostsHaveHeardNothing, CopiesHaveTheirView, ViewsHaveTheOwnHistory, ViewsLackTheUnborn, ViewsAreComparable, MergedViewsAreLater, ViewsAreLocal};
 ghost use Rattle.tau_views.specs.DecisionLaws.{FallsAlike, DropsAlike, FreeAlike, ViewsAreSettled, MessageViewsAreSettled, MergedViewsAreSettled, VerdictsAgree, FreedomAgrees};
 ghost use Rattle.tau_views.specs.NamedPoints.{VerdictsNameFallen, FreedomNamesNotFirm};
 
@@ -18,6 +18,11 @@ pub fn starts_open_alone()
 /// A post has heard nothing, and carries nothing.
 pub fn posts_have_heard_nothing()
     ensures { PostsHaveHeardNothing }
+{}
+
+/// A copy has heard and carries what the message that it repeats does.
+pub fn copies_have_their_view()
+    ensures { CopiesHaveTheirView }
 {}
 
 /// The view of a transactor has its own history as it is, and none of a transactor that doesn't exist yet.

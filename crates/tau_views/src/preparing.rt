@@ -20,7 +20,9 @@ impl<V: View + Drop> Views<V> {
     {
         match step {
             Step::Take { who, message } => self.by_take(trace, step, *who, *message),
-            Step::Drop { who, message } => self.by_drop(trace, step, *who, *message),
+            Step::Drop { who, message } | Step::Heed { who, message } => {
+                self.by_merge(trace, step, *who, *message)
+            }
             Step::Fall { who, message } => self.by_fall(trace, step, *who, *message),
             Step::Void { message, .. } | Step::Lose { message } => {
                 Ok(self.by_removal(trace, step, *message))
@@ -31,6 +33,8 @@ impl<V: View + Drop> Views<V> {
             Step::Set { who, .. } => self.by_set(trace, step, *who),
             Step::Stabilize { who } => self.by_stabilize(trace, step, *who),
             Step::Send { who, .. } => self.by_send(trace, step, *who),
+            Step::Echo { who, message } => self.by_echo(trace, step, *who, *message),
+            Step::Repeat { message } => self.by_copy(trace, step, *message),
             Step::New { who, .. } => self.by_new(alloc, trace, step, *who),
             Step::Checkpoint { who } => self.by_close(trace, step, *who),
             Step::Rollback { who } => self.by_leaving(trace, step, *who),

@@ -18,7 +18,7 @@ IsMarkedOption marks o = (k : ℕ) × (o ≡ Some k) × IsMarked marks k
 abbrev pub NeededAt : Run → ℕ → ℕ → Type 0
 NeededAt T k = Reach (Needs T) (Needs T k)
 
--- the place of the Send that the step at place k hears of; None where there is none
+-- the place of the origin of the message that the step at place k hears of; None where there is none
 abbrev pub HearsFrom : Run → ℕ → Option ℕ → Type 0
 HearsFrom T k None = (m j by : ℕ) → HearsOf T k m → ¬ IsOrigin T j by m
 HearsFrom T k (Some j) = (m : ℕ) × HearsOf T k m × ((by : ℕ) × IsOrigin T j by m)
@@ -47,7 +47,7 @@ pub record MarksOne (o : Option ℕ) (marks0 marks : List Bool) : Type 0 where
   pub marked : (k : ℕ) → o ≡ Some k → IsMarked marks k
   pub allowed : (k : ℕ) → IsMarked marks k → IsMarked marks0 k ⊎ (o ≡ Some k)
 
--- what the step at place k needs is marked: its transactor, and the Send of the message that it hears of
+-- what the step at place k needs is marked: its transactor, and the origin of the message that it hears of
 pub record MarksNeeds (T : Run) (k : ℕ) (known0 known entered0 entered : List Bool) : Type 0 where
   pub marks : AreMarks T known entered
   pub places_kept : (j : ℕ) → IsMarked known0 j → IsMarked known j

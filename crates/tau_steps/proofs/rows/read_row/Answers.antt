@@ -9,3 +9,6 @@ returns-in-Send c = subst (λ k. TellsRow c.args.place k (inside (map tree_of c.
 
 pub returns-in-New : goal.returns-in-New
 returns-in-New c = subst (λ k. TellsRow c.args.place k (inside (map tree_of c.args.items.now)) c.new.result) (sym c.in-New.is) c.new.ensures
+
+pub returns-in-Echo : goal.returns-in-Echo
+returns-in-Echo c = subst (λ k. TellsRow c.args.place k (inside (map tree_of c.args.items.now)) c.echo.result) (sym c.in-Echo.is) c.echo.ensures

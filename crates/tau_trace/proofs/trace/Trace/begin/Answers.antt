@@ -1,4 +1,4 @@
-use Rattle.tau_trace.proofs.Indexing.{index_opened}
+use Rattle.tau_trace.proofs.MessageRecords.{index_opened}
 use Rattle.tau_trace.proofs.trace.Trace.begin.Goals as goal
 
 pub invariant_of-result : goal.invariant_of-result

@@ -1,20 +1,13 @@
-use Rattle.std.proofs.Common.{◌≡◌, ◌<◌, ◌∙◌, ap, length, refl, sym, subst, Some, List, take, arith}
-use Rattle.std.specs.Prelude.{slice_get}
-use Rattle.std.proofs.lemmas.Option.{slice_get_read}
-use Rattle.tau_trace.specs.Run.{Run, step_at}
+use Rattle.std.proofs.Common.{◌≡◌, ℕ, inl, ap, subst, IfOk}
+use Rattle.tau_trace.specs.Run.{versioned}
 use Rattle.tau_trace.specs.Stored.{Stored}
-use Rattle.tau_trace.specs.Known.{WellFormed}
-use Rattle.tau_trace.proofs.Prefix.{prefix, run_of, may_follow_prefix}
 use Rattle.tau_trace.proofs.trace.Trace.copy.Goals as goal
 
-pub push_spare-requires-clause-step : goal.push_spare-requires-clause-step
-push_spare-requires-clause-step c =
-    let T = c.args.self.now.run in
-    let P : Stored → Type 0 = λ v. WellFormed v.run in
-    let w : WellFormed T = subst P c.self.view_is c.self.invariant.well_formed in
-    let xs = c.deref-step-items.result.now in
-    let k = c.loop-step.step-index in
-    let here : slice_get xs k ≡ Some c.step-item.result = slice_get_read xs (length xs) k c.step-item.result refl (omega arith) c.step-item.is in
-    let stands : step_at T k ≡ Some c.step-item.result = ap (λ ys. slice_get ys k) (sym c.loop-step.invariant.0) ∙ here in
-    let run_is : c.reserve.new.self.run ≡ prefix T k = c.reserve.ensures.run ∙ c.loop-step.invariant.1 ∙ ap (λ ys. run_of T.opening (take k ys)) c.loop-step.invariant.0 in
-    rw (run_is, c.in_ok-copy-2.ensures) (may_follow_prefix T k c.step-item.result w stands)
+pub with_version-requires : goal.with_version-requires
+with_version-requires c = inl (ap (λ (x : Stored). x.run.opening.version) c.self.view_is)
+
+pub returns : goal.returns
+returns c =
+    let same : c.self.inside.opening.version ≡ c.args.self.now.run.opening.version = ap (λ (x : Stored). x.run.opening.version) c.self.view_is in
+    let P : ℕ → Type 0 = λ v. IfOk c.with_version.result (λ t. t.run ≡ versioned v c.args.self.now.run) in
+    subst P same c.with_version.ensures

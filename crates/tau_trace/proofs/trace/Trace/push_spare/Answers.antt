@@ -3,7 +3,8 @@ use Rattle.tau_trace.specs.Run.{Run, len}
 use Rattle.tau_trace.specs.Known.{MayFollow}
 use Rattle.tau_trace.specs.Steps.{removed_by, actor}
 use Rattle.tau_trace.specs.Stored.{transactors_after, messages_after, with_new, with_sent, noted_of, removed_of}
-use Rattle.tau_trace.proofs.Indexing.{index_appended, few_transactors, few_numbers, noted_count}
+use Rattle.tau_trace.proofs.Indexing.{few_transactors, few_numbers, noted_count}
+use Rattle.tau_trace.proofs.MessageRecords.{index_appended}
 use Rattle.tau_trace.specs.Numbering.{number_made}
 use Rattle.tau_trace.proofs.trace.Trace.push_spare.Goals as goal
 
@@ -36,7 +37,7 @@ invariant_of-self c =
     let may : MayFollow T s = rw (← c.self.view_is) at c.requires.step in
     let transactors : c.add_new.new.transactors.transactors ≡ transactors_after s (len T) ts.transactors =
     c.add_new.ensures.transactors ∙ ap (with_new s) (c.note_actor.ensures.transactors ∙ ap (λ k. noted_of s k ts.transactors (actor s)) place) in
-    let messages : c.add_sent.new.messages.items ≡ messages_after s (len T) ms =
-    c.add_sent.ensures ∙ (λ i. with_sent (place i) s ((c.note_removed.ensures.messages ∙ ap (λ k. removed_of k ms (removed_by s)) place) i)) in
+    let messages : c.add_sent.new.messages.items ≡ messages_after T.steps s (len T) ms =
+    c.add_sent.ensures ∙ (λ i. with_sent (c.deref.ensures.value i) (place i) s ((c.note_removed.ensures.messages ∙ ap (λ k. removed_of k ms (removed_by s)) place) i)) in
     rw (c.push_reserved-2.ensures.items, c.push_reserved.ensures.items, messages)
     (index_appended T s c.self.inside.made.items ts c.add_new.new.transactors ms c.number_made-number.result may number transactors (c.add_new.ensures.nodes ∙ c.note_actor.ensures.nodes) c.self.invariant)
