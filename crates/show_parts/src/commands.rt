@@ -54,6 +54,7 @@ fn add_command(text: &mut String, call: Call<'_>, command: Command) -> Result<()
         Command::Print => call.answer(text, "Print"),
         Command::Gen { number } => writeln!(text, "{line}: Gen, number {number}"),
         Command::Drill { number } => writeln!(text, "{line}: Drill, number {number}"),
+        Command::Migrate => call.answer(text, "Migrate"),
         Command::Why { place } => writeln!(text, "{line}: Why, place {place}"),
         Command::Cut => call.answer(text, "Cut"),
     }

@@ -15,6 +15,6 @@ pub(crate) enum Answer {
     Stale { ended_by: u32 },
     /// The transactor ended at this step.
     Ended { place: u32 },
-    /// There is no such transactor, message or job, or the run has as many steps as it may have.
+    /// There is no such transactor, message or job, the run has as many steps as it may have, or its version has no such step.
     Nothing,
 }

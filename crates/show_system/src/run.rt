@@ -6,7 +6,9 @@ use crate::showing::add_step;
 use std::alloc::{AllocError, Global};
 use tau_eval::{Job, begin};
 use tau_knowledge::Knowledge;
-use tau_rules::{ActError, Acted, DeliverError, Delivered, FailError, LoseError, System};
+use tau_rules::{
+    ActError, Acted, DeliverError, Delivered, FailError, LoseError, RepeatError, System,
+};
 use tau_tree::Program;
 use tau_value::{STEP_LIMIT, Value};
 
@@ -41,7 +43,7 @@ impl<'p, K: Knowledge + Drop> Run<'p, K> {
         match verb {
             "run" => self.run(text, number)?,
             "begin" => self.begin(number, value)?,
-            "deliver" | "act" | "fail" | "lose" => {
+            "deliver" | "act" | "fail" | "lose" | "repeat" => {
                 let answer = self.step(verb, number)?;
                 self.tell(text, answer)?;
             }
@@ -56,7 +58,8 @@ impl<'p, K: Knowledge + Drop> Run<'p, K> {
             "deliver" => self.deliver(number),
             "act" => self.act(number),
             "fail" => self.fail(number),
-            _ => self.lose(number),
+            "lose" => self.lose(number),
+            _ => self.repeat(number),
         }
     }
 
@@ -144,6 +147,21 @@ impl<'p, K: Knowledge + Drop> Run<'p, K> {
             Ok(()) => Ok(Answer::Made),
             Err(LoseError::NotInFlight { ended_by }) => Ok(Answer::NotInFlight { ended_by }),
             Err(LoseError::NoMemory) => Err(AllocError),
+        }
+    }
+
+    /// Repeats a message, in version 2.
+    fn repeat(&mut self, message: u32) -> Result<Answer, AllocError> {
+        if self.system.trace().opening().version != 2 {
+            return Ok(Answer::Nothing);
+        }
+        if message >= self.system.trace().sent() || self.system.trace().len() >= STEP_LIMIT {
+            return Ok(Answer::Nothing);
+        }
+        match self.system.repeat(message) {
+            Ok(()) => Ok(Answer::Made),
+            Err(RepeatError::NotInFlight { ended_by }) => Ok(Answer::NotInFlight { ended_by }),
+            Err(RepeatError::NoMemory) => Err(AllocError),
         }
     }
 

@@ -29,13 +29,14 @@ fn add_sound(alloc: Global, text: &mut String, program: &Program) -> Result<(), 
     add_printed(alloc, text, &forms_of(alloc, program)?)
 }
 
-/// Adds whether the nodes and starts of a first program are sound with the behaviours, posts and script of a second one.
+/// Adds whether the version, the nodes and the starts of a first program are sound with the behaviours, posts and script of a second one.
 pub(crate) fn add_mixed(alloc: Global, text: &mut String, spelled: &str) -> Result<(), AllocError> {
     let (first, second) = spelled.split_once("(with)").unwrap_or((spelled, ""));
     let (Some(first), Some(second)) = (program_in(alloc, first), program_in(alloc, second)) else {
         return text.push_str("no programs\n");
     };
     let mixed = Program {
+        version: first.version,
         nodes: first.nodes,
         behaviours: second.behaviours,
         starts: first.starts,

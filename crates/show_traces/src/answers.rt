@@ -4,7 +4,10 @@ ghost use Rattle.tau_tree.specs.Sound.{Sound};
 ghost use Rattle.tau_script.specs.Openings.{program_opening};
 
 use crate::errors::FactsError;
-use crate::texts::{audit_text, legality_text, number_text, points_text, report_text, step_text};
+use crate::texts::{
+    audit_text, legality_text, number_text, points_text, report_text, step_text, truth_text,
+    version_text,
+};
 use std::alloc::Global;
 use tau_check::check;
 use tau_past::{audit, carried, past};
@@ -60,6 +63,9 @@ fn reader_answer(trace: &Trace, kind: &str, numbers: &[u32]) -> Option<Option<u3
         ("end-of", [who]) => trace.end_of(*who),
         ("home", [who]) => trace.home(*who),
         ("target", [message]) => trace.target(*message),
+        ("origin", [message]) => trace.origin(*message),
+        ("sender", [message]) => trace.sender(*message),
+        ("made", [place]) => trace.made_at(*place),
         ("next-living", [node, from]) => trace.next_living(*node, *from),
         _ => return None,
     };
@@ -85,7 +91,9 @@ fn past_answer(
         }
         ("audit", []) => audit_text(alloc, audit(alloc, trace)?)?,
         ("form", [place]) => step_text(alloc, trace, *place)?,
+        ("notice", [message]) => truth_text(alloc, trace.is_notice(*message))?,
         ("copied", []) => number_text(alloc, Some(trace.copy()?.len()))?,
+        ("second", []) => version_text(alloc, &trace.in_second()?)?,
         _ => return Err(FactsError::Faulty),
     };
     Ok(text)

@@ -14,6 +14,17 @@ pub(crate) fn number_text(alloc: Global, number: Option<u32>) -> Result<String, 
     }
 }
 
+pub(crate) fn truth_text(alloc: Global, truth: bool) -> Result<String, AllocError> {
+    String::from_str(alloc, if truth { "true" } else { "false" })
+}
+
+/// The version of a trace and how many steps it has.
+pub(crate) fn version_text(alloc: Global, trace: &Trace) -> Result<String, AllocError> {
+    let version = trace.opening().version;
+    let steps = trace.len();
+    format!(in alloc; "version {version} {steps}")
+}
+
 fn point_text(alloc: Global, point: &Point) -> Result<String, AllocError> {
     let Point {
         who,

@@ -6,7 +6,7 @@ use Rattle.tau_tree.specs.declared.programs.Program.{Program}
 use Rattle.tau_trace.specs.declared.step.Step.{Step}
 use Rattle.tau_trace.specs.Run.{Run, len, step_at}
 use Rattle.tau_trace.specs.Numbering.{born, sent}
-use Rattle.tau_trace.specs.Known.{IsSound, IsKnown, IsKnownAt, MayFollow, WellFormed}
+use Rattle.tau_trace.specs.Known.{IsSound, IsKnown, IsKnownAt, IsInVersion, MayFollow, WellFormed}
 use Rattle.tau_trace.proofs.Lists.{same_some, slice_get-front}
 use Rattle.tau_trace.proofs.Agreement.{agree_sym, agree_below, born-same, sent-same}
 use Rattle.tau_trace.proofs.Indexing.{known_same, len-appended}
@@ -52,7 +52,7 @@ come_to_first P T core c js v opens program run cursor = record {
 
   first : IsChecker P (no_steps P) c js
   first = record {
-    well_formed = record { opening = subst IsSound opens v.opening; known = λ k s e. absurd (nothing_at k s e); few_steps = omega arith };
+    well_formed = record { opening = subst IsSound opens v.opening; known = λ k s e. absurd (nothing_at k s e); versions = λ k s e. absurd (nothing_at k s e); few_steps = omega arith };
     legal = record { opening = refl; steps = λ k s e. absurd (nothing_at k s e) };
     current = inr cursor;
     has_jobs = λ t place m u. absurd (omega (arith, u.before));
@@ -67,6 +67,7 @@ module _ (P : Program) (T : Run) (k : ℕ) (core : Core) (c : Cursor) (js : List
       let opened : IsKnownAt U k s = subst (λ o. IsKnown o (born U k) (sent U k) s) h.agree.opening here in
       record {
         known = subst (λ n. IsKnownAt U n s) (sym h.length) opened;
+        version = subst (λ o. IsInVersion o.version s) h.agree.opening (v.versions k s e);
         few_steps = omega (arith, h.length, slice_get_within T.steps k s e, v.few_steps);
       }
 

@@ -4,7 +4,7 @@ use Rattle.std.specs.Prelude.{IsFalse}
 use Rattle.std.specs.Option.{is_some}
 use Rattle.tau_tree.specs.declared.programs.Program.{Program}
 use Rattle.tau_trace.specs.declared.step.Step.{Step}
-use Rattle.tau_trace.specs.declared.step.Step.TheVariants.{Take, Drop, Fall, Void, Fail, Lose}
+use Rattle.tau_trace.specs.declared.step.Step.TheVariants.{Take, Drop, Fall, Void, Fail, Lose, Echo, Heed, Repeat}
 use Rattle.tau_trace.specs.Run.{Run, len, appended, step_at}
 use Rattle.tau_trace.specs.Known.{WellFormed, MayFollow, IsKnownAt}
 use Rattle.tau_trace.specs.Numbering.{sent}
@@ -13,10 +13,12 @@ use Rattle.tau_trace.proofs.Agreement.{agree_sym, agree_appended, step_at-append
 use Rattle.tau_trace.proofs.Indexing.{len-appended, well_formed_appended}
 use Rattle.tau_script.specs.declared.cursor.Cursor.{Cursor}
 use Rattle.tau_script.specs.Cursors.{ComesTo, IsCurrent, moved_past, moved_past_due}
-use Rattle.tau_script.specs.Scripts.{IsDue, DueStep, NoneDue, HasObject, fails, loses, is_failure}
+use Rattle.tau_script.specs.Scripts.{IsDue, DueStep, NoneDue, HasObject, fails, loses, repeats, is_failure}
 use Rattle.tau_script.proofs.Same.{goes_on as cursors_go_on}
 use Rattle.tau_script.proofs.Determined.{one_step}
 use Rattle.tau_script.proofs.Passing.{object}
+use Rattle.tau_tree.specs.Sound.{Sound}
+use Rattle.tau_legal.proofs.VersionLemmas.{due_version}
 use Rattle.tau_legal.specs.Fits.{Fits}
 use Rattle.tau_legal.specs.Traces.{Fitting, IsLegal, Legal, Complete}
 use Rattle.tau_legal.proofs.LocalLemmas.{fits_same}
@@ -45,20 +47,26 @@ receipt_no_failure (Take t n) m e = refl
 receipt_no_failure (Drop t n) m e = refl
 receipt_no_failure (Fall t n) m e = refl
 receipt_no_failure (Void t n) m e = refl
+receipt_no_failure (Echo t n) m e = refl
+receipt_no_failure (Heed t n) m e = refl
 receipt_no_failure s m e = absurd (cc)
 
 pub turn_no_failure : (s : Step) (t : ℕ) → turn_of s ≡ Some t → IsFalse (is_failure s)
 turn_no_failure (Fail u) t e = absurd (cc)
 turn_no_failure (Lose m) t e = absurd (cc)
+turn_no_failure (Repeat m) t e = absurd (cc)
 turn_no_failure s t e = refl
 
 pub failure : (s : Step) → received_by s ≡ None → turn_of s ≡ None → IsTrue (is_failure s)
 failure (Fail u) e f = refl
 failure (Lose m) e f = refl
+failure (Repeat m) e f = refl
 failure (Take t n) e f = absurd (cc)
 failure (Drop t n) e f = absurd (cc)
 failure (Fall t n) e f = absurd (cc)
 failure (Void t n) e f = absurd (cc)
+failure (Echo t n) e f = absurd (cc)
+failure (Heed t n) e f = absurd (cc)
 failure s e f = absurd (cc)
 
 module _ (P : Program) (T : Run) (c : Cursor) where
@@ -78,13 +86,20 @@ module _ (P : Program) (T : Run) (c : Cursor) where
   pub due_object : (d : Step) → HasAsked P T c (Some d) → HasObject T (len T) d
   due_object d asked = object P.script T (len T) c d asked.due_is
 
-  object_fits : (d : Step) → HasObject T (len T) d → Fits P T (len T) d
-  object_fits d (fails lt living) = (lt, living)
-  object_fits d (loses f) = f
+  object_fits : (d : Step) → DueStep P.script T (len T) d → Sound P → HasObject T (len T) d → Fits P T (len T) d
+  object_fits d due sound (fails lt living) = (lt, living)
+  object_fits d due sound (loses f) = f
+  object_fits d due sound (repeats {m = m} f) = (f, due_version P T (len T) m sound due)
+
+  -- a Repeat is due in version 2 alone
+  pub due_repeats : (d : Step) (m : ℕ) → HasAsked P T c (Some d) → d ≡ Repeat m → T.opening.version ≡ 2
+  due_repeats d m asked e =
+      let due : DueStep P.script T (len T) (Repeat m) = subst (DueStep P.script T (len T)) e (is_due (Some d) asked) in
+      ap (λ o. o.version) asked.legal.opening ∙ due_version P T (len T) m asked.sound due
 
   -- a due step is legal
   pub due_legal : (d : Step) → HasAsked P T c (Some d) → IsLegal P T (len T) d
-  due_legal d asked = record { fits = object_fits d (due_object d asked); allowed = inl (is_due (Some d) asked) }
+  due_legal d asked = record { fits = object_fits d (is_due (Some d) asked) asked.sound (due_object d asked); allowed = inl (is_due (Some d) asked) }
 
   -- where none is due, a failure isn't legal
   pub failure_illegal : (s : Step) → HasAsked P T c None → IsTrue (is_failure s) → ¬ IsLegal P T (len T) s
@@ -160,6 +175,8 @@ receipt_known T k m (Take t n) e known = subst (λ x. x < sent T k) (same_some e
 receipt_known T k m (Drop t n) e known = subst (λ x. x < sent T k) (same_some e) known.1
 receipt_known T k m (Fall t n) e known = subst (λ x. x < sent T k) (same_some e) known.1
 receipt_known T k m (Void t n) e known = subst (λ x. x < sent T k) (same_some e) known.1
+receipt_known T k m (Echo t n) e known = subst (λ x. x < sent T k) (same_some e) known.1
+receipt_known T k m (Heed t n) e known = subst (λ x. x < sent T k) (same_some e) known.1
 receipt_known T k m s e known = absurd (cc)
 
 -- a run after which a step is due isn't complete, and the others are where no turn is open and no message in flight

@@ -5,9 +5,9 @@ use Rattle.tau_value.specs.Value.{val_of}
 use Rattle.tau_value.proofs.ValueLemmas.{val_of_inj}
 use Rattle.tau_tree.specs.declared.programs.Program.{Program}
 use Rattle.tau_trace.specs.declared.step.Step.{Step}
-use Rattle.tau_trace.specs.declared.step.Step.TheVariants.{Take, Drop, Fall, Void, Get, Set, Skip, Send, New, Stabilize, Ask, Checkpoint, Hold, Rollback, Stay, Done, Trap}
+use Rattle.tau_trace.specs.declared.step.Step.TheVariants.{Take, Drop, Fall, Void, Get, Set, Skip, Send, New, Stabilize, Ask, Checkpoint, Hold, Rollback, Stay, Done, Trap, Echo, Heed}
 use Rattle.tau_trace.specs.Run.{Run, step_at}
-use Rattle.tau_trace.specs.Numbering.{born, Receives}
+use Rattle.tau_trace.specs.Numbering.{born, Receives, IsNotice}
 use Rattle.tau_trace.specs.Histories.{Ended, IsLiving}
 use Rattle.tau_trace.proofs.Lists.{same_some}
 use Rattle.tau_trace.proofs.Once.{receives_once}
@@ -18,7 +18,7 @@ use Rattle.tau_eval.specs.Eff.{Eff}
 use Rattle.tau_eval.specs.Eff as eff
 use Rattle.tau_eval.specs.Meaning.{next}
 use Rattle.tau_legal.specs.Turns.{HasValue, RepliesOf, TurnHas}
-use Rattle.tau_legal.specs.Fits.{Fits, IsStable, IsVolatile, most_transactors}
+use Rattle.tau_legal.specs.Fits.{Fits, Echoes, IsStable, IsVolatile, most_transactors}
 use Rattle.tau_rules.proofs.ActLemmas.{one_open_turn}
 use Rattle.tau_trace.specs.Steps.{received_by}
 use Rattle.tau_check.specs.Families.{turn_of, receipts, turn_steps, OneStepOfAFamilyFits}
@@ -36,9 +36,13 @@ verdict_once T t k m takes falls (take n o) (fall f) = absurd (n f)
 verdict_once T t k m takes drops (take n o) (drop p d) = absurd (o d)
 verdict_once T t k m takes takes (take n o) (take p q) = refl
 
--- a receipt of message m by transactor t, by the verdict; or after t's end
+-- a receipt of message m by transactor t that takes it, or heeds a notice
+abbrev pub IsTaken : Run → ℕ → ℕ → Step → Type 0
+IsTaken T t m s = ((s ≡ Take t m) × (¬ IsNotice T m)) ⊎ ((s ≡ Heed t m) × IsNotice T m)
+
+-- a receipt of message m by transactor t, by the verdict
 abbrev pub IsReceipt : Run → ℕ → ℕ → ℕ → Judgement → Step → Type 0
-IsReceipt T t m k takes s = s ≡ Take t m
+IsReceipt T t m k takes s = IsTaken T t m s
 IsReceipt T t m k drops s = s ≡ Drop t m
 IsReceipt T t m k falls s = s ≡ Fall t m
 
@@ -50,17 +54,21 @@ pub record IsByVerdict (T : Run) (k m : ℕ) (s : Step) : Type 0 where
   pub verdict : Verdict T who k m kind
   pub is : IsReceipt T who m k kind s
 
-pub record IsLate (T : Run) (k m : ℕ) (s : Step) : Type 0 where
+-- a receipt after t's end: a Void, or an Echo where that makes a notice
+abbrev pub IsLateBy : Program → Run → ℕ → ℕ → ℕ → Step → Type 0
+IsLateBy P T t m k s = ((s ≡ Void t m) × (¬ Echoes P T m k)) ⊎ ((s ≡ Echo t m) × Echoes P T m k)
+
+pub record IsLate (P : Program) (T : Run) (k m : ℕ) (s : Step) : Type 0 where
   pub who : ℕ
   pub receiver : Receives T m who
   pub ended : Ended T who k
-  pub is : s ≡ Void who m
+  pub is : IsLateBy P T who m k s
 
 -- each receipt that fits is one of the two
-receipt : (P : Program) (T : Run) (k m : ℕ) (s : Step) → received_by s ≡ Some m → Fits P T k s → IsByVerdict T k m s ⊎ IsLate T k m s
+receipt : (P : Program) (T : Run) (k m : ℕ) (s : Step) → received_by s ≡ Some m → Fits P T k s → IsByVerdict T k m s ⊎ IsLate P T k m s
 receipt P T k m (Take t n) e f =
     let same : n ≡ m = same_some e in
-    inl (record { who = t; kind = takes; receiver = subst (λ x. Receives T x t) same f.0.receiver; living = f.0.living; verdict = subst (λ x. Verdict T t k x takes) same f.1; is = ap (Take t) same })
+    inl (record { who = t; kind = takes; receiver = subst (λ x. Receives T x t) same f.0.receiver; living = f.0.living; verdict = subst (λ x. Verdict T t k x takes) same f.1; is = inl (ap (Take t) same, subst (λ x. ¬ IsNotice T x) same f.2) })
 receipt P T k m (Drop t n) e f =
     let same : n ≡ m = same_some e in
     inl (record { who = t; kind = drops; receiver = subst (λ x. Receives T x t) same f.0.receiver; living = f.0.living; verdict = subst (λ x. Verdict T t k x drops) same f.1; is = ap (Drop t) same })
@@ -69,11 +77,29 @@ receipt P T k m (Fall t n) e f =
     inl (record { who = t; kind = falls; receiver = subst (λ x. Receives T x t) same f.0.receiver; living = f.0.living; verdict = subst (λ x. Verdict T t k x falls) same f.1; is = ap (Fall t) same })
 receipt P T k m (Void t n) e f =
     let same : n ≡ m = same_some e in
-    inr (record { who = t; receiver = subst (λ x. Receives T x t) same f.receiver; ended = f.ended; is = ap (Void t) same })
+    inr (record { who = t; receiver = subst (λ x. Receives T x t) same f.0.receiver; ended = f.0.ended; is = inl (ap (Void t) same, subst (λ x. ¬ Echoes P T x k) same f.1) })
+receipt P T k m (Echo t n) e f =
+    let same : n ≡ m = same_some e in
+    inr (record { who = t; receiver = subst (λ x. Receives T x t) same f.0.receiver; ended = f.0.ended; is = inr (ap (Echo t) same, subst (λ x. Echoes P T x k) same f.1) })
+receipt P T k m (Heed t n) e f =
+    let same : n ≡ m = same_some e in
+    inl (record { who = t; kind = takes; receiver = subst (λ x. Receives T x t) same f.0.receiver; living = f.0.living; verdict = subst (λ x. Verdict T t k x takes) same f.1; is = inr (ap (Heed t) same, subst (λ x. IsNotice T x) same f.2) })
 receipt P T k m s e f = absurd (cc)
 
+taken_once : (T : Run) (t m : ℕ) (s r : Step) → IsTaken T t m s → IsTaken T t m r → s ≡ r
+taken_once T t m s r (inl a) (inl b) = a.0 ∙ sym b.0
+taken_once T t m s r (inl a) (inr b) = absurd (a.1 b.1)
+taken_once T t m s r (inr a) (inl b) = absurd (b.1 a.1)
+taken_once T t m s r (inr a) (inr b) = a.0 ∙ sym b.0
+
+late_once : (P : Program) (T : Run) (t m k : ℕ) (s r : Step) → IsLateBy P T t m k s → IsLateBy P T t m k r → s ≡ r
+late_once P T t m k s r (inl a) (inl b) = a.0 ∙ sym b.0
+late_once P T t m k s r (inl a) (inr b) = absurd (a.1 b.1)
+late_once P T t m k s r (inr a) (inl b) = absurd (b.1 a.1)
+late_once P T t m k s r (inr a) (inr b) = a.0 ∙ sym b.0
+
 receipt_is : (T : Run) (t m k : ℕ) (j : Judgement) (s r : Step) → IsReceipt T t m k j s → IsReceipt T t m k j r → s ≡ r
-receipt_is T t m k takes s r e f = e ∙ sym f
+receipt_is T t m k takes s r e f = taken_once T t m s r e f
 receipt_is T t m k drops s r e f = e ∙ sym f
 receipt_is T t m k falls s r e f = e ∙ sym f
 
@@ -91,11 +117,11 @@ by_verdict_once T k m s r g h =
 -- one receipt of a message fits
 pub one_receipt : (P : Program) (T : Run) (k m : ℕ) (s r : Step) → received_by s ≡ Some m → received_by r ≡ Some m → Fits P T k s → Fits P T k r → s ≡ r
 one_receipt P T k m s r e d f g = by (receipt P T k m s e f) (receipt P T k m r d g) where
-  by : IsByVerdict T k m s ⊎ IsLate T k m s → IsByVerdict T k m r ⊎ IsLate T k m r → s ≡ r
+  by : IsByVerdict T k m s ⊎ IsLate P T k m s → IsByVerdict T k m r ⊎ IsLate P T k m r → s ≡ r
   by (inl a) (inl b) = by_verdict_once T k m s r a b
   by (inl a) (inr b) = absurd (not_late T b.who k (subst (λ t. IsLiving T t k) (receives_once T m a.who b.who a.receiver b.receiver) a.living) b.ended)
   by (inr a) (inl b) = absurd (not_late T a.who k (subst (λ t. IsLiving T t k) (receives_once T m b.who a.who b.receiver a.receiver) b.living) a.ended)
-  by (inr a) (inr b) = a.is ∙ ap (λ t. Void t m) (receives_once T m a.who b.who a.receiver b.receiver) ∙ sym b.is
+  by (inr a) (inr b) = late_once P T b.who m k s r (subst (λ t. IsLateBy P T t m k s) (receives_once T m a.who b.who a.receiver b.receiver) a.is) b.is
 
 -- an open turn has one next effect
 pub effect_once : (P : Program) (T : Run) (t k : ℕ) (e f : Eff) → T.opening ≡ program_opening P → TurnHas P T t k e → TurnHas P T t k f → e ≡ f

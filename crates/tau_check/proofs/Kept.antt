@@ -3,13 +3,13 @@ use Rattle.std.proofs.Common.{◌≡◌, ◌≢◌, ◌⊎◌, inl, inr, ⊎_eli
 use Rattle.std.specs.Prelude.{slice_get}
 use Rattle.tau_tree.specs.declared.programs.Program.{Program}
 use Rattle.tau_trace.specs.declared.step.Step.{Step}
-use Rattle.tau_trace.specs.declared.step.Step.TheVariants.{Fail, Lose}
+use Rattle.tau_trace.specs.declared.step.Step.TheVariants.{Fail}
 use Rattle.tau_trace.specs.Steps.{actor, ends_turn}
 use Rattle.tau_trace.specs.Run.{Run, len, appended}
 use Rattle.tau_trace.specs.Known.{WellFormed}
 use Rattle.tau_trace.specs.Turns.{Turn, IsOpenTurn}
 use Rattle.tau_trace.proofs.Lists.{same_some}
-use Rattle.tau_script.specs.Scripts.{HasObject, fails, loses}
+use Rattle.tau_script.specs.Scripts.{HasObject, fails, loses, repeats}
 use Rattle.tau_eval.specs.Turn as jobs
 use Rattle.tau_check.specs.Inner.Jobs.{HasJobOf, HasJobs, HasOtherJobs, KeepsOthers}
 use Rattle.tau_check.proofs.Turns.{BeginsNone, earlier, ended}
@@ -69,8 +69,9 @@ module _ (P : Program) (T : Run) (s : Step) (v : WellFormed T) (w : WellFormed (
   pub jobs_after_due : (js : List (Option jobs.TurnSoFar)) → HasObject T (len T) s → HasJobs P T js → HasJobs P (appended T s) js
   jobs_after_due js object h = ⊎_elim
       (λ e. jobs_after_end e.0 js (ap actor e.1) (ap ends_turn e.1) (λ t place m ne u. h t place m u))
-      (λ e. jobs_after_nobody js (ap actor e.1) h)
+      (λ e. jobs_after_nobody js e h)
       (kind s object) where
-        kind : (r : Step) → HasObject T (len T) r → ((t : ℕ) × (r ≡ Fail t)) ⊎ ((m : ℕ) × (r ≡ Lose m))
+        kind : (r : Step) → HasObject T (len T) r → ((t : ℕ) × (r ≡ Fail t)) ⊎ (actor r ≡ None)
         kind r (fails {t = t} lt living) = inl (t, refl)
-        kind r (loses {m = m} f) = inr (m, refl)
+        kind r (loses {m = m} f) = inr refl
+        kind r (repeats {m = m} f) = inr refl

@@ -10,14 +10,14 @@ use Rattle.tau_tree.specs.declared.programs.Program.{Program}
 use Rattle.tau_tree.specs.Behaviour.{NamedCode}
 use Rattle.tau_tree.specs.Code.{Code}
 use Rattle.tau_trace.specs.declared.step.Step.{Step}
-use Rattle.tau_trace.specs.declared.step.Step.TheVariants.{Take, Drop, Fall, Void, Get, Set, Skip, Send, New, Stabilize, Ask, Checkpoint, Hold, Rollback, Stay, Done, Trap, Fail, Lose}
+use Rattle.tau_trace.specs.declared.step.Step.TheVariants.{Take, Get, Set, Skip, Send, New, Stabilize, Ask, Echo, Repeat}
 use Rattle.tau_trace.specs.Run.{Run, step_at}
 use Rattle.tau_trace.specs.Points.{point_at}
 use Rattle.tau_trace.proofs.Lists.{same_some}
-use Rattle.tau_trace.proofs.Once.{new_once, sent_once}
+use Rattle.tau_trace.proofs.Once.{new_once, sent_once, IsMaker, sent_maker, echoed_maker, repeated_maker, maker_once}
 use Rattle.tau_script.specs.Openings.{program_opening}
 use Rattle.tau_states.proofs.Uniqueness.{state_once}
-use Rattle.tau_legal.specs.Turns.{HasBehaviour, start, created, HasBody, HasValue, post, message, Replies, RepliesOf, before, another, reply}
+use Rattle.tau_legal.specs.Turns.{HasBehaviour, start, created, HasBody, HasValue, post, message, notice, copy, Replies, RepliesOf, before, another, reply}
 
 same_behaviour : (a b c d x y : ℕ) (v w : Value) → New x a b v ≡ New y c d w → a ≡ c
 same_behaviour a b c d x y v w e = cc
@@ -52,6 +52,10 @@ module _ (P : Program) (T : Run) (opens : T.opening ≡ program_opening P) where
       let same : h.number ≡ g.number = behaviour_once t h.number g.number h.has g.has in
       sym h.is ∙ ap (λ (x : NamedCode). x.body) (same_some (sym h.stands ∙ ap (slice_get P.behaviours) same ∙ g.stands)) ∙ g.is
 
+  -- one step makes a message
+  same_maker : (i j m : ℕ) (a : IsMaker T i m) (b : IsMaker T j m) → a.step ≡ b.step
+  same_maker i j m a b = same_some (sym a.stands ∙ ap (step_at T) (maker_once T i j m a b) ∙ b.stands)
+
   -- a message has one value
   pub value_once : (m : ℕ) (v w : Val) → HasValue P T m v → HasValue P T m w → v ≡ w
   value_once m v w (post e f) (post g h) = sym f ∙ ap (λ (q : Post). val_of q.value) (same_some (sym e ∙ g)) ∙ h
@@ -60,6 +64,27 @@ module _ (P : Program) (T : Run) (opens : T.opening ≡ program_opening P) where
   value_once m v w (message {j = i} {by = x} o f) (message {j = j} {by = y} p h) =
       let same = sent_once T i j x y m o p in
       sym f ∙ ap val_of (same_sent o.to p.to x y o.value p.value (same_some (sym o.stands ∙ ap (step_at T) same ∙ p.stands))) ∙ h
+  value_once m v w (post {q = q} e f) (notice o h) = absurd (omega (arith, slice_get_within P.posts m q e, few_posts, o.made))
+  value_once m v w (post {q = q} e f) (copy o h) = absurd (omega (arith, slice_get_within P.posts m q e, few_posts, o.made))
+  value_once m v w (notice o f) (post {q = q} e h) = absurd (omega (arith, slice_get_within P.posts m q e, few_posts, o.made))
+  value_once m v w (copy o f) (post {q = q} e h) = absurd (omega (arith, slice_get_within P.posts m q e, few_posts, o.made))
+  value_once m v w (message {j = i} {by = x} o f) (notice {j = j} {by = y} {n = n} p h) =
+      let both : Send x o.to o.value ≡ Echo y n = same_maker i j m (sent_maker T i x m o) (echoed_maker T j y n m p) in absurd (cc)
+  value_once m v w (message {j = i} {by = x} o f) (copy {k = j} {n = n} p h) =
+      let both : Send x o.to o.value ≡ Repeat n = same_maker i j m (sent_maker T i x m o) (repeated_maker T j n m p) in absurd (cc)
+  value_once m v w (notice {j = i} {by = x} {n = n} o f) (message {j = j} {by = y} p h) =
+      let both : Echo x n ≡ Send y p.to p.value = same_maker i j m (echoed_maker T i x n m o) (sent_maker T j y m p) in absurd (cc)
+  value_once m v w (copy {k = i} {n = n} o f) (message {j = j} {by = y} p h) =
+      let both : Repeat n ≡ Send y p.to p.value = same_maker i j m (repeated_maker T i n m o) (sent_maker T j y m p) in absurd (cc)
+  value_once m v w (notice o f) (notice p h) = sym f ∙ h
+  value_once m v w (notice {j = i} {by = x} {n = n} o f) (copy {k = j} {n = l} p h) =
+      let both : Echo x n ≡ Repeat l = same_maker i j m (echoed_maker T i x n m o) (repeated_maker T j l m p) in absurd (cc)
+  value_once m v w (copy {k = i} {n = n} o f) (notice {j = j} {by = y} {n = l} p h) =
+      let both : Repeat n ≡ Echo y l = same_maker i j m (repeated_maker T i n m o) (echoed_maker T j y l m p) in absurd (cc)
+  value_once m v w (copy {k = i} {n = n} o f) (copy {k = j} {n = l} p h) =
+      let both : Repeat n ≡ Repeat l = same_maker i j m (repeated_maker T i n m o) (repeated_maker T j l m p) in
+      let same : n ≡ l = cc in
+      value_once n v w f (subst (λ x. HasValue P T x w) (sym same) h)
 
 -- a step has one reply
 reply_once : (T : Run) (opening : List Value) (j : ℕ) (s : Step) (q r : Val) → Replies T opening j s q → Replies T opening j s r → q ≡ r
@@ -70,18 +95,7 @@ reply_once T opening j (Set t v) q r f g = f ∙ sym g
 reply_once T opening j (Skip t) q r f g = f ∙ sym g
 reply_once T opening j (Send t u v) q r f g = f ∙ sym g
 reply_once T opening j (Stabilize t) q r f g = f ∙ sym g
-reply_once T opening j (Take t m) q r f g = absurd f
-reply_once T opening j (Drop t m) q r f g = absurd f
-reply_once T opening j (Fall t m) q r f g = absurd f
-reply_once T opening j (Void t m) q r f g = absurd f
-reply_once T opening j (Checkpoint t) q r f g = absurd f
-reply_once T opening j (Hold t) q r f g = absurd f
-reply_once T opening j (Rollback t) q r f g = absurd f
-reply_once T opening j (Stay t) q r f g = absurd f
-reply_once T opening j (Done t) q r f g = absurd f
-reply_once T opening j (Trap t c) q r f g = absurd f
-reply_once T opening j (Fail t) q r f g = absurd f
-reply_once T opening j (Lose m) q r f g = absurd f
+reply_once T opening j s q r f g = absurd f
 
 -- a turn has one list of replies
 pub replies_once : (T : Run) (opening : List Value) (t a k : ℕ) (qs rs : List Val) → RepliesOf T opening t a k qs → RepliesOf T opening t a k rs → qs ≡ rs

@@ -2,7 +2,7 @@
 use Rattle.std.proofs.Common.{◌≡◌, ℕ, Option, Some, None, List, refl, sym, ap, ◌∙◌, subst}
 use Rattle.tau_tree.specs.declared.programs.Program.{Program}
 use Rattle.tau_trace.specs.declared.step.Step.{Step}
-use Rattle.tau_trace.specs.declared.step.Step.TheVariants.{Take, Drop, Fall, Void}
+use Rattle.tau_trace.specs.declared.step.Step.TheVariants.{Take, Drop, Fall, Void, Echo, Heed}
 use Rattle.tau_trace.specs.Steps.{actor, received_by}
 use Rattle.tau_trace.specs.Run.{Run, len, appended, step_at}
 use Rattle.tau_trace.specs.Known.{WellFormed, MayFollow}
@@ -18,7 +18,7 @@ use Rattle.tau_legal.specs.Traces.{Fitting, IsLegal}
 use Rattle.tau_eval.specs.Turn as jobs
 use Rattle.tau_rules.specs.System.{Core, with_step}
 use Rattle.tau_rules.specs.declared.answers.Delivered.{Delivered}
-use Rattle.tau_rules.specs.declared.answers.Delivered.TheVariants.{Began, Dropped, Fell, Voided}
+use Rattle.tau_rules.specs.declared.answers.Delivered.TheVariants.{Began, Dropped, Fell, Voided, Echoed, Heeded}
 use Rattle.tau_rules.specs.Answers.{IsOpenJob, IsDelivered}
 use Rattle.tau_rules.proofs.IdleLemmas.{ended_idle}
 use Rattle.tau_check.specs.Inner.Jobs.{HasJobs, IsKeptBegun}
@@ -41,7 +41,9 @@ pub by_idle : (P : Program) (T : Run) (k m : ℕ) (s : Step) → Fitting P T →
 by_idle P T k m (Take t n) fitting e f = record { who = t; by = refl; receiver = subst (λ x. Receives T x t) (same_some e) f.0.receiver; in_flight = subst (λ x. InFlight T x k) (same_some e) f.0.in_flight; idle = f.0.idle }
 by_idle P T k m (Drop t n) fitting e f = record { who = t; by = refl; receiver = subst (λ x. Receives T x t) (same_some e) f.0.receiver; in_flight = subst (λ x. InFlight T x k) (same_some e) f.0.in_flight; idle = f.0.idle }
 by_idle P T k m (Fall t n) fitting e f = record { who = t; by = refl; receiver = subst (λ x. Receives T x t) (same_some e) f.0.receiver; in_flight = subst (λ x. InFlight T x k) (same_some e) f.0.in_flight; idle = f.0.idle }
-by_idle P T k m (Void t n) fitting e f = record { who = t; by = refl; receiver = subst (λ x. Receives T x t) (same_some e) f.receiver; in_flight = subst (λ x. InFlight T x k) (same_some e) f.in_flight; idle = ended_idle P T t k fitting f.ended }
+by_idle P T k m (Void t n) fitting e f = record { who = t; by = refl; receiver = subst (λ x. Receives T x t) (same_some e) f.0.receiver; in_flight = subst (λ x. InFlight T x k) (same_some e) f.0.in_flight; idle = ended_idle P T t k fitting f.0.ended }
+by_idle P T k m (Echo t n) fitting e f = record { who = t; by = refl; receiver = subst (λ x. Receives T x t) (same_some e) f.0.receiver; in_flight = subst (λ x. InFlight T x k) (same_some e) f.0.in_flight; idle = ended_idle P T t k fitting f.0.ended }
+by_idle P T k m (Heed t n) fitting e f = record { who = t; by = refl; receiver = subst (λ x. Receives T x t) (same_some e) f.0.receiver; in_flight = subst (λ x. InFlight T x k) (same_some e) f.0.in_flight; idle = f.0.idle }
 by_idle P T k m s fitting e f = absurd (cc)
 
 module _ (P : Program) (T : Run) (c : Cursor) (m : ℕ) (s : Step) (asked : HasAsked P T c None) (receipt : received_by s ≡ Some m) where
@@ -70,6 +72,8 @@ received old new m (Began job) h = record { step = Take job.who m; receipt = ref
 received old new m Dropped h = record { step = Drop h.0 m; receipt = refl; appended = h.1 }
 received old new m Fell h = record { step = Fall h.0 m; receipt = refl; appended = h.1 }
 received old new m Voided h = record { step = Void h.0 m; receipt = refl; appended = h.1 }
+received old new m Echoed h = record { step = Echo h.0 m; receipt = refl; appended = h.1 }
+received old new m Heeded h = record { step = Heed h.0 m; receipt = refl; appended = h.1 }
 
 -- what was appended is one step
 same_appended : (old new : Core) (r s : Step) → new ≡ with_step old r → new ≡ with_step old s → r ≡ s
@@ -109,6 +113,8 @@ module _ (old new : Core) (m : ℕ) (s : Step) (js ks : List (Option jobs.TurnSo
   jobs_received Dropped h kept = jobs_kept (Drop h.0 m) (λ t k e. cc) (same_appended old new s (Drop h.0 m) is h.1) kept
   jobs_received Fell h kept = jobs_kept (Fall h.0 m) (λ t k e. cc) (same_appended old new s (Fall h.0 m) is h.1) kept
   jobs_received Voided h kept = jobs_kept (Void h.0 m) (λ t k e. cc) (same_appended old new s (Void h.0 m) is h.1) kept
+  jobs_received Echoed h kept = jobs_kept (Echo h.0 m) (λ t k e. cc) (same_appended old new s (Echo h.0 m) is h.1) kept
+  jobs_received Heeded h kept = jobs_kept (Heed h.0 m) (λ t k e. cc) (same_appended old new s (Heed h.0 m) is h.1) kept
 
 -- the receipt that was appended is legal, and the checker goes on
 pub receipt_goes_on : (old new : Core) (c : Cursor) (m : ℕ) (s : Step) (d : Delivered) (js ks : List (Option jobs.TurnSoFar)) → HasAsked old.program old.run c None → MayFollow old.run s

@@ -1,5 +1,6 @@
 //! The checker.
 ghost use Rattle.std.specs.Prelude.{◌≡◌, ◌≢◌, ◌<◌, ◌≤◌, ◌↔◌, ℕ, [], Some, None, IfOk, IfSome, IsTrue, length};
+ghost use Rattle.tau_value.specs.declared.limits.TheConstants.{ENTRY_LIMIT};
 ghost use Rattle.tau_tree.specs.Sound.{Sound};
 ghost use Rattle.tau_trace.specs.declared.step.Step.TheVariants as steps;
 ghost use Rattle.tau_trace.specs.Run.{len};
@@ -82,7 +83,7 @@ impl<'p> Checker<'p> {
         ensures jobs { self.new.jobs.items ≡ self.old.jobs.items }
         ensures asked { HasAsked self.new.system.program self.new.system.run self.new.cursor result }
         ensures has_jobs { HasJobs self.new.system.program self.new.system.run self.new.jobs.items }
-        ensures entries { length self.new.system.program.script ≤ 4096 }
+        ensures entries { length self.new.system.program.script ≤ ENTRY_LIMIT }
         ensures entry { IfSome result (λ s. self.new.cursor.entry < length self.new.system.program.script) }
         ensures who { IfSome result (λ s. (t : ℕ) → s ≡ steps.Fail t → t < u32.MAX) }
     {
@@ -98,7 +99,7 @@ impl<'p> Checker<'p> {
         requires asked { HasAsked self.old.system.program self.old.system.run self.old.cursor (Some due.now) }
         requires has_jobs { HasJobs self.old.system.program self.old.system.run self.old.jobs.items }
         requires follows { MayFollow self.old.system.run step.now }
-        requires entries { length self.old.system.program.script ≤ 4096 }
+        requires entries { length self.old.system.program.script ≤ ENTRY_LIMIT }
         requires entry { self.old.cursor.entry < length self.old.system.program.script }
         requires who { (t : ℕ) → due.now ≡ steps.Fail t → t < u32.MAX }
         ensures { IfOk result (IsChecked self.old.system self.new.system self.new.cursor self.new.jobs.items step.now) }

@@ -5,7 +5,7 @@ ghost use Rattle.tau_check.specs.Families.{turn_of as acting};
 
 use tau_trace::Step;
 
-/// The message that a Take, Drop, Fall or Void receives.
+/// The message that a Take, Drop, Fall, Void, Echo or Heed receives.
 pub(crate) fn received_by(step: &Step) -> Option<u32>
     ensures { result ≡ received_message step.now }
 {
@@ -13,7 +13,9 @@ pub(crate) fn received_by(step: &Step) -> Option<u32>
         Step::Take { message, .. }
         | Step::Drop { message, .. }
         | Step::Fall { message, .. }
-        | Step::Void { message, .. } => Some(*message),
+        | Step::Void { message, .. }
+        | Step::Echo { message, .. }
+        | Step::Heed { message, .. } => Some(*message),
         _ => None,
     }
 }

@@ -50,7 +50,11 @@ pub(crate) fn keep_begun<'p>(
 {
     match delivered {
         Delivered::Began(job) => keep_job(jobs, job),
-        Delivered::Dropped | Delivered::Fell | Delivered::Voided => Ok(()),
+        Delivered::Dropped
+        | Delivered::Fell
+        | Delivered::Voided
+        | Delivered::Echoed
+        | Delivered::Heeded => Ok(()),
     }
 }
 

@@ -1,5 +1,5 @@
 //! Steps made by the system, where it can't refuse them.
-ghost use Rattle.std.specs.Prelude.{◌≡◌, ◌<◌, OnOk, IfOk};
+ghost use Rattle.std.specs.Prelude.{◌≡◌, ◌<◌, ℕ, OnOk, IfOk};
 ghost use Rattle.tau_value.specs.declared.limits.TheConstants.{STEP_LIMIT};
 ghost use Rattle.tau_trace.specs.declared.step.Step.TheVariants as steps;
 ghost use Rattle.tau_trace.specs.Run.{len};
@@ -14,7 +14,7 @@ ghost use Rattle.tau_check.specs.Inner.Jobs.{IsTurnStep};
 use std::alloc::AllocError;
 use tau_clean::MarkedHearing;
 use tau_eval::Pending;
-use tau_rules::{ActError, Acted, FailError, LoseError, System};
+use tau_rules::{ActError, Acted, FailError, LoseError, RepeatError, System};
 use tau_trace::Step;
 use tau_value::Value;
 
@@ -25,11 +25,13 @@ pub(crate) fn make_due<'p>(
 ) -> Result<(), AllocError>
     requires few { len system.old.run < STEP_LIMIT }
     requires object { HasObject system.old.run (len system.old.run) due.now }
+    requires version { (m : ℕ) → due.now ≡ steps.Repeat m → system.old.run.opening.version ≡ 2 }
     ensures { OnOk result (system.new ≡ with_step system.old due.now) }
 {
     match due {
         Step::Fail { who } => make_fail(system, *who),
         Step::Lose { message } => make_lose(system, *message),
+        Step::Repeat { message } => make_repeat(system, *message),
         _ => unreachable!(),
     }
 }
@@ -58,6 +60,20 @@ fn make_lose<'p>(system: &mut System<'p, MarkedHearing>, message: u32) -> Result
         Ok(()) => Ok(()),
         Err(LoseError::NotInFlight { .. }) => unreachable!(),
         Err(LoseError::NoMemory) => Err(AllocError),
+    }
+}
+
+/// Repeats a message in flight.
+fn make_repeat<'p>(system: &mut System<'p, MarkedHearing>, message: u32) -> Result<(), AllocError>
+    requires few { len system.old.run < STEP_LIMIT }
+    requires in_flight { InFlight system.old.run message (len system.old.run) }
+    requires version { system.old.run.opening.version ≡ 2 }
+    ensures { OnOk result (system.new ≡ with_step system.old (steps.Repeat message)) }
+{
+    match system.repeat(message) {
+        Ok(()) => Ok(()),
+        Err(RepeatError::NotInFlight { .. }) => unreachable!(),
+        Err(RepeatError::NoMemory) => Err(AllocError),
     }
 }
 

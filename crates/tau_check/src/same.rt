@@ -47,6 +47,20 @@ pub(crate) fn same_step(one: &Step, two: &Step) -> bool
                 who: other,
                 message: named,
             },
+        )
+        | (
+            Step::Echo { who, message },
+            Step::Echo {
+                who: other,
+                message: named,
+            },
+        )
+        | (
+            Step::Heed { who, message },
+            Step::Heed {
+                who: other,
+                message: named,
+            },
         ) => { who == other && message == named }
         (
             Step::Set { who, value },
@@ -100,7 +114,8 @@ pub(crate) fn same_step(one: &Step, two: &Step) -> bool
         | (Step::Stay { who }, Step::Stay { who: other })
         | (Step::Done { who }, Step::Done { who: other })
         | (Step::Fail { who }, Step::Fail { who: other }) => who == other,
-        (Step::Lose { message }, Step::Lose { message: named }) => message == named,
+        (Step::Lose { message }, Step::Lose { message: named })
+        | (Step::Repeat { message }, Step::Repeat { message: named }) => message == named,
         _ => false,
     }
 }

@@ -1,1 +1,3 @@
 pub mod OutputLemmas
+pub mod WriteLemmas
+pub mod EndLemmas

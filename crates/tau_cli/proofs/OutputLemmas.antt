@@ -1,5 +1,5 @@
 -- What the words of a command line come to.
-use Rattle.std.proofs.Common.{◌≡◌, ◌⊎◌, inl, inr, ℕ, List, Option, Some, None, Result, Ok, Err, IsErrAnd, IsTrue, refl, sym, ap, ◌∙◌, subst}
+use Rattle.std.proofs.Common.{◌≡◌, ◌⊎◌, inl, inr, ℕ, List, Option, Some, None, Result, Ok, Err, IsTrue, refl, sym, ap, ◌∙◌, subst}
 use Rattle.tau_command.specs.declared.commands.Command.{Command}
 use Rattle.tau_command.specs.declared.commands.Command.TheVariants.{Why}
 use Rattle.tau_command.specs.Commands.{command_of}
@@ -8,14 +8,13 @@ use Rattle.tau_output.specs.declared.outputs.Output.{Output}
 use Rattle.tau_output.specs.declared.refusals.Refusal.{Refusal}
 use Rattle.tau_output.specs.declared.refusals.Refusal.TheVariants as refusals
 use Rattle.tau_output.specs.Faults.{reads_input, IsInputFault}
-use Rattle.tau_output.specs.Explaining.{IsNotAsked}
 use Rattle.tau_cli.specs.declared.statuses.Status.{Status}
 use Rattle.tau_cli.specs.declared.statuses.Status.TheVariants.{Words, Input, ReadFault, NoMemory, Place}
 use Rattle.tau_cli.specs.Status.{of_end, of_refusal}
 use Rattle.tau_cli.specs.Output.{Writing, AreLeft, IsEndOf, IsOutput, Stops, IsUnlessUnread}
 
 -- what was left, where it is told
-left_told : (left : Option (List ℕ)) (bytes all : List ℕ) → AreLeft left bytes → left ≡ Some all → bytes ≡ all
+pub left_told : (left : Option (List ℕ)) (bytes all : List ℕ) → AreLeft left bytes → left ≡ Some all → bytes ≡ all
 left_told None bytes all h e = cc
 left_told (Some xs) bytes all h e = let same : xs ≡ all = cc in h ∙ same
 
@@ -28,16 +27,6 @@ output_left Writes words left command bytes end text c l w =
 -- that a call refuses to tell why, or wants memory
 abbrev pub Refuses : Result Output Refusal → ℕ → Type 0
 Refuses r place = (r ≡ Err (refusals.NotAsked place)) ⊎ (r ≡ Err refusals.NoMemory)
-
--- what is said of the bytes that were read is so of those that were left
-pub unasked_left : (words : List (List ℕ)) (left : Option (List ℕ)) (command : Command) (read : List ℕ) (r : Result Output Refusal) → command_of words ≡ Some command
-    → (IsTrue (reads_input command) → AreLeft left read) → ((place : ℕ) → command ≡ Why place → IsNotAsked place read → Refuses r place) → (place : ℕ) (bytes : List ℕ)
-    → command_of words ≡ Some (Why place) → left ≡ Some bytes → IsNotAsked place bytes → Refuses r place
-unasked_left words left command read r c l u place bytes w e n =
-    let g : Some command ≡ Some (Why place) = sym c ∙ w in
-    let same : command ≡ Why place = cc in
-    let is : read ≡ bytes = left_told left read bytes (l (subst (λ x. IsTrue (reads_input x)) (sym same) refl)) e in
-    u place same (subst (IsNotAsked place) (sym is) n)
 
 -- nothing is written then
 pub never_told : (o : Output) (place : ℕ) → Refuses (Ok o) place → ⊥
@@ -52,11 +41,6 @@ place_told e s place is (inl h) =
 place_told e s place is (inr h) =
     let same : e ≡ refusals.NoMemory = cc in
     inr (inr (is ∙ ap of_refusal same))
-
-pub told_by_status : (found : Result Output Status) (e : Refusal) (place : ℕ) → IsErrAnd found (λ s. s ≡ of_refusal e) → Refuses (Err e) place
-    → IsErrAnd found (λ s. IsUnlessUnread s (Place place))
-told_by_status (Ok o) e place h r = h
-told_by_status (Err s) e place h r = place_told e s place h r
 
 -- with no fault anywhere, only want of memory is left
 pub stops_without_fault : (s : Status) (words : List (List ℕ)) (left : Option (List ℕ)) (U R : Type 0) (command : Command) (bytes : List ℕ) → Stops words left U R s

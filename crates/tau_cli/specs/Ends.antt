@@ -1,5 +1,5 @@
 -- What the top call does, by the status with which it ends; and the process, by the number with which it exits.
-use Rattle.std.specs.Prelude.{◌≡◌, ◌≢◌, ◌⊎◌, ℕ, false, List, Option, Some, None, Result, Ok, Err, IfOk, IfErr, IsErrAnd}
+use Rattle.std.specs.Prelude.{◌≡◌, ◌≢◌, ◌⊎◌, ℕ, ◌≤◌, false, IsTrue, List, length, Option, Some, None, Result, Ok, Err, IfOk, IfErr}
 use Rattle.std.specs.Io.KnownBytes.{Appends}
 use Rattle.tau_io.specs.Faults.{HasRisen}
 use Rattle.tau_io.specs.Put.{AppendsFront}
@@ -8,12 +8,15 @@ use Rattle.tau_command.specs.declared.commands.WordsError.{WordsError}
 use Rattle.tau_command.specs.declared.commands.Command.TheVariants.{Why}
 use Rattle.tau_command.specs.Commands.{command_of}
 use Rattle.tau_output.specs.declared.outputs.Output.{Output}
-use Rattle.tau_output.specs.Faults.{reads_input, IsInputFault}
+use Rattle.tau_output.specs.declared.refusals.Refusal.{Refusal}
+use Rattle.tau_output.specs.Faults.{input_limit, reads_input, IsInputFault}
 use Rattle.tau_output.specs.Explaining.{IsNotAsked}
+use Rattle.tau_output.specs.Writing.{HasLimit}
+use Rattle.tau_cli.specs.declared.calls.Asked.{Asked}
 use Rattle.tau_cli.specs.declared.statuses.Status.{Status}
 use Rattle.tau_cli.specs.declared.statuses.Status.TheVariants.{Words, Input, ReadFault, WriteFault, NoMemory, Place}
-use Rattle.tau_cli.specs.Output.{Writing, IsEndOf, IsOutput, IsFaulty, IsUnasked, Stops, IsUnlessUnread}
-use Rattle.tau_cli.specs.Status.{number_of, of_end, of_words_error, IsRefusal, IsResult}
+use Rattle.tau_cli.specs.Output.{Writing, AreLeft, IsEndOf, IsOutput, IsFaulty, IsUnasked, Stops, IsUnlessUnread}
+use Rattle.tau_cli.specs.Status.{number_of, of_end, of_words_error, of_refusal, IsRefusal, IsResult}
 
 -- what a call did to its source, or to its sink: the bytes that it had left, or held, before and after, where it tells them; that
 -- it stayed as it was; and that its count of faults rose
@@ -31,15 +34,26 @@ effect_on bytes faults old new = record {
   Failed = HasRisen (faults old) (faults new);
 }
 
--- what was found to write for the words of a command line, or the status with which they end before anything is written
-pub record Finds (Writes : Writing) (line : List (List ℕ)) (source : Effect) (found : Result Output Status) : Type 0 where
-  pub output : IfOk found (λ o. IsOutput Writes line source.before (of_end o.end) o.text.items)
-  pub status : IfErr found (Stops line source.before source.Stayed source.Failed)
+-- what the words of a command line ask for, or the status with which they end before anything is written
+pub record Asks (line : List (List ℕ)) (source : Effect) (asked : Result Asked Status) : Type 0 where
+  pub command : IfOk asked (λ a. command_of line ≡ Some a.command)
+  pub limit : IfOk asked (λ a. HasLimit a.command)
+  pub left : IfOk asked (λ a. IsTrue (reads_input a.command) → AreLeft source.before a.bytes.items)
+  pub few : IfOk asked (λ a. length a.bytes.items ≤ input_limit)
+  pub status : IfErr asked (Stops line source.before source.Stayed source.Failed)
   pub untouched : (command : Command) → command_of line ≡ Some command → reads_input command ≡ false → source.Stayed
   pub faulty : (command : Command) (bytes : List ℕ) (fault at : ℕ) → command_of line ≡ Some command → source.before ≡ Some bytes
-      → IsInputFault command bytes fault at → IsErrAnd found (λ status. IsUnlessUnread status (Input fault at))
+      → IsInputFault command bytes fault at → IfErr asked (λ status. IsUnlessUnread status (Input fault at))
   pub unasked : (place : ℕ) (bytes : List ℕ) → command_of line ≡ Some (Why place) → source.before ≡ Some bytes
-      → IsNotAsked place bytes → IsErrAnd found (λ status. IsUnlessUnread status (Place place))
+      → IsNotAsked place bytes → IfErr asked (λ status. IsUnlessUnread status (Place place))
+
+-- an output was written, or a front of it, and nothing for a refusal; and the status
+abbrev pub Tells : Result Output Refusal → Effect → Status → Type 0
+Tells (Ok o) sink status =
+    ((status ≡ of_end o.end) × Appends sink.before sink.after o.text.items)
+    ⊎ (((status ≡ WriteFault) × sink.Failed × AppendsFront sink.before sink.after o.text.items)
+    ⊎ ((status ≡ NoMemory) × AppendsFront sink.before sink.after o.text.items))
+Tells (Err refusal) sink status = (status ≡ of_refusal refusal) × sink.Stayed
 
 -- what a call for the words of a command line did that ended with this status
 pub record Ends (Writes : Writing) (line : List (List ℕ)) (source sink : Effect) (status : Status) : Type 0 where

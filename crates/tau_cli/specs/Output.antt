@@ -2,7 +2,7 @@
 use Rattle.std.specs.Prelude.{◌≡◌, ◌⊎◌, ℕ, ◌<◌, IsTrue, List, length, Option, Some, None}
 use Rattle.tau_points.specs.declared.point.Point.{Point}
 use Rattle.tau_command.specs.declared.commands.Command.{Command}
-use Rattle.tau_command.specs.declared.commands.Command.TheVariants.{Run, Check, Audit, Report, Print, Gen, Drill, Why, Cut}
+use Rattle.tau_command.specs.declared.commands.Command.TheVariants.{Run, Check, Audit, Report, Print, Gen, Drill, Migrate, Why, Cut}
 use Rattle.tau_command.specs.Commands.{command_of}
 use Rattle.tau_output.specs.declared.outputs.End.{End}
 use Rattle.tau_output.specs.Faults.{input_limit, reads_input, IsInputFault}
@@ -20,6 +20,7 @@ IsEndOf Report status = status ≡ Done
 IsEndOf Print status = status ≡ Done
 IsEndOf (Gen number) status = status ≡ Done
 IsEndOf (Drill number) status = (status ≡ Done) ⊎ (status ≡ Stopped)
+IsEndOf Migrate status = (status ≡ Done) ⊎ ((place : ℕ) × (status ≡ Bad place))
 IsEndOf (Why place) status = (status ≡ Done) ⊎ (status ≡ Place place)
 IsEndOf Cut status = status ≡ Done
 

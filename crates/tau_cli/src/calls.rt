@@ -2,15 +2,18 @@
 ghost use Rattle.std.specs.Prelude.{◌≡◌, ◌<◌, ◌≤◌, false, IfOk, IfSome, IsErr, IsErrOf, IsTrue, length, vec_len};
 ghost use Rattle.tau_io.specs.Faults.{HasRisen};
 ghost use Rattle.tau_output.specs.Faults.{input_limit, reads_input as reads};
-ghost use Rattle.tau_output.specs.Writing.{WritesSerially};
-ghost use Rattle.tau_cli.specs.Ends.{Ends, Finds, effect_on};
+ghost use Rattle.tau_output.specs.Writing.{Writes, WritesSerially};
+ghost use Rattle.tau_cli.specs.Ends.{Ends, Asks, Tells, effect_on};
 ghost use Rattle.tau_cli.specs.Output.{AreLeft, IsTooLong};
 
 use crate::Status;
 use std::alloc::Global;
+use std::sync::Wait;
+use std::thread::Threads;
 use tau_command::{Command, Words, read_words};
 use tau_io::{ReadError, Sink, Source, WriteError, read_all, write_all_of};
-use tau_output::{INPUT_LIMIT, Output, output_of, reads_input};
+use tau_output::{INPUT_LIMIT, Output, Refusal, output_by_workers, output_of, reads_input};
+use tau_workers::Gate;
 
 /// Does what the words of a command line ask for: reads the input of their command, which is at most 16 MiB, and writes
 /// its text, in one call of `write_all_of`. It does all on the caller's thread, and starts no other.
@@ -22,6 +25,7 @@ use tau_output::{INPUT_LIMIT, Output, output_of, reads_input};
 /// where the whole text was written: with `run` the run text of the input's program and a legal run, which is complete
 /// with `Done`, and has exactly as many steps as its limit and isn't complete with `Stopped`; with `check` the line for the
 /// first step that isn't legal with `Bad`, and with `audit` the line for the first checkpoint that isn't safe with `Broken`; with
+/// `migrate` the run text of the same steps in version 2, where each is legal, and with `Bad` the line for the first that isn't; with
 /// `why` the first of the shortest chains to a cause, and with `cut` the greatest set of checkpoints that could all be kept.
 /// `WriteFault` comes only where the sink's count rose; the sink then holds a front of such a text more than before.
 /// `NoMemory` may come in place of each; nothing or a front of the text is written then. `gen` and `drill` read nothing,
@@ -36,27 +40,69 @@ pub fn tau_still<I: Source, O: Sink>(
     ensures { Ends WritesSerially words.now (effect_on I.left I.faults input.old input.new)
         (effect_on O.held O.faults output.old output.new) result }
 {
-    match output_for(alloc, words, input) {
+    match ask(alloc, words, input) {
+        Ok(asked) => tell(output_of(alloc, asked.command, &asked.bytes), output),
+        Err(status) => status,
+    }
+}
+
+/// Does what the words of a command line ask for, as [`tau_still`] does, but `run` with two workers or more starts a thread for each of
+/// them (docs/rules.md, "Workers"). It waits for them, so all is said of it if it returns. Of several workers' run it is said that it is a
+/// legal run of the input's program, and not which one. Each evaluation stands between a call of the gate's `enter` and one of its
+/// `leave`.
+pub fn tau<R: Threads + Wait + Sync, I: Source, O: Sink, G: Gate + Sync>(
+    rt: &R,
+    alloc: Global,
+    words: &Words,
+    input: &mut I,
+    output: &mut O,
+    gate: &G,
+) -> Status
+    // With `run` the text is as `RunsBy` says of as many workers as are told.
+    ensures { Ends Writes words.now (effect_on I.left I.faults input.old input.new)
+        (effect_on O.held O.faults output.old output.new) result }
+{
+    match ask(alloc, words, input) {
+        Ok(asked) => tell(
+            output_by_workers(rt, alloc, asked.command, &asked.bytes, gate),
+            output,
+        ),
+        Err(status) => status,
+    }
+}
+
+/// What the words of a command line ask for: a command, and the bytes of its input.
+#[derive(Drop)]
+struct Asked {
+    command: Command,
+    bytes: Vec<u8>,
+}
+
+/// What the words ask for, or the status with which they end before anything is written.
+fn ask<I: Source>(alloc: Global, words: &Words, input: &mut I) -> Result<Asked, Status>
+    ensures { Asks words.now (effect_on I.left I.faults input.old input.new) result }
+{
+    let command = read_words(alloc, words)?;
+    let bytes = read_input(alloc, &command, input)?;
+    Ok(Asked { command, bytes })
+}
+
+/// Writes an output, in one call of `write_all_of`, and nothing for a refusal.
+fn tell<O: Sink>(found: Result<Output, Refusal>, output: &mut O) -> Status
+    ensures { Tells found (effect_on O.held O.faults output.old output.new) result }
+{
+    match found {
         Ok(answer) => match write_all_of(output, &answer.text) {
             Ok(()) => Status::from(answer.end),
             Err(WriteError::WriteFault) => Status::WriteFault,
             Err(WriteError::NoMemory) => Status::NoMemory,
         },
-        Err(status) => status,
+        Err(refusal) => Status::from(refusal),
     }
 }
 
-/// What the words ask for, or the status with which they end before anything is written.
-fn output_for<I: Source>(alloc: Global, words: &Words, input: &mut I) -> Result<Output, Status>
-    ensures { Finds WritesSerially words.now (effect_on I.left I.faults input.old input.new) result }
-{
-    let command = read_words(alloc, words)?;
-    let bytes = read_input(alloc, &command, input)?;
-    Ok(output_of(alloc, command, &bytes)?)
-}
-
 /// The bytes of a command's input, at most 16 MiB; none where the command reads none.
-pub(crate) fn read_input<I: Source>(
+fn read_input<I: Source>(
     alloc: Global,
     command: &Command,
     input: &mut I,

@@ -4,11 +4,9 @@
 mod calls;
 mod process;
 mod statuses;
-mod together;
 
-pub use calls::tau_still;
+pub use calls::{tau, tau_still};
 pub use process::{exit_code, run_process, run_words};
 pub use statuses::{Status, number};
 pub use tau_command::{Command, Line, Words, WordsError, read_words};
 pub use tau_workers::{Gate, OpenGate};
-pub use together::tau;

@@ -24,7 +24,7 @@ pub enum Status {
         fault: u8,
         at: u64,
     },
-    /// The whole text was written, of a check: the step at this place is the first that isn't legal.
+    /// The whole text was written, of a check or a migration: the step at this place is the first that isn't legal.
     Bad {
         place: u32,
     },
@@ -146,7 +146,7 @@ impl fmt::Display for Status {
             Status::Done => Ok(()),
             Status::Stopped => f.write_str("tau: stopped at the step limit"),
             Status::Words => f.write_str(
-                "tau: usage: tau run|check|audit|report|print|gen N|drill N|why N|cut",
+                "tau: usage: tau run|check|audit|report|print|gen N|drill N|migrate|why N|cut",
             ),
             Status::Input { fault, at } => write!(f, "tau: input fault {fault} at {at}"),
             Status::Bad { .. } => f.write_str("tau: a step is not legal"),

@@ -17,7 +17,7 @@ use Rattle.tau_command.specs.Arguments.{tau_command}
 use Rattle.tau_command.specs.Commands.{command_allowed, command_matched, command_named, command_of, number_in, number_of, run_of, stands_amiss, where_faultless, IsInRange}
 use Rattle.tau_command.specs.declared.commands.Command.{Command}
 use Rattle.tau_command.specs.declared.commands.WordsError.{WordsError}
-use Rattle.tau_command.specs.declared.commands.Command.TheVariants.{Run, Check, Audit, Report, Print, Gen, Drill, Why, Cut}
+use Rattle.tau_command.specs.declared.commands.Command.TheVariants.{Run, Check, Audit, Report, Print, Gen, Drill, Migrate, Why, Cut}
 use Rattle.tau_command.proofs.NumberLemmas.{passed, passes}
 use Rattle.tau_command.proofs.PassingLemmas.{AllOwn, RowsPass, matches_pass, one_read}
 
@@ -114,18 +114,19 @@ why_in_range : (o : Option ℕ) (c : Command) → option_map (λ n. Why n) o ≡
 why_in_range None c e = absurd (cc)
 why_in_range (Some n) c e = let same : Why n ≡ c = cc in subst IsInRange same tt
 
-named_at : (runs checks audits reports prints gens drills whys cuts : Bool) (run : Option Command) (number : Option ℕ) (c : Command) → (run ≡ Some c → IsInRange c)
-    → cond runs run (cond checks (Some Check) (cond audits (Some Audit) (cond reports (Some Report) (cond prints (Some Print) (cond gens (option_map (λ n. Gen n) number) (cond drills (option_map (λ n. Drill n) number) (cond whys (option_map (λ n. Why n) number) (cond cuts (Some Cut) None)))))))) ≡ Some c → IsInRange c
-named_at true checks audits reports prints gens drills whys cuts run number c f e = f e
-named_at false true audits reports prints gens drills whys cuts run number c f e = let same : Check ≡ c = cc in subst IsInRange same tt
-named_at false false true reports prints gens drills whys cuts run number c f e = let same : Audit ≡ c = cc in subst IsInRange same tt
-named_at false false false true prints gens drills whys cuts run number c f e = let same : Report ≡ c = cc in subst IsInRange same tt
-named_at false false false false true gens drills whys cuts run number c f e = let same : Print ≡ c = cc in subst IsInRange same tt
-named_at false false false false false true drills whys cuts run number c f e = gen_in_range number c e
-named_at false false false false false false true whys cuts run number c f e = drill_in_range number c e
-named_at false false false false false false false true cuts run number c f e = why_in_range number c e
-named_at false false false false false false false false true run number c f e = let same : Cut ≡ c = cc in subst IsInRange same tt
-named_at false false false false false false false false false run number c f e = absurd (cc)
+named_at : (runs checks audits reports prints gens drills migrates whys cuts : Bool) (run : Option Command) (number : Option ℕ) (c : Command) → (run ≡ Some c → IsInRange c)
+    → cond runs run (cond checks (Some Check) (cond audits (Some Audit) (cond reports (Some Report) (cond prints (Some Print) (cond gens (option_map (λ n. Gen n) number) (cond drills (option_map (λ n. Drill n) number) (cond migrates (Some Migrate) (cond whys (option_map (λ n. Why n) number) (cond cuts (Some Cut) None))))))))) ≡ Some c → IsInRange c
+named_at true checks audits reports prints gens drills migrates whys cuts run number c f e = f e
+named_at false true audits reports prints gens drills migrates whys cuts run number c f e = let same : Check ≡ c = cc in subst IsInRange same tt
+named_at false false true reports prints gens drills migrates whys cuts run number c f e = let same : Audit ≡ c = cc in subst IsInRange same tt
+named_at false false false true prints gens drills migrates whys cuts run number c f e = let same : Report ≡ c = cc in subst IsInRange same tt
+named_at false false false false true gens drills migrates whys cuts run number c f e = let same : Print ≡ c = cc in subst IsInRange same tt
+named_at false false false false false true drills migrates whys cuts run number c f e = gen_in_range number c e
+named_at false false false false false false true migrates whys cuts run number c f e = drill_in_range number c e
+named_at false false false false false false false true whys cuts run number c f e = let same : Migrate ≡ c = cc in subst IsInRange same tt
+named_at false false false false false false false false true cuts run number c f e = why_in_range number c e
+named_at false false false false false false false false false true run number c f e = let same : Cut ≡ c = cc in subst IsInRange same tt
+named_at false false false false false false false false false false run number c f e = absurd (cc)
 
 allowed_at : (amiss : Bool) (o : Option Command) (c : Command) → (o ≡ Some c → IsInRange c) → cond amiss None o ≡ Some c → IsInRange c
 allowed_at true o c f e = absurd (cc)
@@ -136,7 +137,7 @@ matched_at words None c none e = absurd (cc)
 matched_at words (Some name) c none e =
     let rows = matches_of tau_command words in
     allowed_at (stands_amiss name rows) (command_named name rows) c
-    (named_at (bytes_eq name (codes "run")) (bytes_eq name (codes "check")) (bytes_eq name (codes "audit")) (bytes_eq name (codes "report")) (bytes_eq name (codes "print")) (bytes_eq name (codes "gen")) (bytes_eq name (codes "drill")) (bytes_eq name (codes "why")) (bytes_eq name (codes "cut"))
+    (named_at (bytes_eq name (codes "run")) (bytes_eq name (codes "check")) (bytes_eq name (codes "audit")) (bytes_eq name (codes "report")) (bytes_eq name (codes "print")) (bytes_eq name (codes "gen")) (bytes_eq name (codes "drill")) (bytes_eq name (codes "migrate")) (bytes_eq name (codes "why")) (bytes_eq name (codes "cut"))
     (run_of rows) (number_of 64 (codes "number") rows) c (run_in_range words c none)) e
 
 faultless_at : (kinds : Kinds) (o : Option Command) (c : Command) → (kinds ≡ [] → o ≡ Some c → IsInRange c) → where_faultless kinds o ≡ Some c → IsInRange c

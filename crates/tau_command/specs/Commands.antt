@@ -9,7 +9,7 @@ use Rattle.clap.specs.declared.parser.matches.ValueSource.{ValueSource}
 use Rattle.clap.specs.declared.parser.matches.ValueSource.TheVariants.{CommandLine}
 use Rattle.tau_command.specs.Arguments.{tau_command}
 use Rattle.tau_command.specs.declared.commands.Command.{Command}
-use Rattle.tau_command.specs.declared.commands.Command.TheVariants.{Run, Check, Audit, Report, Print, Gen, Drill, Why, Cut}
+use Rattle.tau_command.specs.declared.commands.Command.TheVariants.{Run, Check, Audit, Report, Print, Gen, Drill, Migrate, Why, Cut}
 
 -- ---- what the matches say
 
@@ -56,9 +56,10 @@ command_named name rows = if bytes_eq name (codes "run") then run_of rows
     else (if bytes_eq name (codes "print") then Some Print
     else (if bytes_eq name (codes "gen") then option_map (λ n. Gen n) (number_of 64 (codes "number") rows)
     else (if bytes_eq name (codes "drill") then option_map (λ n. Drill n) (number_of 64 (codes "number") rows)
+    else (if bytes_eq name (codes "migrate") then Some Migrate
     else (if bytes_eq name (codes "why") then option_map (λ n. Why n) (number_of 64 (codes "number") rows)
     else (if bytes_eq name (codes "cut") then Some Cut
-    else None))))))))
+    else None)))))))))
 
 -- a command with a number
 abbrev pub takes_number : Text → Bool

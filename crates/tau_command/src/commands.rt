@@ -44,6 +44,8 @@ pub enum Command {
         /// The number of the program, which is the seed too.
         number: u64,
     },
+    /// Writes the run text of the same steps in version 2, or tells the first step that isn't legal there.
+    Migrate,
     /// Tells the shortest chain to a cause of a Hold, a Drop or a Fall of a run text.
     Why {
         /// The place of the step.

@@ -51,6 +51,7 @@ fn command_named(name: &str, matches: &ArgMatches<'_>) -> Option<Command>
         "print" => Some(Command::Print),
         "gen" => long_number(matches, "number").map(|number| Command::Gen { number }),
         "drill" => long_number(matches, "number").map(|number| Command::Drill { number }),
+        "migrate" => Some(Command::Migrate),
         "why" => long_number(matches, "number").map(|place| Command::Why { place }),
         "cut" => Some(Command::Cut),
         _ => None,

@@ -1,5 +1,5 @@
 -- What forms at the top define, by their first word and their other items.
-use Rattle.std.proofs.Common.{◌≡◌, ℕ, ◌+◌, Bool, true, false, cond, List, [], ◌∷◌, ◌++◌, map, filter_map, Option, Some, None, refl, sym, ap, ap₂, subst, ◌∙◌}
+use Rattle.std.proofs.Common.{◌≡◌, ℕ, Bool, true, false, cond, List, [], ◌∷◌, ◌++◌, map, filter_map, Option, Some, None, refl, sym, ap, ap₂, subst, ◌∙◌}
 use Rattle.std.specs.List.{cons_option}
 use Rattle.std.specs.Option.{option_to_list}
 use Rattle.std.proofs.lemmas.List.Elements.{filter_map-append}
@@ -100,7 +100,7 @@ nothing_more (x ∷ xs) = ap (λ ys. x ∷ ys) (nothing_more xs)
 
 -- all forms
 abbrev pub built : Tables → Draft → PlainProgram
-built tb d = record { nodes = tb.nodes; behaviours = d.behaviours; starts = map plain_start d.starts; posts = map plain_post d.posts; script = d.script }
+built tb d = record { version = tb.version; nodes = tb.nodes; behaviours = d.behaviours; starts = map plain_start d.starts; posts = map plain_post d.posts; script = d.script }
 
 pub built_all : (tb : Tables) (ts : List Tree) (d : Draft) → tb ≡ tables_of ts → HasBuilt tb ts d → built tb d ≡ program_in ts
-built_all tb ts d e h = subst (λ t. HasBuilt t ts d → built t d ≡ program_in ts) (sym e) (λ k i. record { nodes = (tables_of ts).nodes; behaviours = k.behaviours i; starts = k.starts i; posts = k.posts i; script = k.script i }) h
+built_all tb ts d e h = subst (λ t. HasBuilt t ts d → built t d ≡ program_in ts) (sym e) (λ k i. record { version = (tables_of ts).version; nodes = (tables_of ts).nodes; behaviours = k.behaviours i; starts = k.starts i; posts = k.posts i; script = k.script i }) h

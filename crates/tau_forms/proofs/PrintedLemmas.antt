@@ -1,7 +1,8 @@
 -- The forms that expressions are printed as: item by item, how deep they are, and that none of their words is empty.
-use Rattle.std.proofs.Common.{◌≡◌, ℕ, ◌+◌, ◌<◌, List, [], ◌∷◌, ◌++◌, length, map, take, get_or, refl, ap, subst, append_assoc}
+use Rattle.std.proofs.Common.{◌≡◌, ◌≢◌, ℕ, ◌+◌, ◌<◌, ◌==◌, Bool, true, false, cond, List, [], ◌∷◌, ◌++◌, length, map, take, get_or, refl, sym, ap, subst, ◌∙◌, append_assoc}
 use Rattle.std.specs.List.{All}
-use Rattle.std.proofs.lemmas.List.{map_more}
+use Rattle.std.proofs.lemmas.Bool.Decides.{Decides-eqb}
+use Rattle.std.proofs.lemmas.List.{append-nil, map_more}
 use Rattle.std.proofs.lemmas.List.Elements.{All-map}
 use Rattle.tau_sexpr.specs.Tree.{Tree, more, inside}
 use Rattle.tau_tree.specs.Code.{Code}
@@ -15,7 +16,7 @@ use Rattle.tau_tree.specs.declared.programs.Program.{Program}
 use Rattle.tau_tree.specs.declared.starts.Start.{Start}
 use Rattle.tau_value.specs.Value.{val_of}
 use Rattle.tau_forms.specs.Inner.Fitting.{HasFittingInteger, HasFittingNumbers, IsWritten, IsFitting}
-use Rattle.tau_forms.specs.Printed.{code_form, code_forms}
+use Rattle.tau_forms.specs.Printed.{code_form, code_forms, version_form, version_forms}
 
 pub code_forms-inside : (bs ss : List (List ℕ)) (cs : List Code) → code_forms bs ss (code.inside cs) ≡ inside (map (code_form bs ss) cs)
 code_forms-inside bs ss [] = refl
@@ -37,3 +38,16 @@ fitting_from p names bs ss qs es en eb es' eq ee hb hs hq he = record {
   posts = subst (λ ns. All (λ q. IsWritten ns (val_of q.value)) p.posts) en (subst (All (λ q. IsWritten names (val_of q.value))) eq hq);
   entries = subst (All HasFittingNumbers) ee he;
 }
+
+-- the form of a version, if it has one
+pub no_version : (fs : List Tree) (v : ℕ) → v ≢ 2 → fs ≡ fs ++ version_forms v
+no_version fs v h = by (v == 2) (λ e. h ((Decides-eqb v 2).0 e))
+  where
+    by : (b : Bool) → (b ≡ true → ⊥) → fs ≡ fs ++ cond b (version_form v ∷ []) []
+    by true k = absurd (k refl)
+    by false k = sym (append-nil fs)
+
+pub one_version : (fs gs : List Tree) (v : ℕ) (t : Tree) → v ≡ 2 → t ≡ version_form v → gs ≡ fs ++ t ∷ [] → gs ≡ fs ++ version_forms v
+one_version fs gs v t e is after =
+    let two : (v == 2) ≡ true = (Decides-eqb v 2).1 e in
+    after ∙ ap (λ x. fs ++ x ∷ []) is ∙ sym (ap (λ b. fs ++ cond b (version_form v ∷ []) []) two)

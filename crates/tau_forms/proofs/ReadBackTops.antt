@@ -1,29 +1,29 @@
 -- The lists at the top that a program is printed as: what they define, and that they have no fault.
-use Rattle.std.proofs.Common.{◌≡◌, ◌≢◌, ℕ, ◌+◌, ◌^◌, ◌<◌, ◌≤◌, Bool, true, false, cond, List, [], ◌∷◌, ◌++◌, length, map, get_or, zero, suc, Option, Some, None, is_some, refl, sym, ap, ap₂, subst, ◌∙◌, append_assoc, arith, codes}
+use Rattle.std.proofs.Common.{◌≡◌, ℕ, ◌+◌, ◌^◌, ◌<◌, ◌≤◌, ◌==◌, Bool, true, false, cond, List, [], ◌∷◌, ◌++◌, length, map, Option, Some, None, is_some, refl, sym, ap, subst, ◌∙◌, append_assoc, arith, codes}
 use Rattle.std.specs.Fmt.{decimal}
 use Rattle.std.specs.List.{All, filter, filter_map, cons_option}
 use Rattle.std.proofs.lemmas.List.{append-nil, length-append}
 use Rattle.std.proofs.lemmas.List.Elements.{All-head, All-tail, filter-append}
-use Rattle.std.proofs.lemmas.Bool.{false_from_ne_true}
-use Rattle.tau_sexpr.specs.Tree.{Tree, Trees, word, list, none, more, inside, headed}
+use Rattle.std.proofs.lemmas.Bool.Decides.{Decides-eqb}
+use Rattle.tau_sexpr.specs.Tree.{Tree, word, none, more, inside, headed}
 use Rattle.tau_value.specs.Names.{IsName, AreNames}
 use Rattle.tau_value.specs.Value.{val_of}
 use Rattle.tau_value.specs.Written.{written, count_form}
 use Rattle.tau_value.specs.Meaning as values
 use Rattle.tau_tree.specs.Behaviour.{NamedCode}
-use Rattle.tau_tree.specs.Sound.{FailsBelow}
+use Rattle.tau_tree.specs.Sound.{IsSoundFailure}
 use Rattle.tau_tree.specs.declared.entries.Entry.{Entry}
 use Rattle.tau_tree.specs.declared.entries.Failure.{Failure}
-use Rattle.tau_tree.specs.declared.entries.Failure.TheVariants.{Fail, Lose}
+use Rattle.tau_tree.specs.declared.entries.Failure.TheVariants.{Fail, Lose, Repeat}
 use Rattle.tau_tree.specs.declared.posts.Post.{Post}
 use Rattle.tau_tree.specs.declared.starts.Start.{Start}
 use Rattle.tau_forms.specs.declared.keywords.Sort.{Sort}
 use Rattle.tau_forms.specs.declared.tables.Tables.{Tables}
 use Rattle.tau_forms.specs.Inner.Fitting.{HasFittingNumbers, HasFittingMessage}
-use Rattle.tau_forms.specs.Tops.{sort_of, is_behaviour, is_start, has, named_by, with_name, defined_after, is_count_in, nodes_in, nodes_of, behaviours_of, starts_of, count_of}
-use Rattle.tau_forms.specs.Roles.{Role, top, first, mark, known, fresh, count, failure, value, expression, with_first, top_first, top_items, row}
-use Rattle.tau_forms.specs.Faults.{Fault, shape, unless, FaultAt, FaultIn, here, later, IsClean, tops_after}
-use Rattle.tau_forms.specs.Printed.{name_of, code_form, behaviour_form, start_form, post_form, failure_form, entry_form}
+use Rattle.tau_forms.specs.Tops.{sort_of, has, named_by, with_name, defined_after, nodes_in, nodes_of, version_in, version_of, behaviours_of, starts_of, count_of}
+use Rattle.tau_forms.specs.Roles.{Role, top, first, mark, known, fresh, count, failure, value, expression, with_first, top_first, row}
+use Rattle.tau_forms.specs.Faults.{shape, unless, FaultAt, FaultIn, here, later, IsClean, tops_after}
+use Rattle.tau_forms.specs.Printed.{name_of, code_form, version_form, behaviour_form, start_form, post_form, failure_form, entry_form}
 use Rattle.tau_forms.proofs.ReadBackExpressions.{clean_fresh, clean_name_of}
 use Rattle.tau_forms.proofs.ReadBackFaults.{clean_word, clean_list, clean_none, clean_more, clean_first, clean_value}
 use Rattle.tau_forms.proofs.ReadBackWords.{is_count_in-decimal, IsNameAt}
@@ -102,14 +102,24 @@ module _ (tb : Tables) (behaviours_are : AreNames tb.behaviours) (starts_are : A
   clean_count low end n le lt small =
       clean_word tb (count low end) (decimal n) (λ q. cc) (ap (λ b. unless b shape) (is_count_in-decimal low end n le lt small))
 
-  -- (nodes K), which comes first
-  pub nodes_clean : (n : ℕ) → 0 < n → n ≤ 64 → nodes_in (headed (codes "nodes") (count_form n ∷ [])) ≡ Some n → IsClean (FaultAt tb (top []) (headed (codes "nodes") (count_form n ∷ [])))
-  nodes_clean n some few is =
+  -- (version K), which comes first
+  pub version_clean : (n : ℕ) → 1 ≤ n → n ≤ 2 → version_in (version_form n) ≡ Some n → IsClean (FaultAt tb (top []) (version_form n))
+  version_clean n some few is =
+      let t = version_form n in
+      let ts = more (word (codes "version")) (more (count_form n) none) in
+      let begins : top_first [] t ≡ mark false = ap (λ o. cond (is_some o) (mark false) first) is in
+      let listed : row tb (top []) ts ≡ Some (mark false ∷ count 1 3 ∷ []) = ap (λ r. Some (r ∷ count 1 3 ∷ [])) begins in
+      clean_list tb (top []) ts (mark false ∷ count 1 3 ∷ []) (λ q. cc) listed (clean_more tb (mark false) (count 1 3 ∷ []) (word (codes "version")) (more (count_form n) none) (clean_word tb (mark false) (codes "version") (λ q. cc) refl) (clean_more tb (count 1 3) [] (count_form n) none (clean_count 1 3 n some (omega arith) (omega arith)) (clean_none tb)))
+
+  -- (nodes K), after forms without a number of nodes
+  pub nodes_clean : (before : List Tree) (n : ℕ) → nodes_of before ≡ None → 0 < n → n ≤ 64 → nodes_in (headed (codes "nodes") (count_form n ∷ [])) ≡ Some n → IsClean (FaultAt tb (top before) (headed (codes "nodes") (count_form n ∷ [])))
+  nodes_clean before n new some few is =
       let t = headed (codes "nodes") (count_form n ∷ []) in
       let ts = more (word (codes "nodes")) (more (count_form n) none) in
-      let begins : top_first [] t ≡ mark false = ap (λ o. cond (is_some o) (mark false) first) is in
-      let listed : row tb (top []) ts ≡ Some (mark false ∷ count 1 65 ∷ []) = ap (λ r. Some (r ∷ count 1 65 ∷ [])) begins in
-      clean_list tb (top []) ts (mark false ∷ count 1 65 ∷ []) (λ q. cc) listed (clean_more tb (mark false) (count 1 65 ∷ []) (word (codes "nodes")) (more (count_form n) none) (clean_word tb (mark false) (codes "nodes") (λ q. cc) refl) (clean_more tb (count 1 65) [] (count_form n) none (clean_count 1 65 n (omega arith) (omega arith) (omega arith)) (clean_none tb)))
+      let other : Role = cond (is_some (version_in t)) (mark (is_some (version_of before))) first in
+      let begins : top_first before t ≡ mark false = ap (λ o. cond (is_some o) (mark (is_some (nodes_of before))) other) is ∙ ap (λ o. mark (is_some o)) new in
+      let listed : row tb (top before) ts ≡ Some (mark false ∷ count 1 65 ∷ []) = ap (λ r. Some (r ∷ count 1 65 ∷ [])) begins in
+      clean_list tb (top before) ts (mark false ∷ count 1 65 ∷ []) (λ q. cc) listed (clean_more tb (mark false) (count 1 65 ∷ []) (word (codes "nodes")) (more (count_form n) none) (clean_word tb (mark false) (codes "nodes") (λ q. cc) refl) (clean_more tb (count 1 65) [] (count_form n) none (clean_count 1 65 n (omega arith) (omega arith) (omega arith)) (clean_none tb)))
 
   -- a behaviour
   pub behaviour_clean : (b : NamedCode) (before : List Tree) → IsName b.name → has (behaviours_of before) b.name ≡ false → IsClean (FaultAt tb (expression []) (code_form tb.behaviours tb.starts b.body)) → IsClean (FaultAt tb (top before) (behaviour_form tb.behaviours tb.starts b))
@@ -137,15 +147,20 @@ module _ (tb : Tables) (behaviours_are : AreNames tb.behaviours) (starts_are : A
       clean_list tb (top before) (more (word (codes "post")) (more s (more v none))) (first ∷ rs) (λ e. cc) refl (clean_more tb first rs (word (codes "post")) (more s (more v none)) (clean_first tb (codes "post")) (clean_more tb (known tb.starts) (value ∷ []) s (more v none) (clean_name_of tb behaviours_are starts_are tb.starts q.to to) (clean_more tb value [] v none (clean_value tb v (val_of q.value) means) (clean_none tb))))
 
   -- a script entry
-  failure_clean : (f : Failure) → FailsBelow tb.nodes f → tb.nodes ≤ 64 → HasFittingMessage f → IsClean (FaultAt tb failure (failure_form f))
+  failure_clean : (f : Failure) → IsSoundFailure tb.nodes tb.version f → tb.nodes ≤ 64 → HasFittingMessage f → IsClean (FaultAt tb failure (failure_form f))
   failure_clean (Fail n) below few fits =
       let small : n < tb.nodes = below in
       clean_list tb failure (more (word (codes "fail")) (more (count_form n) none)) (first ∷ count 0 tb.nodes ∷ []) (λ q. cc) refl (clean_more tb first (count 0 tb.nodes ∷ []) (word (codes "fail")) (more (count_form n) none) (clean_first tb (codes "fail")) (clean_more tb (count 0 tb.nodes) [] (count_form n) none (clean_count 0 tb.nodes n (omega arith) below (omega arith)) (clean_none tb)))
   failure_clean (Lose m) below few fits =
       let small : m < 2 ^ 32 = fits in
       clean_list tb failure (more (word (codes "lose")) (more (count_form m) none)) (first ∷ count 0 (2 ^ 32) ∷ []) (λ q. cc) refl (clean_more tb first (count 0 (2 ^ 32) ∷ []) (word (codes "lose")) (more (count_form m) none) (clean_first tb (codes "lose")) (clean_more tb (count 0 (2 ^ 32)) [] (count_form m) none (clean_count 0 (2 ^ 32) m (omega arith) fits (omega arith)) (clean_none tb)))
+  failure_clean (Repeat m) below few fits =
+      let small : m < 2 ^ 32 = fits in
+      let two : (tb.version == 2) ≡ true = (Decides-eqb tb.version 2).1 below in
+      let listed : row tb failure (more (word (codes "repeat")) (more (count_form m) none)) ≡ Some (first ∷ count 0 (2 ^ 32) ∷ []) = ap (λ b. with_first first (cond b (Some (count 0 (2 ^ 32) ∷ [])) None)) two in
+      clean_list tb failure (more (word (codes "repeat")) (more (count_form m) none)) (first ∷ count 0 (2 ^ 32) ∷ []) (λ q. cc) listed (clean_more tb first (count 0 (2 ^ 32) ∷ []) (word (codes "repeat")) (more (count_form m) none) (clean_first tb (codes "repeat")) (clean_more tb (count 0 (2 ^ 32)) [] (count_form m) none (clean_count 0 (2 ^ 32) m (omega arith) fits (omega arith)) (clean_none tb)))
 
-  pub entry_clean : (e : Entry) (before : List Tree) → FailsBelow tb.nodes e.failure → tb.nodes ≤ 64 → HasFittingNumbers e → IsClean (FaultAt tb (top before) (entry_form e))
+  pub entry_clean : (e : Entry) (before : List Tree) → IsSoundFailure tb.nodes tb.version e.failure → tb.nodes ≤ 64 → HasFittingNumbers e → IsClean (FaultAt tb (top before) (entry_form e))
   entry_clean e before below few fits =
       let place = fits.place in
       let f = failure_form e.failure in

@@ -36,12 +36,13 @@ post_inj q r e =
 
 program_inj : (p q : Program) → plain_of p ≡ plain_of q → p ≡ q
 program_inj p q e =
+    let version : p.version ≡ q.version = ap (λ (x : PlainProgram). x.version) e in
     let nodes : p.nodes ≡ q.nodes = ap (λ (x : PlainProgram). x.nodes) e in
     let behaviours : p.behaviours ≡ q.behaviours = ap (λ (x : PlainProgram). x.behaviours) e in
     let starts : p.starts ≡ q.starts = map_inj plain_start start_inj p.starts q.starts (ap (λ (x : PlainProgram). x.starts) e) in
     let posts : p.posts ≡ q.posts = map_inj plain_post post_inj p.posts q.posts (ap (λ (x : PlainProgram). x.posts) e) in
     let script : p.script ≡ q.script = ap (λ (x : PlainProgram). x.script) e in
-    λ i. record { nodes = nodes i; behaviours = behaviours i; starts = starts i; posts = posts i; script = script i }
+    λ i. record { version = version i; nodes = nodes i; behaviours = behaviours i; starts = starts i; posts = posts i; script = script i }
 
 pub one_program : (ts : List Tree) (p q : Program) → Means ts p → Means ts q → p ≡ q
 one_program ts p q mp mq = program_inj p q (mp.is ∙ sym mq.is)

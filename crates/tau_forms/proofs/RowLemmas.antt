@@ -1,6 +1,8 @@
 -- What is wanted of the items of lists.
-use Rattle.std.proofs.Common.{◌≡◌, ◌≢◌, ℕ, ◌+◌, ◌≤◌, Bool, true, false, cond, List, [], ◌∷◌, ◌++◌, length, get_or, take, drop, map, Some, None, zero, suc, refl, sym, ap, subst, ◌∙◌, add-one, arith}
+use Rattle.std.proofs.Common.{◌≡◌, ◌≢◌, ℕ, ◌+◌, ◌≤◌, ◌^◌, ◌==◌, Bool, true, false, cond, List, [], ◌∷◌, ◌++◌, length, get_or, take, drop, map, Option, Some, None, zero, suc, refl, sym, ap, subst, ◌∙◌, add-one, arith}
 use Rattle.std.proofs.Math.Seq.{drop-nil}
+use Rattle.std.specs.Prelude.{option_map}
+use Rattle.std.proofs.lemmas.Bool.Decides.{Decides-eqb}
 use Rattle.tau_sexpr.specs.Form.{tree_of}
 use Rattle.tau_sexpr.specs.Tree.{Tree, Trees, word, none, more, inside}
 use Rattle.tau_sexpr.specs.declared.trees.Form.{Form}
@@ -8,11 +10,12 @@ use Rattle.tau_forms.specs.declared.keywords.FailureWord.{FailureWord}
 use Rattle.tau_forms.specs.declared.keywords.FailureWord.TheVariants as failures
 use Rattle.tau_forms.specs.declared.keywords.Keyword.{Keyword}
 use Rattle.tau_forms.specs.declared.keywords.Keyword.TheVariants as keywords
+use Rattle.tau_forms.specs.declared.rows.Row.{Row}
 use Rattle.tau_forms.specs.declared.tables.Tables.{Tables}
 use Rattle.tau_forms.specs.declared.wanted.Wanted.{Wanted}
 use Rattle.tau_forms.specs.declared.wanted.Wanted.TheVariants as wanteds
 use Rattle.tau_forms.specs.Keywords.{keyword_in, failure_in}
-use Rattle.tau_forms.specs.Inner.Passing.{roles_along, bound_by}
+use Rattle.tau_forms.specs.Inner.Passing.{roles_along, roles_of, bound_by}
 use Rattle.tau_forms.specs.Roles.{Role, first, known, fresh, count, failure, value, expression, two_names, row, every, count_of, word_of, words_of, with_first, failure_items, has_items, expression_items, parts_of}
 use Rattle.tau_forms.specs.Inner.Wanted.{role_of}
 
@@ -34,6 +37,9 @@ failure_long tb failures.Fail (more t (more u us)) h = refl
 failure_long tb failures.Lose none h = refl
 failure_long tb failures.Lose (more t none) h = absurd (h refl)
 failure_long tb failures.Lose (more t (more u us)) h = refl
+failure_long tb failures.Repeat none h = refl
+failure_long tb failures.Repeat (more t none) h = absurd (h refl)
+failure_long tb failures.Repeat (more t (more u us)) h = refl
 failure_long tb failures.Other ts h = refl
 
 -- a list with one item
@@ -133,6 +139,29 @@ roles_of_failure tb ts us h f rs end e n d items is =
     let one = one_item us n in
     let whole : ts ≡ more (word h) (more one.0 none) = e ∙ ap (more (word h)) one.1 in
     ap Some (is (word h) one.0 whole) ∙ sym (ap (row tb failure) whole ∙ ap (λ g. with_first first (failure_items tb g (more one.0 none))) (sym d) ∙ ap (with_first first) (items one.0))
+
+-- a message is repeated in version 2 alone
+pub not_two : {X : Type 0} (v : ℕ) (x : X) → v ≢ 2 → None ≡ cond (v == 2) (Some x) None
+not_two {X} v x h = by (v == 2) (λ e. h ((Decides-eqb v 2).0 e))
+  where
+    by : (b : Bool) → (b ≡ true → ⊥) → let n : Option X = None in n ≡ cond b (Some x) None
+    by true k = absurd (k refl)
+    by false k = refl
+
+pub when_two : {X : Type 0} (v : ℕ) (x y : X) → v ≡ 2 → x ≡ y → Some x ≡ cond (v == 2) (Some y) None
+when_two v x y e f =
+    let two : (v == 2) ≡ true = (Decides-eqb v 2).1 e in
+    ap Some f ∙ sym (ap (λ b. cond b (Some y) None) two)
+
+repeat_first : (b : Bool) (rs : List Role) → cond b (Some (first ∷ rs)) None ≡ with_first first (cond b (Some rs) None)
+repeat_first true rs = refl
+repeat_first false rs = refl
+
+pub roles_of_repeat : (tb : Tables) (ts us : Trees) (h : List ℕ) (f : FailureWord) (o : Option Row) → ts ≡ more (word h) us → count_of us ≡ 1 → f ≡ failure_in h → f ≡ failures.Repeat → ((t u : Tree) → option_map (λ w. roles_of w (more t (more u none))) o ≡ cond (tb.version == 2) (Some (first ∷ count 0 (2 ^ 32) ∷ [])) None) → option_map (λ w. roles_of w ts) o ≡ row tb failure ts
+roles_of_repeat tb ts us h f o e n d is rows =
+    let one = one_item us n in
+    let whole : ts ≡ more (word h) (more one.0 none) = e ∙ ap (more (word h)) one.1 in
+    ap (λ q. option_map (λ w. roles_of w q) o) whole ∙ rows (word h) one.0 ∙ repeat_first (tb.version == 2) (count 0 (2 ^ 32) ∷ []) ∙ sym (ap (row tb failure) whole ∙ ap (λ j. with_first first (failure_items tb j (more one.0 none))) (sym d ∙ is))
 
 -- the rows of expressions by keyword
 pub row_of_name : (tb : Tables) (scope : List (List ℕ)) (k : Keyword) (p : Wanted) (ts : Trees) → k ≡ keywords.Name → role_of p ≡ known tb.starts → first ∷ roles_along (p ∷ p ∷ p ∷ []) p ts ≡ first ∷ parts_of tb scope k ts

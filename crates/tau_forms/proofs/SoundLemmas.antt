@@ -1,6 +1,6 @@
 -- A program that forms mean is sound.
-use Rattle.std.proofs.Common.{◌≡◌, ◌≢◌, ℕ, ◌+◌, ◌<◌, ◌≤◌, Bool, true, false, cond, ◌&&◌, nat_le, nat_lt, List, [], ◌∷◌, ◌++◌, length, map, get_or, Option, Some, None, unwrap_or, refl, sym, ap, subst, ◌∙◌, append_assoc, arith}
-use Rattle.std.specs.List.{All, AllPairs, filter, filter_map, cons_option}
+use Rattle.std.proofs.Common.{◌≡◌, ◌≢◌, ℕ, ◌<◌, ◌≤◌, Bool, true, false, cond, ◌&&◌, nat_le, nat_lt, List, [], ◌∷◌, ◌++◌, length, map, get_or, Option, Some, None, unwrap_or, refl, sym, ap, subst, ◌∙◌, append_assoc, arith}
+use Rattle.std.specs.List.{All, AllPairs, filter, filter_map, cons_option, list_any}
 use Rattle.std.specs.Option.{IfSome, option_or, option_map_or}
 use Rattle.std.proofs.lemmas.Bool.{ltb-false, ltb-true, leb-true, and_parts}
 use Rattle.std.proofs.lemmas.List.{append-nil, length-map}
@@ -11,15 +11,13 @@ use Rattle.tau_value.specs.Numbers.{count_in}
 use Rattle.tau_value.specs.Sizes.{NamesBelow}
 use Rattle.tau_value.specs.Value.{val_of}
 use Rattle.tau_tree.specs.Behaviour.{NamedCode}
-use Rattle.tau_tree.specs.Checks.{IsSoundBehaviour, IsSoundStart, IsSoundPost}
-use Rattle.tau_tree.specs.Sound.{Sound, FailsBelow}
-use Rattle.tau_tree.specs.declared.entries.Entry.{Entry}
+use Rattle.tau_tree.specs.Checks.{IsSoundBehaviour}
+use Rattle.tau_tree.specs.Sound.{Sound, IsSoundFailure}
 use Rattle.tau_tree.specs.declared.programs.Program.{Program}
 use Rattle.tau_tree.specs.declared.starts.Start.{Start}
 use Rattle.tau_tree.proofs.SoundLemmas.{All-unmap, sound_from_checks}
 use Rattle.tau_forms.specs.declared.tables.Tables.{Tables}
-use Rattle.tau_forms.specs.declared.keywords.Sort.{Sort}
-use Rattle.tau_forms.specs.Tops.{sort_of, is_nodes, is_behaviour, is_start, is_post, is_entry, is_count_in, named_by, with_name, defined_after, behaviours_of, starts_of, nodes_in, nodes_of, tables_of, count_of, limit_of}
+use Rattle.tau_forms.specs.Tops.{sort_of, is_nodes, is_behaviour, is_start, is_post, is_entry, is_count_in, named_by, with_name, defined_after, behaviours_of, starts_of, nodes_in, nodes_of, is_second, version_told, tables_of, count_of}
 use Rattle.tau_forms.specs.Keywords.{sort_in}
 use Rattle.tau_forms.specs.Roles.{top}
 use Rattle.tau_forms.specs.Faults.{FaultIn, tops_after, in_top, IsClean}
@@ -50,7 +48,7 @@ module _ (tb : Tables) where
     behaviours : All (IsSoundBehaviour (length tb.starts) (length tb.behaviours)) (filter_map (behaviour_in tb) ts)
     starts : All (IsSoundPlainStart tb) (filter_map (start_in tb) ts)
     posts : All (IsSoundPlainPost tb) (filter_map (post_in tb) ts)
-    entries : All (λ e. FailsBelow tb.nodes e.failure) (filter_map entry_in ts)
+    entries : All (λ e. IsSoundFailure tb.nodes tb.version e.failure) (filter_map entry_in ts)
     behaviour_names : defined_after is_behaviour (behaviours_of before) ts ≡ behaviours_of before ++ map (λ b. b.name) (filter_map (behaviour_in tb) ts)
     start_names : defined_after is_start (starts_of before) ts ≡ starts_of before ++ map (λ s. s.name) (filter_map (start_in tb) ts)
 
@@ -67,7 +65,7 @@ module _ (tb : Tables) where
     behaviours = All-nil (IsSoundBehaviour (length tb.starts) (length tb.behaviours));
     starts = All-nil (IsSoundPlainStart tb);
     posts = All-nil (IsSoundPlainPost tb);
-    entries = All-nil (λ e. FailsBelow tb.nodes e.failure);
+    entries = All-nil (λ e. IsSoundFailure tb.nodes tb.version e.failure);
     behaviour_names = sym (append-nil (behaviours_of before));
     start_names = sym (append-nil (starts_of before));
   }
@@ -82,7 +80,7 @@ module _ (tb : Tables) where
         behaviours = all_option (IsSoundBehaviour (length tb.starts) (length tb.behaviours)) (behaviour_in tb t) bs (behaviour_sound tb before t one (omega arith)) rest.behaviours;
         starts = all_option (IsSoundPlainStart tb) (start_in tb t) ss (start_sound tb before t one) rest.starts;
         posts = all_option (IsSoundPlainPost tb) (post_in tb t) (filter_map (post_in tb) ts) (post_sound tb before t one) rest.posts;
-        entries = all_option (λ e. FailsBelow tb.nodes e.failure) (entry_in t) (filter_map entry_in ts) (entry_sound tb before t one) rest.entries;
+        entries = all_option (λ e. IsSoundFailure tb.nodes tb.version e.failure) (entry_in t) (filter_map entry_in ts) (entry_sound tb before t one) rest.entries;
         behaviour_names =
             ap (λ w. defined_after is_behaviour w ts) (sym more_behaviours) ∙ rest.behaviour_names ∙ ap (λ w. w ++ map (λ b. b.name) bs) (more_behaviours ∙ behaviour_named tb before t one) ∙ behaviours_joined before (behaviour_in tb t) bs;
         start_names =
@@ -145,6 +143,11 @@ nodes_or : (o : Option ℕ) → AreNodes o → IsNodes (unwrap_or o 64)
 nodes_or (Some n) h = h
 nodes_or None h = record { some = omega arith; few = omega arith }
 
+-- a version is 1 or 2
+version_is : (b : Bool) → (1 ≤ cond b 2 1) × (cond b 2 1 ≤ 2)
+version_is true = (omega arith, omega arith)
+version_is false = (omega arith, omega arith)
+
 names_of-plain : (ss : List Start) → map (λ s. s.name) (map plain_start ss) ≡ map (λ s. s.name) ss
 names_of-plain [] = refl
 names_of-plain (s ∷ ss) = ap (λ ns. s.name ∷ ns) (names_of-plain ss)
@@ -157,6 +160,8 @@ sound_of ts p deep means =
     let starts : map plain_start p.starts ≡ filter_map (start_in tb) ts = ap (λ r. r.starts) means.is in
     let posts : map plain_post p.posts ≡ filter_map (post_in tb) ts = ap (λ r. r.posts) means.is in
     let script : p.script ≡ filter_map entry_in ts = ap (λ r. r.script) means.is in
+    let version : p.version ≡ version_told ts = ap (λ r. r.version) means.is in
+    let versions = version_is (list_any is_second ts) in
     let nodes : p.nodes ≡ tb.nodes = ap (λ r. r.nodes) means.is in
     let are_nodes : IsNodes tb.nodes = nodes_or (nodes_of ts) (nodes_of-are ts) in
     let limits = few (count_of is_behaviour ts) (count_of is_start ts) (count_of is_post ts) (count_of is_entry ts) means.limits in
@@ -175,8 +180,11 @@ sound_of ts p deep means =
     let behaviours_are : AreNames tb.behaviours = defined_are is_behaviour [] ts no_names in
     let starts_are : AreNames tb.starts = defined_are is_start [] ts no_names in
     let F : ℕ → ℕ → Type 0 = λ n m. All (IsSoundBehaviour n m) p.behaviours in
+    let G : ℕ → ℕ → Type 0 = λ n v. All (λ e. IsSoundFailure n v e.failure) p.script in
     sound_from_checks p (record {
       limits = record {
+        some_version = subst (λ v. 1 ≤ v) (sym version) versions.0;
+        version = subst (λ v. v ≤ 2) (sym version) versions.1;
         some_nodes = omega (arith, nodes, are_nodes.some);
         nodes = omega (arith, nodes, are_nodes.few);
         behaviours = omega (arith, ap length behaviours, few_behaviours, limits.behaviours);
@@ -189,7 +197,7 @@ sound_of ts p deep means =
         names = subst (λ n. NamesBelow n (val_of (get_or p.posts k d).value)) start_number q.value.names;
         bounded = q.value.bounded;
       };
-      entries = subst (λ n. All (λ e. FailsBelow n e.failure) p.script) (sym nodes) (subst (All (λ e. FailsBelow tb.nodes e.failure)) (sym script) all.entries);
+      entries = subst (λ n. G n p.version) (sym nodes) (subst (λ v. G tb.nodes v) (sym version) (subst (All (λ e. IsSoundFailure tb.nodes tb.version e.failure)) (sym script) all.entries));
       starts = λ k d lt. let s = each_start k d lt in record {
         named = s.named;
         behaviour = omega (arith, s.behaviour, behaviour_number);

@@ -1,7 +1,8 @@
 -- What a list at the top without a fault gives to a program.
-use Rattle.std.proofs.Common.{◌≡◌, ℕ, ◌+◌, ◌^◌, ◌<◌, ◌≤◌, Bool, true, false, cond, ◌&&◌, nat_le, nat_lt, List, [], ◌∷◌, ◌++◌, length, Option, Some, None, is_some, unwrap_or, refl, sym, ap, subst, ◌∙◌, arith}
+use Rattle.std.proofs.Common.{◌≡◌, ℕ, ◌^◌, ◌<◌, ◌≤◌, ◌==◌, Bool, true, false, cond, ◌&&◌, nat_le, nat_lt, List, [], ◌∷◌, ◌++◌, length, Option, Some, None, is_some, unwrap_or, refl, sym, ap, subst, ◌∙◌, arith}
 use Rattle.std.specs.Option.{option_map_or, IfSome}
 use Rattle.std.proofs.lemmas.Bool.{false≢true, ltb-true, and_parts}
+use Rattle.std.proofs.lemmas.Bool.Decides.{Decides-eqb}
 use Rattle.tau_sexpr.specs.Tree.{Tree, Trees, word, text, list, none, more, depth_of}
 use Rattle.tau_value.specs.Val.{Val}
 use Rattle.tau_value.specs.Names.{IsName}
@@ -12,7 +13,7 @@ use Rattle.tau_value.specs.Meaning as values
 use Rattle.tau_value.proofs.MeaningLemmas.{counted-names_below, bounded_from}
 use Rattle.tau_tree.specs.Behaviour.{NamedCode}
 use Rattle.tau_tree.specs.Checks.{IsSoundBehaviour}
-use Rattle.tau_tree.specs.Sound.{FailsBelow}
+use Rattle.tau_tree.specs.Sound.{IsSoundFailure}
 use Rattle.tau_tree.specs.declared.entries.Failure.{Failure}
 use Rattle.tau_forms.specs.declared.keywords.FailureWord.{FailureWord}
 use Rattle.tau_forms.specs.declared.keywords.FailureWord.TheVariants as failures
@@ -209,7 +210,7 @@ module _ (tb : Tables) where
     post_sound t clean = tt
 
     -- a script entry
-    fail_below : (g n : List ℕ) (j : FailureWord) → failure_in g ≡ j → IsClean (FaultAt tb failure (list (more (word g) (more (word n) none)))) → IfSome (failure_of j (count_of n)) (FailsBelow tb.nodes)
+    fail_below : (g n : List ℕ) (j : FailureWord) → failure_in g ≡ j → IsClean (FaultAt tb failure (list (more (word g) (more (word n) none)))) → IfSome (failure_of j (count_of n)) (IsSoundFailure tb.nodes tb.version)
     fail_below g n failures.Fail e clean =
         let is : row tb failure (more (word g) (more (word n) none)) ≡ Some (first ∷ count 0 tb.nodes ∷ []) = ap (λ j. with_first first (failure_items tb j (more (word n) none))) e in
         let items = tail_clean tb first (count 0 tb.nodes ∷ []) (word g) (more (word n) none) (items_clean tb failure (more (word g) (more (word n) none)) (first ∷ count 0 tb.nodes ∷ []) is clean) in
@@ -217,23 +218,31 @@ module _ (tb : Tables) where
         let same : number.digits ≡ n = let f = number.is in cc in
         rw same at number.below
     fail_below g n failures.Lose e clean = tt
+    fail_below g n failures.Repeat e clean = by (tb.version == 2) refl
+      where
+        by : (b : Bool) → (tb.version == 2) ≡ b → tb.version ≡ 2
+        by true f = (Decides-eqb tb.version 2).0 f
+        by false f =
+            let missing : row tb failure (more (word g) (more (word n) none)) ≡ None = ap (λ j. with_first first (failure_items tb j (more (word n) none))) e ∙ ap (λ b. with_first first (cond b (Some (count 0 (2 ^ 32) ∷ [])) None)) f in
+            let clash : Some shape ≡ None = sym (ap (λ o. unless (is_some o) shape) missing) ∙ own_clean tb failure (list (more (word g) (more (word n) none))) clean in
+            absurd (cc)
     fail_below g n failures.Other e clean = tt
 
-    entry_some : (p : ℕ) (o : Option Failure) → IfSome o (FailsBelow tb.nodes) → IfSome (entry_of p o) (λ e. FailsBelow tb.nodes e.failure)
+    entry_some : (p : ℕ) (o : Option Failure) → IfSome o (IsSoundFailure tb.nodes tb.version) → IfSome (entry_of p o) (λ e. IsSoundFailure tb.nodes tb.version e.failure)
     entry_some p (Some f) h = h
     entry_some p None h = tt
 
-    pub entry_sound : (t : Tree) → IsCleanTop t → IfSome (entry_in t) (λ e. FailsBelow tb.nodes e.failure)
+    pub entry_sound : (t : Tree) → IsCleanTop t → IfSome (entry_in t) (λ e. IsSoundFailure tb.nodes tb.version e.failure)
     entry_sound (list (more (word h) (more (word p) (more (list (more (word g) (more (word n) none))) none)))) clean = by (sort_in h) refl
       where
-        here : sort_in h ≡ sorts.At → IfSome (failure_of (failure_in g) (count_of n)) (FailsBelow tb.nodes)
+        here : sort_in h ≡ sorts.At → IfSome (failure_of (failure_in g) (count_of n)) (IsSoundFailure tb.nodes tb.version)
         here f =
             let inner : Tree = list (more (word g) (more (word n) none)) in
             let items = top_row h (more (word p) (more inner none)) sorts.At (count 0 (2 ^ 32) ∷ failure ∷ []) f refl clean in
             let rest = tail_clean tb (count 0 (2 ^ 32)) (failure ∷ []) (word p) (more inner none) items in
             fail_below g n (failure_in g) refl (head_clean tb failure [] inner none rest)
 
-        by : (k : Sort) → sort_in h ≡ k → IfSome (cond (is_entry k) (entry_of (count_of p) (failure_of (failure_in g) (count_of n))) None) (λ e. FailsBelow tb.nodes e.failure)
+        by : (k : Sort) → sort_in h ≡ k → IfSome (cond (is_entry k) (entry_of (count_of p) (failure_of (failure_in g) (count_of n))) None) (λ e. IsSoundFailure tb.nodes tb.version e.failure)
         by sorts.At f = entry_some (count_of p) (failure_of (failure_in g) (count_of n)) (here f)
         by k f = tt
     entry_sound t clean = tt

@@ -1,5 +1,5 @@
 -- The forms at the top: what is wanted of their items, and their faults one after another.
-use Rattle.std.proofs.Common.{◌≡◌, ◌≢◌, ℕ, zero, suc, ◌+◌, ◌-◌, ◌<◌, ◌≤◌, true, false, List, [], ◌∷◌, ◌++◌, length, get_or, take, drop, map, Option, Some, None, Result, Err, refl, sym, ap, subst, ◌∙◌, arith}
+use Rattle.std.proofs.Common.{◌≡◌, ◌≢◌, ℕ, zero, suc, ◌+◌, ◌<◌, ◌≤◌, true, false, List, [], ◌∷◌, ◌++◌, length, get_or, take, drop, map, Option, Some, None, Result, Err, is_some, cond, refl, sym, ap, ap₂, subst, ◌∙◌, arith}
 use Rattle.std.proofs.lemmas.List.{map_more}
 use Rattle.tau_sexpr.specs.Form.{tree_of}
 use Rattle.tau_sexpr.specs.Tree.{Tree, Trees, word, text, list, none, more, inside, size_of, size_of_all, sizes, size_of_all-inside}
@@ -11,13 +11,13 @@ use Rattle.tau_forms.specs.declared.keywords.Sort.{Sort}
 use Rattle.tau_forms.specs.declared.keywords.Sort.TheVariants as sorts
 use Rattle.tau_forms.specs.declared.tables.Tables.{Tables}
 use Rattle.tau_forms.specs.declared.wanted.FaultKind.TheVariants as kinds
-use Rattle.tau_forms.specs.Inner.Defined.{nodes_told}
+use Rattle.tau_forms.specs.Inner.Defined.{nodes_told, version_items}
 use Rattle.tau_forms.specs.Faults.{Fault, shape, unknown, twice, FaultAt, FaultIn, tops_after, ProgramFaultAt, in_top, no_nodes, IsClean, IsFirst}
 use Rattle.tau_forms.specs.Keywords.{sort_in}
-use Rattle.tau_forms.specs.Inner.Passing.{TellsFault, has_top_items, nodes_first}
-use Rattle.tau_forms.specs.Roles.{top, first, row, top_items, top_first, with_first, count_of}
-use Rattle.tau_forms.specs.Tops.{is_nodes, nodes_of, tables_of}
-use Rattle.tau_forms.proofs.DefinedLemmas.{nodes_in_list}
+use Rattle.tau_forms.specs.Inner.Passing.{TellsFault, has_top_items, nodes_first, version_first}
+use Rattle.tau_forms.specs.Roles.{Role, top, first, mark, row, top_items, top_first, with_first, count_of}
+use Rattle.tau_forms.specs.Tops.{is_nodes, is_version, nodes_of, tables_of}
+use Rattle.tau_forms.proofs.DefinedLemmas.{nodes_in_list, version_in_list}
 use Rattle.tau_forms.proofs.ListLemmas.{drop_item, left, left_item, left_all}
 use Rattle.tau_forms.proofs.PassLemmas.{Shift, shift_both, shift_clean, shift_tells, item_shift, item_tells, no_items_clean, faults_within, word_passes, text_passes}
 
@@ -44,6 +44,9 @@ top_items_none tb before sorts.At none h = refl
 top_items_none tb before sorts.At (more t none) h = refl
 top_items_none tb before sorts.At (more t (more u none)) h = cc
 top_items_none tb before sorts.At (more t (more u (more v ts))) h = refl
+top_items_none tb before sorts.Version none h = refl
+top_items_none tb before sorts.Version (more t none) h = cc
+top_items_none tb before sorts.Version (more t (more u ts)) h = refl
 top_items_none tb before sorts.Other ts h = refl
 
 pub row_of_top : (tb : Tables) (before : List Tree) (ts us : Trees) (h : List ℕ) (s : Sort) → ts ≡ more (word h) us → s ≡ sort_in h → row tb (top before) ts ≡ with_first (top_first before (list ts)) (top_items tb before s us)
@@ -54,11 +57,21 @@ row_of_top tb before ts us h s e d =
 pub row_of_top_none : (tb : Tables) (before : List Tree) (ts us : Trees) (h : List ℕ) (s : Sort) (n : ℕ) → ts ≡ more (word h) us → s ≡ sort_in h → count_of us ≡ n → has_top_items s n ≡ false → None ≡ row tb (top before) ts
 row_of_top_none tb before ts us h s n e d c f = sym (row_of_top tb before ts us h s e d ∙ ap (with_first (top_first before (list ts))) (top_items_none tb before s us (ap (has_top_items s) c ∙ f)))
 
--- the first word
+-- the first word, by the numbers that the list tells
+abbrev first_by : List Tree → Option ℕ → Option ℕ → Role
+first_by before nodes version = cond (is_some nodes) (mark (is_some (nodes_of before))) (version_first before version)
+
 pub first_is_mark : (before : List Tree) (ts us : Trees) (h : List ℕ) (s : Sort) → ts ≡ more (word h) us → s ≡ sort_in h → s ≡ sorts.Nodes → nodes_first before (nodes_told us) ≡ top_first before (list ts)
 first_is_mark before ts us h s e d f =
-    let is : is_nodes (sort_in h) ≡ true = ap is_nodes (sym d ∙ f) in
-    sym (ap (λ q. top_first before (list q)) e ∙ ap (nodes_first before) (nodes_in_list h us true is))
+    let nodes : is_nodes (sort_in h) ≡ true = ap is_nodes (sym d ∙ f) in
+    let version : is_version (sort_in h) ≡ false = ap is_version (sym d ∙ f) in
+    sym (ap (λ q. top_first before (list q)) e ∙ ap₂ (first_by before) (nodes_in_list h us true nodes) (version_in_list h us false version))
+
+pub first_is_version : (before : List Tree) (ts us : Trees) (h : List ℕ) (s : Sort) → ts ≡ more (word h) us → s ≡ sort_in h → s ≡ sorts.Version → version_first before (version_items us) ≡ top_first before (list ts)
+first_is_version before ts us h s e d f =
+    let nodes : is_nodes (sort_in h) ≡ false = ap is_nodes (sym d ∙ f) in
+    let version : is_version (sort_in h) ≡ true = ap is_version (sym d ∙ f) in
+    sym (ap (λ q. top_first before (list q)) e ∙ ap₂ (first_by before) (nodes_in_list h us false nodes) (version_in_list h us true version))
 
 not_nodes : (s : Sort) → s ≢ sorts.Nodes → is_nodes s ≡ false
 not_nodes sorts.Nodes h = absurd (h refl)
@@ -66,12 +79,23 @@ not_nodes sorts.Behaviour h = refl
 not_nodes sorts.Start h = refl
 not_nodes sorts.Post h = refl
 not_nodes sorts.At h = refl
+not_nodes sorts.Version h = refl
 not_nodes sorts.Other h = refl
 
-pub first_is_word : (before : List Tree) (ts us : Trees) (h : List ℕ) (s : Sort) → ts ≡ more (word h) us → s ≡ sort_in h → s ≢ sorts.Nodes → first ≡ top_first before (list ts)
-first_is_word before ts us h s e d f =
-    let is : is_nodes (sort_in h) ≡ false = ap is_nodes (sym d) ∙ not_nodes s f in
-    sym (ap (λ q. top_first before (list q)) e ∙ ap (nodes_first before) (nodes_in_list h us false is))
+not_version : (s : Sort) → s ≢ sorts.Version → is_version s ≡ false
+not_version sorts.Nodes h = refl
+not_version sorts.Behaviour h = refl
+not_version sorts.Start h = refl
+not_version sorts.Post h = refl
+not_version sorts.At h = refl
+not_version sorts.Version h = absurd (h refl)
+not_version sorts.Other h = refl
+
+pub first_is_word : (before : List Tree) (ts us : Trees) (h : List ℕ) (s : Sort) → ts ≡ more (word h) us → s ≡ sort_in h → s ≢ sorts.Nodes → s ≢ sorts.Version → first ≡ top_first before (list ts)
+first_is_word before ts us h s e d f g =
+    let nodes : is_nodes (sort_in h) ≡ false = ap is_nodes (sym d) ∙ not_nodes s f in
+    let version : is_version (sort_in h) ≡ false = ap is_version (sym d) ∙ not_version s g in
+    sym (ap (λ q. top_first before (list q)) e ∙ ap₂ (first_by before) (nodes_in_list h us false nodes) (version_in_list h us false version))
 
 -- the faults of the forms from the k-th on, after those before it
 abbrev pub FaultFrom : Tables → List Form → ℕ → ℕ → Fault → Type 0

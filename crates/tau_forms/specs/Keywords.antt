@@ -19,11 +19,12 @@ sort_in w =
     else (if bytes_eq w (codes "start") then sorts.Start
     else (if bytes_eq w (codes "post") then sorts.Post
     else (if bytes_eq w (codes "at") then sorts.At
-    else sorts.Other))))
+    else (if bytes_eq w (codes "version") then sorts.Version
+    else sorts.Other)))))
 
 -- what a script entry does
 abbrev pub failure_in : List ℕ → FailureWord
-failure_in w = if bytes_eq w (codes "fail") then failures.Fail else (if bytes_eq w (codes "lose") then failures.Lose else failures.Other)
+failure_in w = if bytes_eq w (codes "fail") then failures.Fail else (if bytes_eq w (codes "lose") then failures.Lose else (if bytes_eq w (codes "repeat") then failures.Repeat else failures.Other))
 
 -- an operation on values
 abbrev pub operation_in : List ℕ → Option Operation

@@ -13,7 +13,7 @@ use Rattle.tau_tree.specs.Behaviour.{NamedCode}
 use Rattle.tau_tree.specs.Code.{Code, unit, truth, int, text, msg, own, var, start, list, let_in, if_else, seq, fold, apply, get, set, send, new, stabilize, checkpoint, rollback, dependent, Codes, none, more}
 use Rattle.tau_tree.specs.declared.entries.Entry.{Entry}
 use Rattle.tau_tree.specs.declared.entries.Failure.{Failure}
-use Rattle.tau_tree.specs.declared.entries.Failure.TheVariants.{Fail, Lose}
+use Rattle.tau_tree.specs.declared.entries.Failure.TheVariants.{Fail, Lose, Repeat}
 use Rattle.tau_tree.specs.declared.posts.Post.{Post}
 use Rattle.tau_tree.specs.declared.starts.Start.{Start}
 use Rattle.tau_tree.specs.declared.programs.Program.{Program}
@@ -91,6 +91,7 @@ pub record PlainPost : Type 0 where
 
 -- a program as plain data
 pub record PlainProgram : Type 0 where
+  pub version : ℕ
   pub nodes : ℕ
   pub behaviours : List NamedCode
   pub starts : List PlainStart
@@ -105,7 +106,7 @@ plain_post p = record { to = p.to; value = val_of p.value }
 
 abbrev pub plain_of : Program → PlainProgram
 plain_of p =
-    record { nodes = p.nodes; behaviours = p.behaviours; starts = map plain_start p.starts; posts = map plain_post p.posts; script = p.script }
+    record { version = p.version; nodes = p.nodes; behaviours = p.behaviours; starts = map plain_start p.starts; posts = map plain_post p.posts; script = p.script }
 
 -- something, if a test holds
 abbrev pub where_true : {A : Type 0} → Bool → A → Option A
@@ -130,6 +131,7 @@ post_in tb t = None
 abbrev pub failure_of : FailureWord → ℕ → Option Failure
 failure_of failures.Fail n = Some (Fail n)
 failure_of failures.Lose m = Some (Lose m)
+failure_of failures.Repeat m = Some (Repeat m)
 failure_of failures.Other n = None
 
 abbrev pub entry_of : ℕ → Option Failure → Option Entry
@@ -145,7 +147,7 @@ entry_in t = None
 abbrev pub program_in : List Tree → PlainProgram
 program_in ts =
     let tb = tables_of ts in
-    record { nodes = tb.nodes; behaviours = filter_map (behaviour_in tb) ts; starts = filter_map (start_in tb) ts; posts = filter_map (post_in tb) ts; script = filter_map entry_in ts }
+    record { version = tb.version; nodes = tb.nodes; behaviours = filter_map (behaviour_in tb) ts; starts = filter_map (start_in tb) ts; posts = filter_map (post_in tb) ts; script = filter_map entry_in ts }
 
 -- forms mean a program: they keep the limits, no node is faulty, and the program is theirs
 pub record Means (ts : List Tree) (p : Program) : Type 0 where

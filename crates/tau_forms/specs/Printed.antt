@@ -1,5 +1,5 @@
 -- The forms that a program is printed as.
-use Rattle.std.specs.Prelude.{ℕ, List, [], ◌∷◌, ◌++◌, map, slice_get, unwrap_or, codes, if◌then◌else◌, Bool}
+use Rattle.std.specs.Prelude.{ℕ, ◌==◌, List, [], ◌∷◌, ◌++◌, map, slice_get, unwrap_or, codes, if◌then◌else◌, Bool}
 use Rattle.std.specs.Fmt.{decimal, signed_decimal}
 use Rattle.tau_sexpr.specs.Tree.{Tree, Trees, word, text, list, none, more, inside, headed}
 use Rattle.tau_value.specs.Written.{written, count_form}
@@ -12,7 +12,7 @@ use Rattle.tau_tree.specs.declared.expressions.Operation.{Operation}
 use Rattle.tau_tree.specs.declared.expressions.Operation.TheVariants as prims
 use Rattle.tau_tree.specs.declared.entries.Entry.{Entry}
 use Rattle.tau_tree.specs.declared.entries.Failure.{Failure}
-use Rattle.tau_tree.specs.declared.entries.Failure.TheVariants.{Fail, Lose}
+use Rattle.tau_tree.specs.declared.entries.Failure.TheVariants.{Fail, Lose, Repeat}
 use Rattle.tau_tree.specs.declared.posts.Post.{Post}
 use Rattle.tau_tree.specs.declared.starts.Start.{Start}
 use Rattle.tau_tree.specs.declared.programs.Program.{Program}
@@ -79,14 +79,23 @@ post_form ss p = headed (codes "post") (name_of ss p.to ∷ written ss (val_of p
 abbrev pub failure_form : Failure → Tree
 failure_form (Fail n) = headed (codes "fail") (count_form n ∷ [])
 failure_form (Lose m) = headed (codes "lose") (count_form m ∷ [])
+failure_form (Repeat m) = headed (codes "repeat") (count_form m ∷ [])
 
 abbrev pub entry_form : Entry → Tree
 entry_form e = headed (codes "at") (count_form e.at ∷ failure_form e.failure ∷ [])
 
--- nodes first, then behaviours, starts, posts and script entries
+abbrev pub version_form : ℕ → Tree
+version_form v = headed (codes "version") (count_form v ∷ [])
+
+-- the form of version 2; of version 1 there is none
+abbrev pub version_forms : ℕ → List Tree
+version_forms v = if v == 2 then version_form v ∷ [] else []
+
+-- the version first where it is 2, then nodes, behaviours, starts, posts and script entries
 abbrev pub printed : Program → List Tree
 printed p =
     let bs = behaviour_names p in
     let ss = start_names p in
-    headed (codes "nodes") (count_form p.nodes ∷ [])
-    ∷ (map (behaviour_form bs ss) p.behaviours ++ map (start_form bs ss) p.starts ++ map (post_form ss) p.posts ++ map entry_form p.script)
+    version_forms p.version
+    ++ (headed (codes "nodes") (count_form p.nodes ∷ [])
+    ∷ (map (behaviour_form bs ss) p.behaviours ++ map (start_form bs ss) p.starts ++ map (post_form ss) p.posts ++ map entry_form p.script))

@@ -10,14 +10,14 @@ use Rattle.tau_forms.specs.declared.keywords.FailureWord.{FailureWord}
 use Rattle.tau_forms.specs.declared.keywords.FailureWord.TheVariants as failures
 use Rattle.tau_forms.specs.declared.tables.Tables.{Tables}
 use Rattle.tau_forms.specs.Keywords.{sort_in, failure_in, keyword_in}
-use Rattle.tau_forms.specs.Tops.{behaviours_of, starts_of, nodes_in, nodes_of}
+use Rattle.tau_forms.specs.Tops.{behaviours_of, starts_of, nodes_in, nodes_of, version_in, version_of}
 
 pub data Role : Type 0 where
   -- a form at the top, after these forms
   top : List Tree → Role
   -- the word that begins a list
   first : Role
-  -- the word that begins a list (nodes K); whether such a list stands before it
+  -- the word that begins a list (nodes K) or (version K); whether such a list stands before it
   mark : Bool → Role
   -- a name that is defined: one of these
   known : List (List ℕ) → Role
@@ -58,7 +58,7 @@ abbrev pub names_in : Tree → List (List ℕ)
 names_in (list ts) = words_of ts
 names_in t = []
 
--- the items of a list at the top of one sort, its first word aside; `again` says that it is a second (nodes K)
+-- the items of a list at the top of one sort, its first word aside
 abbrev pub top_items : Tables → List Tree → Sort → Trees → Option (List Role)
 top_items tb before sorts.Nodes (more k none) = Some (count 1 65 ∷ [])
 top_items tb before sorts.Behaviour (more n (more e none)) = Some (fresh (behaviours_of before) ∷ expression [] ∷ [])
@@ -66,11 +66,14 @@ top_items tb before sorts.Start (more n (more b (more k (more v none)))) =
     Some (fresh (starts_of before) ∷ known tb.behaviours ∷ count 0 tb.nodes ∷ value ∷ [])
 top_items tb before sorts.Post (more s (more v none)) = Some (known tb.starts ∷ value ∷ [])
 top_items tb before sorts.At (more p (more f none)) = Some (count 0 (2 ^ 32) ∷ failure ∷ [])
+top_items tb before sorts.Version (more k none) = Some (count 1 3 ∷ [])
 top_items tb before s ts = None
 
--- what the first word of a list at the top is: a mark where the list is a (nodes K)
+-- what the first word of a list at the top is: a mark where the list is a (nodes K) or a (version K)
 abbrev pub top_first : List Tree → Tree → Role
-top_first before t = if is_some (nodes_in t) then mark (is_some (nodes_of before)) else first
+top_first before t =
+    if is_some (nodes_in t) then mark (is_some (nodes_of before))
+    else (if is_some (version_in t) then mark (is_some (version_of before)) else first)
 
 abbrev pub with_first : Role → Option (List Role) → Option (List Role)
 with_first r None = None
@@ -80,6 +83,7 @@ with_first r (Some rs) = Some (r ∷ rs)
 abbrev pub failure_items : Tables → FailureWord → Trees → Option (List Role)
 failure_items tb failures.Fail (more n none) = Some (count 0 tb.nodes ∷ [])
 failure_items tb failures.Lose (more m none) = Some (count 0 (2 ^ 32) ∷ [])
+failure_items tb failures.Repeat (more m none) = if tb.version == 2 then Some (count 0 (2 ^ 32) ∷ []) else None
 failure_items tb f ts = None
 
 -- whether an expression has this many items, its first word aside

@@ -1,5 +1,5 @@
 -- What the lists at the top define, and how many there may be.
-use Rattle.std.specs.Prelude.{ℕ, ◌+◌, ◌&&◌, Bool, true, false, nat_le, nat_lt, List, [], ◌∷◌, ◌++◌, length, filter, Option, Some, None, unwrap_or, if◌then◌else◌}
+use Rattle.std.specs.Prelude.{ℕ, ◌+◌, ◌==◌, ◌&&◌, Bool, true, false, nat_le, nat_lt, List, [], ◌∷◌, ◌++◌, length, filter, Option, Some, None, unwrap_or, if◌then◌else◌}
 use Rattle.std.specs.Option.{option_or, option_map_or}
 use Rattle.std.specs.List.{list_any}
 use Rattle.std.specs.Str.{bytes_eq}
@@ -20,6 +20,10 @@ sort_of t = sorts.Other
 abbrev pub is_nodes : Sort → Bool
 is_nodes sorts.Nodes = true
 is_nodes s = false
+
+abbrev pub is_version : Sort → Bool
+is_version sorts.Version = true
+is_version s = false
 
 abbrev pub is_behaviour : Sort → Bool
 is_behaviour sorts.Behaviour = true
@@ -80,9 +84,32 @@ abbrev pub nodes_of : List Tree → Option ℕ
 nodes_of [] = None
 nodes_of (t ∷ ts) = option_or (nodes_in t) (nodes_of ts)
 
+-- the number K of a form (version K) with K 1 or 2
+abbrev pub version_in : Tree → Option ℕ
+version_in (list (more (word h) (more (word k) none))) = if is_version (sort_in h) && is_count_in 1 3 k then count_in k else None
+version_in t = None
+
+-- the number K of the first such form
+abbrev pub version_of : List Tree → Option ℕ
+version_of [] = None
+version_of (t ∷ ts) = option_or (version_in t) (version_of ts)
+
+-- whether a version is 2
+abbrev pub is_two : Option ℕ → Bool
+is_two told = option_map_or (λ v. v == 2) told false
+
+-- whether a form is (version 2)
+abbrev pub is_second : Tree → Bool
+is_second t = is_two (version_in t)
+
+-- the version of a program: 2 where a form (version 2) stands among its forms, wherever
+abbrev pub version_told : List Tree → ℕ
+version_told ts = if list_any is_second ts then 2 else 1
+
 -- what a program's forms define; 64 nodes where no number of nodes stands there
 abbrev pub tables_of : List Tree → Tables
-tables_of ts = record { behaviours = behaviours_of ts; starts = starts_of ts; nodes = unwrap_or (nodes_of ts) NODE_LIMIT }
+tables_of ts =
+    record { behaviours = behaviours_of ts; starts = starts_of ts; nodes = unwrap_or (nodes_of ts) NODE_LIMIT; version = version_told ts }
 
 -- how many lists of one sort there are
 abbrev pub count_of : (Sort → Bool) → List Tree → ℕ

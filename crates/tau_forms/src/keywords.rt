@@ -13,6 +13,7 @@ pub(crate) enum Sort {
     Start,
     Post,
     At,
+    Version,
     Other,
 }
 
@@ -21,6 +22,7 @@ pub(crate) enum Sort {
 pub(crate) enum FailureWord {
     Fail,
     Lose,
+    Repeat,
     Other,
 }
 
@@ -64,6 +66,9 @@ pub(crate) fn sort_of(word: &Word) -> Sort
     if bytes == b"at".as_slice() {
         return Sort::At;
     }
+    if bytes == b"version".as_slice() {
+        return Sort::Version;
+    }
     Sort::Other
 }
 
@@ -75,6 +80,9 @@ pub(crate) fn failure_of(word: &Word) -> FailureWord
     }
     if word.bytes() == b"lose".as_slice() {
         return FailureWord::Lose;
+    }
+    if word.bytes() == b"repeat".as_slice() {
+        return FailureWord::Repeat;
     }
     FailureWord::Other
 }

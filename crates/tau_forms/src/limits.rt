@@ -56,7 +56,7 @@ fn counts_of(forms: &[Form]) -> Counts
             Sort::Start => counts.starts += 1,
             Sort::Post => counts.posts += 1,
             Sort::At => counts.entries += 1,
-            Sort::Nodes | Sort::Other => {}
+            Sort::Nodes | Sort::Version | Sort::Other => {}
         }
     }
     counts

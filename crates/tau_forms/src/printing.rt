@@ -1,5 +1,6 @@
 //! The forms of programs.
 ghost use Rattle.std.specs.Prelude.{◌≡◌, ◌≤◌, ◌∷◌, ◌++◌, [], map, codes, All, IfOk, OnOk};
+ghost use Rattle.tau_sexpr.specs.Bytes.{IsWordByte};
 ghost use Rattle.tau_sexpr.specs.Form.{tree_of};
 ghost use Rattle.tau_sexpr.specs.Tree.{depths, HasWords, headed};
 ghost use Rattle.tau_value.specs.Names.{AreNames};
@@ -9,7 +10,7 @@ ghost use Rattle.tau_tree.specs.Parts.{Throughout};
 ghost use Rattle.tau_tree.specs.Sound.{Sound, behaviour_names as names_of_behaviours, start_names as names_of_starts};
 ghost use Rattle.tau_forms.specs.Inner.Fitting.{HasFittingInteger, HasFittingNumbers, IsFitting, IsWritten};
 ghost use Rattle.tau_forms.specs.Meaning.{Means};
-ghost use Rattle.tau_forms.specs.Printed.{printed, behaviour_form, start_form, post_form, failure_form, entry_form};
+ghost use Rattle.tau_forms.specs.Printed.{printed, version_form, version_forms, behaviour_form, start_form, post_form, failure_form, entry_form};
 
 use crate::tables::Tables;
 use crate::writing::{add_count, add_name, begin, write_expression};
@@ -18,8 +19,8 @@ use tau_sexpr::{Form, Forms};
 use tau_tree::{Behaviour, Entry, Failure, Post, Program, Start};
 use tau_value::{Names, Value, form_of};
 
-/// The forms of a program: its nodes first, then the behaviours, the starts, the posts and the script entries
-/// (docs/formats.md, "Programs"). `program_of` reads them back as the same program. The error is want of memory.
+/// The forms of a program: its version where it is 2, its nodes, then the behaviours, the starts, the posts and the script
+/// entries (docs/formats.md, "Programs"). `program_of` reads them back as the same program. The error is want of memory.
 pub fn forms_of(alloc: Global, program: &Program) -> Result<Forms, AllocError>
     requires { Sound program.now }
     ensures forms { IfOk result (λ f. f ≡ printed program.now) }
@@ -40,6 +41,7 @@ fn names_of(alloc: Global, program: &Program) -> Result<Tables, AllocError>
         behaviours: behaviour_names(alloc, program.behaviours.items())?,
         starts: start_names(alloc, program.starts.items())?,
         nodes: u64::from(program.nodes),
+        version: program.version,
     })
 }
 
@@ -51,6 +53,7 @@ fn forms_with(alloc: Global, program: &Program, tables: &Tables) -> Result<Forms
     ensures fitting { OnOk result (IsFitting program.now) }
 {
     let mut forms = Forms::new(alloc);
+    add_version(alloc, &mut forms, program.version)?;
     forms.add(form_of_nodes(alloc, program.nodes)?)?;
     add_behaviours(alloc, &mut forms, program.behaviours.items(), tables)?;
     add_starts(alloc, &mut forms, program.starts.items(), tables)?;
@@ -81,6 +84,26 @@ fn start_names(alloc: Global, starts: &[Start]) -> Result<Names, AllocError>
         }
     }
     Ok(names)
+}
+
+/// Adds the form of version 2; of version 1 there is none.
+fn add_version(alloc: Global, forms: &mut Forms, version: u32) -> Result<(), AllocError>
+    ensures { OnOk result (forms.new ≡ forms.old ++ version_forms version) }
+{
+    if version != 2 {
+        return Ok(());
+    }
+    forms.add(form_of_version(alloc, version)?)?;
+    Ok(())
+}
+
+#[tactic(auto, using(tau_sexpr::proofs::Literals::word_literal), unfolding(tau_sexpr::specs::Bytes::is_word_byte, tau_sexpr::specs::Bytes::is_letter_or_digit, tau_sexpr::specs::Bytes::is_word_sign))]
+fn form_of_version(alloc: Global, version: u32) -> Result<Form, AllocError>
+    ensures { IfOk result (λ f. tree_of f ≡ version_form version) }
+{
+    let mut forms = begin(alloc, b"version")?;
+    add_count(alloc, &mut forms, version)?;
+    Ok(Form::List(forms))
 }
 
 #[tactic(auto, using(tau_sexpr::proofs::Literals::word_literal), unfolding(tau_sexpr::specs::Bytes::is_word_byte, tau_sexpr::specs::Bytes::is_letter_or_digit, tau_sexpr::specs::Bytes::is_word_sign))]
@@ -218,11 +241,19 @@ fn form_of_entry(alloc: Global, entry: Entry) -> Result<Form, AllocError>
 fn form_of_failure(alloc: Global, failure: Failure) -> Result<Form, AllocError>
     ensures { IfOk result (λ f. tree_of f ≡ failure_form failure) }
 {
-    let (word, number) = match failure {
-        Failure::Fail { node } => (b"fail", node),
-        Failure::Lose { message } => (b"lose", message),
-    };
-    let mut forms = begin(alloc, word)?;
-    add_count(alloc, &mut forms, number)?;
+    match failure {
+        Failure::Fail { node } => form_of_count(alloc, b"fail", node),
+        Failure::Lose { message } => form_of_count(alloc, b"lose", message),
+        Failure::Repeat { message } => form_of_count(alloc, b"repeat", message),
+    }
+}
+
+/// A list of a word and a count.
+fn form_of_count(alloc: Global, head: &[u8], count: u32) -> Result<Form, AllocError>
+    requires { All IsWordByte head.now }
+    ensures { IfOk result (λ f. tree_of f ≡ headed head.now (count_form count ∷ [])) }
+{
+    let mut forms = begin(alloc, head)?;
+    add_count(alloc, &mut forms, count)?;
     Ok(Form::List(forms))
 }

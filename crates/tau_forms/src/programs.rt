@@ -35,6 +35,7 @@ pub(crate) fn build_program(
     let mut draft = Draft::new(alloc);
     draft.add_all(alloc, forms, tables)?;
     Ok(Program {
+        version: tables.version,
         nodes: tables.nodes as u32,
         behaviours: draft.behaviours,
         starts: draft.starts,
@@ -162,6 +163,7 @@ fn add_entry(script: &mut Script, parts: EntryParts<'_>) -> Result<(), AllocErro
     let failure = match parts.failure {
         FailureWord::Fail => Failure::Fail { node: number },
         FailureWord::Lose => Failure::Lose { message: number },
+        FailureWord::Repeat => Failure::Repeat { message: number },
         FailureWord::Other => return Ok(()),
     };
     match script.push(Entry { at, failure }) {
@@ -215,7 +217,7 @@ fn top_form(form: &Form) -> TopForm<'_>
         Sort::Start => start_form(list.rest),
         Sort::Post => post_form(list.rest),
         Sort::At => entry_form(list.rest),
-        Sort::Nodes | Sort::Other => TopForm::Other,
+        Sort::Nodes | Sort::Version | Sort::Other => TopForm::Other,
     }
 }
 

@@ -1,5 +1,5 @@
 //! What is wanted of the items of lists.
-ghost use Rattle.std.specs.Prelude.{◌≡◌, [], ◌∷◌, true, ◌++◌, ℕ, List, map, slice_index_or};
+ghost use Rattle.std.specs.Prelude.{◌≡◌, ◌==◌, ◌^◌, [], ◌∷◌, true, Some, None, option_map, if◌then◌else◌, ◌++◌, ℕ, List, map, slice_index_or};
 ghost use Rattle.tau_sexpr.specs.Form.{tree_of};
 ghost use Rattle.tau_sexpr.specs.Tree.{Tree, Trees, inside, none, more};
 ghost use Rattle.tau_tree.specs.Parts.{arity as arity_of};
@@ -65,8 +65,20 @@ pub(crate) fn failure_row<'s>(items: &[Form], tables: &Tables) -> Option<Row<'s>
     match failure_of(list.head) {
         FailureWord::Fail => Some(number_row(tables.nodes)),
         FailureWord::Lose => Some(number_row(1 << 32)),
+        FailureWord::Repeat => repeat_row(tables),
         FailureWord::Other => None,
     }
+}
+
+/// What is wanted of the items of a failure that repeats a message; `None` in version 1.
+fn repeat_row<'s>(tables: &Tables) -> Option<Row<'s>>
+    ensures { (t u : Tree) → option_map (λ w. roles_of w (more t (more u none))) result
+        ≡ (if tables.now.version == 2 then Some (first ∷ count 0 (2 ^ 32) ∷ []) else None) }
+{
+    if tables.version != 2 {
+        return None;
+    }
+    Some(number_row(1 << 32))
 }
 
 /// A list of a word and counts below `end`.

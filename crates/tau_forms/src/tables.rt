@@ -1,8 +1,9 @@
 //! What a program defines.
-ghost use Rattle.std.specs.Prelude.{◌≡◌, [], ◌∷◌, ◌++◌, List, Some, map, option_map, IfOk, OnOk};
+ghost use Rattle.std.specs.Prelude.{◌≡◌, ◌==◌, ◌||◌, [], ◌∷◌, ◌++◌, List, Some, map, option_map, IfOk, OnOk, if◌then◌else◌};
+ghost use Rattle.std.specs.Option.{option_or};
 ghost use Rattle.tau_sexpr.specs.Form.{tree_of};
 ghost use Rattle.tau_sexpr.specs.Tree.{Tree, inside};
-ghost use Rattle.tau_forms.specs.Inner.Defined.{Defines, IsDefined, name_told as name_in_items, nodes_told as nodes_in_items};
+ghost use Rattle.tau_forms.specs.Inner.Defined.{Defines, IsDefined, name_told as name_in_items, nodes_told as nodes_in_items, version_items};
 ghost use Rattle.tau_forms.specs.Tops.{sort_of as sort_in_tree, tables_of, with_name};
 
 use crate::keywords::{Sort, sort_of};
@@ -11,21 +12,24 @@ use std::alloc::{AllocError, Global};
 use tau_sexpr::{Form, Word};
 use tau_value::{NODE_LIMIT, Names, count_of, is_name};
 
-/// The names that the lists at the top define, each once, and how many nodes there are.
+/// The names that the lists at the top define, each once, how many nodes there are, and the version.
 #[derive(Drop)]
 pub(crate) struct Tables {
     pub(crate) behaviours: Names,
     pub(crate) starts: Names,
     pub(crate) nodes: u64,
+    pub(crate) version: u32,
 }
 
-/// What the lists at the top up to a place define: the names of behaviours and starts, each once, and how many nodes there
-/// are, if one of them tells it.
+/// What the lists at the top up to a place define: the names of behaviours and starts, each once, how many nodes there are
+/// and which version it is, if one of them tells it, and whether one of them is a (version 2).
 #[derive(Drop)]
 pub(crate) struct Defined {
     pub(crate) behaviours: Names,
     pub(crate) starts: Names,
     pub(crate) nodes: Option<u64>,
+    pub(crate) version: Option<u64>,
+    pub(crate) second: bool,
 }
 
 impl Defined {
@@ -37,6 +41,8 @@ impl Defined {
             behaviours: Names::new(alloc),
             starts: Names::new(alloc),
             nodes: None,
+            version: None,
+            second: false,
         }
     }
 
@@ -49,9 +55,12 @@ impl Defined {
             Definition::Behaviour(name) => add(&mut self.behaviours, name),
             Definition::Start(name) => add(&mut self.starts, name),
             Definition::Nodes(nodes) => {
-                if self.nodes.is_none() {
-                    self.nodes = Some(nodes);
-                }
+                self.nodes = first_told(self.nodes, nodes);
+                Ok(())
+            }
+            Definition::Version(version) => {
+                self.version = first_told(self.version, version);
+                self.second = or_two(self.second, version);
                 Ok(())
             }
             Definition::Nothing => Ok(()),
@@ -71,7 +80,32 @@ pub(crate) fn collect(alloc: Global, forms: &[Form]) -> Result<Tables, AllocErro
         behaviours: defined.behaviours,
         starts: defined.starts,
         nodes: defined.nodes.unwrap_or(NODE_LIMIT as u64),
+        version: version_by(defined.second),
     })
+}
+
+/// The version of a program, by whether a (version 2) stands among its forms.
+fn version_by(second: bool) -> u32
+    ensures { result ≡ (if second then 2 else 1) }
+{
+    if second { 2 } else { 1 }
+}
+
+/// The number that was told first.
+fn first_told(earlier: Option<u64>, number: u64) -> Option<u64>
+    ensures { result ≡ option_or earlier (Some number) }
+{
+    match earlier {
+        Some(earlier) => Some(earlier),
+        None => Some(number),
+    }
+}
+
+/// Whether a version 2 was told, earlier or now.
+fn or_two(earlier: bool, version: u64) -> bool
+    ensures { result ≡ (earlier || version == 2) }
+{
+    earlier || version == 2
 }
 
 /// What a form at the top is, by the word that begins it.
@@ -93,6 +127,7 @@ enum Definition<'f> {
     Behaviour(&'f Word),
     Start(&'f Word),
     Nodes(u64),
+    Version(u64),
     Nothing,
 }
 
@@ -108,6 +143,10 @@ fn definition_of(form: &Form) -> Definition<'_>
     match sort_of(list.head) {
         Sort::Nodes => match nodes_told(list.rest) {
             Some(nodes) => Definition::Nodes(nodes),
+            None => Definition::Nothing,
+        },
+        Sort::Version => match version_told(list.rest) {
+            Some(version) => Definition::Version(version),
             None => Definition::Nothing,
         },
         Sort::Behaviour => match name_told(list.rest) {
@@ -144,6 +183,22 @@ pub(crate) fn nodes_told(items: &[Form]) -> Option<u64>
     }
     let count = count_of(list.head)?;
     if count >= 1 && count < 65 {
+        Some(count)
+    } else {
+        None
+    }
+}
+
+/// The version that these forms tell: one count, 1 or 2.
+pub(crate) fn version_told(items: &[Form]) -> Option<u64>
+    ensures { result ≡ version_items (inside (map tree_of items.now)) }
+{
+    let list = split_head(items)?;
+    if !list.rest.is_empty() {
+        return None;
+    }
+    let count = count_of(list.head)?;
+    if count >= 1 && count < 3 {
         Some(count)
     } else {
         None

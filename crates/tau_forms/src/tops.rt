@@ -2,9 +2,9 @@
 ghost use Rattle.std.specs.Prelude.{◌≡◌, ◌≢◌, ◌+◌, ◌<◌, ◌≤◌, ◌^◌, [], true, List, length, map, Some};
 ghost use Rattle.tau_sexpr.specs.Form.{tree_of};
 ghost use Rattle.tau_sexpr.specs.Tree.{Tree, Trees, inside, list as list_tree, more, size_of, size_of_all};
-ghost use Rattle.tau_forms.specs.Inner.Defined.{IsDefined, nodes_told as nodes_in_items};
+ghost use Rattle.tau_forms.specs.Inner.Defined.{IsDefined, nodes_told as nodes_in_items, version_items};
 ghost use Rattle.tau_forms.specs.Faults.{FaultAt};
-ghost use Rattle.tau_forms.specs.Inner.Passing.{IsRow, Passes, PassesForms, has_top_items as top_items_test, nodes_first, roles_of};
+ghost use Rattle.tau_forms.specs.Inner.Passing.{IsRow, Passes, PassesForms, has_top_items as top_items_test, nodes_first, version_first, roles_of};
 ghost use Rattle.tau_forms.specs.Roles.{top, top_items, with_first, count_of};
 ghost use Rattle.tau_forms.specs.Inner.Scopes.{names_of};
 ghost use Rattle.tau_forms.specs.Tops.{nodes_of, tables_of};
@@ -15,7 +15,7 @@ use crate::checking::check_items;
 use crate::keywords::{Sort, sort_of};
 use crate::rows::{Row, split_head};
 use crate::scopes::Scope;
-use crate::tables::{Defined, Tables, nodes_told};
+use crate::tables::{Defined, Tables, nodes_told, version_told};
 use crate::wanted::Wanted;
 use std::alloc::Global;
 use tau_sexpr::Form;
@@ -98,6 +98,7 @@ fn top_row<'s>(
     }
     let first = match sort {
         Sort::Nodes => first_of_nodes(list.rest, earlier),
+        Sort::Version => first_of_version(list.rest, earlier),
         _ => Wanted::First,
     };
     Some(row_of_sort(sort, first, tables, earlier, scope))
@@ -108,7 +109,7 @@ fn has_top_items(sort: Sort, count: usize) -> bool
     ensures { result ≡ top_items_test sort count }
 {
     match sort {
-        Sort::Nodes => count == 1,
+        Sort::Nodes | Sort::Version => count == 1,
         Sort::Behaviour | Sort::Post | Sort::At => count == 2,
         Sort::Start => count == 4,
         Sort::Other => false,
@@ -125,6 +126,19 @@ fn first_of_nodes<'s>(items: &[Form], earlier: &Defined) -> Wanted<'s>
     }
     Wanted::Mark {
         again: earlier.nodes.is_some(),
+    }
+}
+
+/// The same of a list of a version.
+fn first_of_version<'s>(items: &[Form], earlier: &Defined) -> Wanted<'s>
+    ensures { (before : List Tree) → IsDefined before earlier.now
+        → role_of result ≡ version_first before (version_items (inside (map tree_of items.now))) }
+{
+    if version_told(items).is_none() {
+        return Wanted::First;
+    }
+    Wanted::Mark {
+        again: earlier.version.is_some(),
     }
 }
 
@@ -146,6 +160,13 @@ fn row_of_sort<'s>(
             Row {
                 leading: [first, nodes, nodes, nodes],
                 rest: nodes,
+            }
+        }
+        Sort::Version => {
+            let version = Wanted::Count { low: 1, end: 3 };
+            Row {
+                leading: [first, version, version, version],
+                rest: version,
             }
         }
         Sort::Behaviour => {

@@ -16,7 +16,7 @@ use tau_value::{Names, count_of, integer_of, is_name};
 pub(crate) enum Wanted<'s> {
     /// The word that begins a list.
     First,
-    /// The word that begins a list (nodes K); whether such a list stands before it.
+    /// The word that begins a list (nodes K) or (version K); whether such a list stands before it.
     Mark { again: bool },
     /// A name that is defined: one of these.
     Known(&'s Names),

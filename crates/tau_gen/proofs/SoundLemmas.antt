@@ -11,7 +11,7 @@ use Rattle.tau_tree.specs.declared.entries.Entry.{Entry}
 use Rattle.tau_tree.specs.declared.posts.Post.{Post}
 use Rattle.tau_tree.specs.declared.starts.Start.{Start}
 use Rattle.tau_tree.specs.Parts.{depth_of, IsBoundIn, Throughout, HasNames, NamesStart, NamesBehaviour, HasArity, HasItem, HasTwoNames, HasShortText}
-use Rattle.tau_tree.specs.Sound.{Sound, FailsBelow}
+use Rattle.tau_tree.specs.Sound.{Sound, IsSoundFailure}
 use Rattle.tau_tree.proofs.SoundLemmas.{KeepsEach, each_from_rules}
 use Rattle.tau_gen.specs.Hop.{hop_body}
 use Rattle.tau_gen.specs.Generated.{start_at, post_at, script_of, starts, posts_of, generated}
@@ -44,7 +44,7 @@ unfolding posts_of
 of_posts P number h = All-map P (post_at number) (range_with_len 0 32) (λ k d lt. h _)
 
 -- the nodes that fail are below 4
-failing : (number : ℕ) → All (λ (e : Entry). FailsBelow 4 e.failure) (script_of number)
+failing : (number : ℕ) → All (λ (e : Entry). IsSoundFailure 4 1 e.failure) (script_of number)
 failing number zero d lt = tt
 failing number (suc zero) d lt = omega arith
 failing number (suc (suc zero)) d lt = omega arith
@@ -60,6 +60,8 @@ in_starts P h = subst P (sym starts_length) h
 
 pub generated_sound : (number : ℕ) → Sound (generated number)
 generated_sound number = record {
+  some_version = omega arith;
+  versions_limit = omega arith;
   some_nodes = omega arith;
   nodes_limit = omega arith;
   behaviours_limit = omega arith;
@@ -75,7 +77,7 @@ generated_sound number = record {
   state_names = of_starts (λ s. NamesBelow (length starts) (val_of s.state)) (λ i. tt);
   receivers = of_posts (λ q. q.to < length starts) number (λ i. omega (arith, starts_length));
   post_names = of_posts (λ q. NamesBelow (length starts) (val_of q.value)) number (λ i. tt);
-  failing_nodes = failing number;
+  sound_failures = failing number;
   states_bounded = of_starts (λ s. IsInBounds (val_of s.state)) (λ i. (omega arith, omega arith));
   posts_bounded = of_posts (λ q. IsInBounds (val_of q.value)) number (λ i. (omega arith, omega arith));
   texts_bounded = only (Throughout HasShortText) hop_body each.short_text;

@@ -52,9 +52,10 @@ starts = map start_at (range_with_len 0 16)
 unfoldable pub posts_of : ℕ → List Post
 posts_of number = map (post_at number) (range_with_len 0 32)
 
--- 4 nodes, the behaviour `hop`, 16 starts, 32 posts and 3 script entries
+-- version 1, 4 nodes, the behaviour `hop`, 16 starts, 32 posts and 3 script entries
 abbrev pub generated : ℕ → Program
 generated number = record {
+  version = 1;
   nodes = 4;
   behaviours = behaviours;
   starts = starts;

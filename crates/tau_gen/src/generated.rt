@@ -15,9 +15,9 @@ use tau_tree::{
 };
 use tau_value::{Value, word_of_count};
 
-/// The generated program of a number: 4 nodes, one behaviour that hops, 16 starts, 32 posts and three script entries, in
-/// which the posts and the nodes that fail come from the words of the generator `Pcg32` that is seeded with the number
-/// (docs/formats.md, "Generated programs"). It is sound. The error is want of memory.
+/// The generated program of a number, of version 1: 4 nodes, one behaviour that hops, 16 starts, 32 posts and three script
+/// entries, in which the posts and the nodes that fail come from the words of the generator `Pcg32` that is seeded with the
+/// number (docs/formats.md, "Generated programs"). It is sound. The error is want of memory.
 pub fn generate(alloc: Global, number: u64) -> Result<Program, AllocError>
     ensures program { IfOk result (λ p. p ≡ generated number) }
     ensures sound { IfOk result (λ p. Sound p) }
@@ -26,6 +26,7 @@ pub fn generate(alloc: Global, number: u64) -> Result<Program, AllocError>
     let posts = posts(alloc, &mut words)?;
     let script = script(alloc, &mut words)?;
     Ok(Program {
+        version: 1,
         nodes: 4,
         behaviours: behaviours(alloc)?,
         starts: starts(alloc)?,

@@ -1,6 +1,7 @@
 -- The run of the cell is legal and complete, and the cell is free when it asks for a checkpoint.
-use Rattle.std.proofs.Common.{◌≡◌, ◌⊎◌, inl, inr, ⊎_elim, ℕ, zero, suc, ◌<◌, ◌≤◌, ◌||◌, Bool, true, pos, IsFalse, Option, Some, None, [], ◌∷◌, refl, sym, ap, ◌∙◌, subst, arith}
+use Rattle.std.proofs.Common.{◌≡◌, ◌⊎◌, inl, inr, ⊎_elim, ℕ, zero, suc, ◌<◌, ◌≤◌, ◌||◌, Bool, true, false, pos, IsTrue, IsFalse, Option, Some, None, [], ◌∷◌, refl, sym, ap, ◌∙◌, subst, arith}
 use Rattle.std.specs.Prelude.{slice_get, option_and_then}
+use Rattle.std.specs.Option.{option_map_or}
 use Rattle.std.proofs.lemmas.Option.{slice_get_within}
 use Rattle.tau_value.specs.Val as val
 use Rattle.tau_value.specs.Val.{Val}
@@ -9,11 +10,11 @@ use Rattle.tau_points.specs.Reach as reach
 use Rattle.tau_points.proofs.Reach.{least}
 use Rattle.tau_tree.specs.declared.entries.Entry.{Entry}
 use Rattle.tau_trace.specs.declared.step.Step.{Step}
-use Rattle.tau_trace.specs.declared.step.Step.TheVariants.{Take, Get, Set, Send, New, Stabilize, Checkpoint}
+use Rattle.tau_trace.specs.declared.step.Step.TheVariants.{Take, Get, Set, New, Stabilize, Checkpoint}
 use Rattle.tau_trace.specs.Steps.{actor, ends_turn, is_take, is_new, is_send, is_checkpoint}
 use Rattle.tau_trace.specs.Run.{Run, step_at, Does}
 use Rattle.tau_trace.specs.Places.{count_below}
-use Rattle.tau_trace.specs.Numbering.{direct, InFlight, post}
+use Rattle.tau_trace.specs.Numbering.{IsSendAt, InFlight, IsOrigin, direct, echoed, copied, post}
 use Rattle.tau_trace.specs.Histories.{history, Closes}
 use Rattle.tau_trace.specs.Points.{point_at}
 use Rattle.tau_trace.specs.Turns.{Turn}
@@ -119,12 +120,19 @@ at_own_point (suc zero) le = refl
 at_own_point (suc (suc zero)) le = refl
 at_own_point (suc (suc (suc j))) le = absurd (omega arith)
 
+-- no step of the run is a Send
+not_send : (j : ℕ) → ¬ IsSendAt cell_run j
+unfolding count_below
+not_send j x = by (step_at cell_run j) refl x where
+  by : (o : Option Step) → step_at cell_run j ≡ o → IsTrue (option_map_or is_send o false) → ⊥
+  by None e h = absurd (cc)
+  by (Some s) e h = clash (is_send s) h (no_step is_send cell_run 5 refl j s (slice_get_within cell_run.steps j s e) e)
+
 -- what the Set carries is that point
 set_carries : (t : ℕ) (q : Point) → t ≡ 0 → Pending cell_run t 2 q → q ≡ own_point
 unfolding count_below
 set_carries t q e (touched {j = j} u a b d at) = at ∙ ap (λ x. point_at cell_run x j) e ∙ at_own_point j (omega arith)
-set_carries t q e (came {j = j} {by = by} u (direct o) p) =
-    absurd (clash true refl (no_step is_send cell_run 5 refl j (Send by o.to o.value) (slice_get_within cell_run.steps j (Send by o.to o.value) o.stands) o.stands))
+set_carries t q e (came {j = j} u o x p) = absurd (not_send j x)
 
 -- the one Checkpoint is at place 4
 closes_there : (t j : ℕ) → Closes cell_run t j → (j ≡ 4) × (t ≡ 0)
@@ -171,9 +179,16 @@ free q past = ⊎_elim own first (least (Link cell_run (Heard cell_run 0 4)) (Is
   first : q ≡ opening_point → FirmIn cell_run (Heard cell_run 0 4) q
   first e = subst (FirmIn cell_run (Heard cell_run 0 4)) (sym e) (record { not_fallen = nothing_fallen (Heard cell_run 0 4) opening_point; settled = inr (record { is_start = omega arith; interval_is = refl; incarnation_is = refl }) })
 
+-- message 0 is a post, so it has no origin
+no_origin : (j by : ℕ) → IsOrigin cell_run j by 0 → ⊥
+unfolding count_below
+no_origin j by (direct o) = omega (arith, o.made)
+no_origin j by (echoed o) = omega (arith, o.earlier)
+no_origin j by (copied o r) = omega (arith, o.earlier)
+
 take_fits : Fits adding_cell cell_run 0 (Take 0 0)
 unfolding count_below
-take_fits = (record { in_flight = record { exists = omega arith; not_removed = λ j lt r. absurd (omega arith) }; receiver = post refl; living = λ j lt e. omega arith; idle = λ place m u. omega (arith, u.before) }, decisions.take (none_fallen _ _) (none_fallen _ _))
+take_fits = (record { in_flight = record { exists = omega arith; not_removed = λ j lt r. absurd (omega arith) }; receiver = post refl; living = λ j lt e. omega arith; idle = λ place m u. omega (arith, u.before) }, decisions.take (none_fallen _ _) (none_fallen _ _), λ n. no_origin n.place n.by n.origin)
 
 set_fits : Fits adding_cell cell_run 2 (Set 0 fifteen)
 unfolding history

@@ -49,7 +49,7 @@ source_turn o m rest = record { before = omega arith; takes = refl; goes_on = λ
 
 -- where the source's Send makes message m, the sink's Set carries the source's point
 carries : (o : Opening) (m : ℕ) (rest : List Step) → m ≡ sent (run_with o m rest) 3 → source_point ≡ point_at (run_with o m rest) 0 1 → Carried (run_with o m rest) 6 source_point
-carries o m rest made at_source = record { by = 1; acts = refl; pending = came short sends (touched (source_turn o m rest) (omega arith) (omega arith) sets at_source) } where
+carries o m rest made at_source = record { by = 1; acts = refl; pending = came short sends refl (touched (source_turn o m rest) (omega arith) (omega arith) sets at_source) } where
   T : Run
   T = run_with o m rest
 

@@ -10,7 +10,7 @@ use Rattle.tau_value.specs.Value.{val_of}
 use Rattle.tau_tree.specs.declared.programs.Program.{Program}
 use Rattle.tau_tree.specs.Sound.{Sound}
 use Rattle.tau_trace.specs.declared.step.Step.{Step}
-use Rattle.tau_trace.specs.declared.step.Step.TheVariants.{Take, Drop, Fall, Void, Get, Set, Skip, Send, New, Stabilize, Ask, Checkpoint, Hold, Rollback, Stay, Done, Trap, Fail, Lose}
+use Rattle.tau_trace.specs.declared.step.Step.TheVariants.{Take, Drop, Fall, Void, Get, Set, Skip, Send, New, Stabilize, Ask, Checkpoint, Hold, Rollback, Stay, Done, Trap, Fail, Lose, Echo, Heed, Repeat}
 use Rattle.tau_trace.specs.Run.{Run, len}
 use Rattle.tau_trace.specs.Numbering.{born, sent, InFlight, Receives}
 use Rattle.tau_trace.specs.Histories.{history, IsLiving}
@@ -18,7 +18,7 @@ use Rattle.tau_trace.specs.Turns.{Turn}
 use Rattle.tau_trace.specs.Known.{WellFormed, IsKnownValue, IsKnownAt}
 use Rattle.tau_trace.proofs.Agreement.{born-grows}
 use Rattle.tau_past.specs.Decisions.{Free, FallsBy, DropsBy, fall, drop, take}
-use Rattle.tau_script.specs.Scripts.{NoneDue, DueStep, HasObject, fails, loses, is_failure}
+use Rattle.tau_script.specs.Scripts.{NoneDue, DueStep, HasObject, fails, loses, repeats, is_failure}
 use Rattle.tau_script.proofs.Determined.{one_step}
 use Rattle.tau_script.proofs.Existing.{determined}
 use Rattle.tau_script.proofs.Passing.{object}
@@ -26,11 +26,12 @@ use Rattle.tau_eval.specs.Eff as eff
 use Rattle.tau_eval.specs.Eff.{Eff}
 use Rattle.tau_eval.specs.Known.{IsKnown, IsKnownEffect}
 use Rattle.tau_legal.specs.Turns.{TurnHas}
-use Rattle.tau_legal.specs.Fits.{Arrives, Fits, most_transactors}
+use Rattle.tau_legal.specs.Fits.{Arrives, ArrivesLate, Fits, most_transactors}
 use Rattle.tau_legal.specs.Traces.{IsLegal, Legal, Complete}
 use Rattle.tau_legal.specs.Laws.{CompleteWhereNoStepIsLegal}
 use Rattle.tau_legal.proofs.TraceLemmas.{legal_fitting}
 use Rattle.tau_legal.proofs.ValueLemmas.{turn_effect_known}
+use Rattle.tau_legal.proofs.VersionLemmas.{due_version}
 use Rattle.tau_legal.proofs.TurnLemmas.{receiver_exists, receiver_known, effect_exists}
 
 -- each plain value is that of a value
@@ -66,7 +67,7 @@ none_legal P T c s l = ⊎_elim due (λ n. other s l.fits n.1) l.allowed where
   other (Take t m) f n = c.none_in_flight m f.0.in_flight
   other (Drop t m) f n = c.none_in_flight m f.0.in_flight
   other (Fall t m) f n = c.none_in_flight m f.0.in_flight
-  other (Void t m) f n = c.none_in_flight m f.in_flight
+  other (Void t m) f n = c.none_in_flight m f.0.in_flight
   other (Get t) f n = turn t _ f
   other (Set t v) f n = turn t _ f.0
   other (Skip t) f n = turn t _ f.1
@@ -82,12 +83,16 @@ none_legal P T c s l = ⊎_elim due (λ n. other s l.fits n.1) l.allowed where
   other (Trap t code) f n = ⊎_elim (λ h. turn t _ h) (λ h. turn t _ h.1.effect) f
   other (Fail t) f n = absurd (cc)
   other (Lose m) f n = absurd (cc)
+  other (Echo t m) f n = c.none_in_flight m f.0.in_flight
+  other (Heed t m) f n = c.none_in_flight m f.0.in_flight
+  other (Repeat m) f n = absurd (cc)
 
 module _ (P : Program) (T : Run) (sound : Sound P) (well : WellFormed T) (legal : Legal P T) (none : (s : Step) → IsKnownAt T (len T) s → ¬ IsLegal P T (len T) s) where
   -- a due step would be legal
   not_due : (s : Step) → DueStep P.script T (len T) s → HasObject T (len T) s → ⊥
   not_due s d (fails {t = t} lt living) = none (Fail t) lt (record { fits = (lt, living); allowed = inl d })
   not_due s d (loses {m = m} flies) = none (Lose m) flies.exists (record { fits = flies; allowed = inl d })
+  not_due s d (repeats {m = m} flies) = none (Repeat m) flies.exists (record { fits = (flies, due_version P T (len T) m sound d); allowed = inl d })
 
   none_due : NoneDue P.script T (len T)
   none_due = by (determined P.script T (len T)).step refl where
@@ -95,7 +100,7 @@ module _ (P : Program) (T : Run) (sound : Sound P) (well : WellFormed T) (legal 
     by None e = ((determined P.script T (len T)).step_is None).1 (sym e)
     by (Some s) e = let d = ((determined P.script T (len T)).step_is (Some s)).1 (sym e) in absurd (not_due s d (object P.script T (len T) d.cursor s d.due))
 
-  -- so no step but a Fail or a Lose fits
+  -- so no step but one of a script fits
   none_fits : (s : Step) → IsKnownAt T (len T) s → IsFalse (is_failure s) → ¬ Fits P T (len T) s
   none_fits s known n f = none s known (record { fits = f; allowed = inr (none_due, n) })
 
@@ -148,7 +153,9 @@ module _ (P : Program) (T : Run) (sound : Sound P) (well : WellFormed T) (legal 
     known_pair = (receiver_known T well m t (len T) flies.exists receives, flies.exists)
 
     living : IsLiving T t (len T)
-    living j lt e = none_fits (Void t m) known_pair refl (record { in_flight = flies; receiver = receives; ended = record { place = j; before = lt; ends = e } })
+    living j lt e =
+        let late : ArrivesLate T t m (len T) = record { in_flight = flies; receiver = receives; ended = record { place = j; before = lt; ends = e } } in
+        none_fits (Void t m) known_pair refl (late, λ echoes. none_fits (Echo t m) known_pair refl (late, echoes))
 
     arrives : Arrives T t m (len T)
     arrives = record { in_flight = flies; receiver = receives; living = living; idle = λ place n u. no_turn t place n u }
@@ -160,13 +167,15 @@ module _ (P : Program) (T : Run) (sound : Sound P) (well : WellFormed T) (legal 
     not_drops d = none_fits (Drop t m) known_pair refl (arrives, drop not_falls d)
 
     not_in_flight : ⊥
-    not_in_flight = none_fits (Take t m) known_pair refl (arrives, take not_falls not_drops)
+    not_in_flight =
+        let takes_it = take not_falls not_drops in
+        none_fits (Take t m) known_pair refl (arrives, takes_it, λ notice. none_fits (Heed t m) known_pair refl (arrives, takes_it, notice))
 
   complete : Complete P T
   complete = record {
     none_due = none_due;
     no_turn = no_turn;
-    none_in_flight = λ m f. let r = receiver_exists T m (len T) (omega arith) f.exists in not_in_flight r.0 m f r.1;
+    none_in_flight = λ m f. let r = receiver_exists P T (λ k s e. (legal.steps k s e).fits) m (len T) (omega arith) f.exists in not_in_flight r.0 m f r.1;
   }
 
 pub complete_where_no_step_is_legal : CompleteWhereNoStepIsLegal

@@ -13,3 +13,4 @@ pub mod StateLemmas
 pub mod TurnLemmas
 pub mod EndLemmas
 pub mod ReceiverLemmas
+pub mod VersionLemmas

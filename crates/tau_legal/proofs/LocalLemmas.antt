@@ -1,29 +1,35 @@
 -- Which step fits at a place reads the opening and the steps before it alone.
 use Rattle.std.proofs.Common.{◌≡◌, ◌↔◌, inl, inr, ⊎_elim, ℕ, suc, ◌<◌, Bool, None, List, sym, ap, ◌∙◌, subst, arith}
-use Rattle.std.specs.Prelude.{option_and_then}
+use Rattle.std.specs.Prelude.{option_and_then, false}
+use Rattle.std.specs.Option.{option_map_or}
+use Rattle.std.proofs.lemmas.Bool.{cases_lt}
 use Rattle.tau_value.specs.declared.shared.Value.{Value}
 use Rattle.tau_value.specs.Val as val
 use Rattle.tau_value.specs.Val.{Val}
 use Rattle.tau_tree.specs.declared.programs.Program.{Program}
 use Rattle.tau_tree.specs.Code.{Code}
 use Rattle.tau_trace.specs.declared.step.Step.{Step}
-use Rattle.tau_trace.specs.declared.step.Step.TheVariants.{Take, Drop, Fall, Void, Get, Set, Skip, Send, New, Stabilize, Ask, Checkpoint, Hold, Rollback, Stay, Done, Trap, Fail, Lose}
-use Rattle.tau_trace.specs.Steps.{actor}
+use Rattle.tau_trace.specs.declared.step.Step.TheVariants.{Take, Drop, Fall, Void, Get, Set, Skip, Send, New, Stabilize, Ask, Checkpoint, Hold, Rollback, Stay, Done, Trap, Fail, Lose, Echo, Heed, Repeat}
+use Rattle.tau_trace.specs.Steps.{actor, is_echo}
 use Rattle.tau_trace.specs.Run.{Run, Agree}
-use Rattle.tau_trace.specs.Numbering.{born, sent}
+use Rattle.tau_trace.specs.Numbering.{born, sent, HasSender, IsNotice}
 use Rattle.tau_trace.specs.Histories.{history, IsLiving}
 use Rattle.tau_trace.specs.Points.{point_at}
 use Rattle.tau_trace.specs.Turns.{IsOpenTurn}
 use Rattle.tau_trace.specs.Known.{WellFormed, IsKnownAt}
-use Rattle.tau_trace.proofs.Agreement.{agree_below, born-same, sent-same, history-same, sent_before, new_before, same_at}
+use Rattle.tau_trace.proofs.Agreement.{agree_sym, agree_below, born-same, sent-same, sent-grows, history-same, sent_before, origin_before, new_before, same_at}
 use Rattle.tau_past.specs.Decisions.{Free}
 use Rattle.tau_past.specs.States.{StateAt}
 use Rattle.tau_past.specs.LocalLaws.{SameDecisionsAt}
 use Rattle.tau_past.proofs.Agreement.{decisions_local, point-same}
 use Rattle.tau_states.specs.Opening.{opening_states}
 use Rattle.tau_eval.specs.Eff.{Eff}
-use Rattle.tau_legal.specs.Turns.{HasBehaviour, start, created, HasBody, HasValue, post, message, Replies, RepliesOf, before, another, reply, TurnHas}
-use Rattle.tau_legal.specs.Fits.{Arrives, ArrivesLate, LacksNumber, Fits}
+use Rattle.tau_legal.specs.Turns.{HasBehaviour, start, created, HasBody, HasValue, post, message, notice, copy, Replies, RepliesOf, before, another, reply, TurnHas}
+use Rattle.tau_legal.specs.Fits.{Arrives, ArrivesLate, Echoes, LacksNumber, Fits}
+
+-- what is made below place k is made before it
+made_earlier : (T : Run) (j m k : ℕ) → m ≡ sent T j → m < sent T k → j < k
+made_earlier T j m k e h = ⊎_elim (λ l. l) (λ le. absurd (omega (arith, e, h, sent-grows T k j le))) (cases_lt j k)
 
 module _ {T U : Run} where
   pub behaviour-same : (P : Program) (t k b : ℕ) → Agree T U k → t < born T k → HasBehaviour P T t b → HasBehaviour P U t b
@@ -40,6 +46,12 @@ module _ {T U : Run} where
   value-same P m k v a lt (message {j = j} {by = by} o e) =
       let earlier = sent_before T j by m k o lt in
       message (record { to = o.to; value = o.value; stands = sym (a.steps j earlier) ∙ o.stands; made = o.made ∙ sent-same j (agree_below j (omega arith) a) }) e
+  value-same P m k v a lt (notice {j = j} {by = by} {n = n} o e) =
+      let earlier = made_earlier T j m k o.made lt in
+      notice {j = j} {by = by} {n = n} (record { stands = sym (a.steps j earlier) ∙ o.stands; made = o.made ∙ sent-same j (agree_below j (omega arith) a); earlier = o.earlier }) e
+  value-same P m k v a lt (copy {k = j} {n = n} o h) =
+      let earlier = made_earlier T j m k o.made lt in
+      copy {k = j} {n = n} (record { stands = sym (a.steps j earlier) ∙ o.stands; made = o.made ∙ sent-same j (agree_below j (omega arith) a); earlier = o.earlier }) (value-same P n k v a (omega (arith, o.earlier, lt)) h)
 
   pub replies-same : (opening : List Value) (j : ℕ) (s : Step) (r : Val) → WellFormed T → WellFormed U → Agree T U j → IsKnownAt T j s → Replies T opening j s r → Replies U opening j s r
   replies-same opening j (Get t) r v w a known h =
@@ -51,18 +63,7 @@ module _ {T U : Run} where
   replies-same opening j (Skip t) r v w a known h = h
   replies-same opening j (Send t u x) r v w a known h = h
   replies-same opening j (Stabilize t) r v w a known h = h
-  replies-same opening j (Take t m) r v w a known h = absurd h
-  replies-same opening j (Drop t m) r v w a known h = absurd h
-  replies-same opening j (Fall t m) r v w a known h = absurd h
-  replies-same opening j (Void t m) r v w a known h = absurd h
-  replies-same opening j (Checkpoint t) r v w a known h = absurd h
-  replies-same opening j (Hold t) r v w a known h = absurd h
-  replies-same opening j (Rollback t) r v w a known h = absurd h
-  replies-same opening j (Stay t) r v w a known h = absurd h
-  replies-same opening j (Done t) r v w a known h = absurd h
-  replies-same opening j (Trap t c) r v w a known h = absurd h
-  replies-same opening j (Fail t) r v w a known h = absurd h
-  replies-same opening j (Lose m) r v w a known h = absurd h
+  replies-same opening j s r v w a known h = absurd h
 
   pub replies_of-same : (opening : List Value) (t a k : ℕ) (rs : List Val) → WellFormed T → WellFormed U → Agree T U k → RepliesOf T opening t a k rs → RepliesOf U opening t a k rs
   replies_of-same opening t a k rs v w g (before le) = before le
@@ -117,11 +118,27 @@ module _ {T U : Run} where
 not_free-same : (T U : Run) (t k : ℕ) → SameDecisionsAt T U k → t < born T k → (¬ Free T t k) ↔ (¬ Free U t k)
 not_free-same T U t k d lt = (λ n f. n ((d.free t lt).1 f), λ n f. n ((d.free t lt).0 f))
 
+-- whether a message is a notice, and who its sender is
+notice-same : (T U : Run) (m k : ℕ) → Agree T U k → m < sent T k → IsNotice T m → IsNotice U m
+notice-same T U m k a lt h =
+    let before = origin_before T h.place h.by m k h.origin lt in
+    record { place = h.place; by = h.by; origin = ((same_at T U k a).origin m h.place h.by lt).0 h.origin; echo = ap (λ o. option_map_or is_echo o false) (sym (a.steps h.place before)) ∙ h.echo }
+
+not_notice-same : (T U : Run) (m k : ℕ) → Agree T U k → m < sent T k → ¬ IsNotice T m → ¬ IsNotice U m
+not_notice-same T U m k a lt n h = n (notice-same U T m k (agree_sym a) (omega (arith, lt, sent-same k a)) h)
+
+sender-same : (T U : Run) (m u k : ℕ) → Agree T U k → m < sent T k → HasSender T m u → HasSender U m u
+sender-same T U m u k a lt s = record { place = s.place; origin = ((same_at T U k a).origin m s.place u lt).0 s.origin }
+
+echoes-same : (P : Program) (T U : Run) (m k : ℕ) → Agree T U k → m < sent T k → Echoes P T m k → Echoes P U m k
+echoes-same P T U m k a lt e =
+    record { version = e.version; not_notice = not_notice-same T U m k a lt e.not_notice; sender = e.sender; has = sender-same T U m e.sender k a lt e.has; living = living-same e.sender k a e.living }
+
 pub fits_same : (P : Program) (T U : Run) (k : ℕ) (s : Step) → WellFormed T → WellFormed U → Agree T U k → IsKnownAt T k s → Fits P T k s → Fits P U k s
-fits_same P T U k (Take t m) v w a known f = (arrives-same t m k a known.1 f.0, ((decisions_local T U k v w a).verdict t m _ known.0 known.1).0 f.1)
+fits_same P T U k (Take t m) v w a known f = (arrives-same t m k a known.1 f.0, ((decisions_local T U k v w a).verdict t m _ known.0 known.1).0 f.1, not_notice-same T U m k a known.1 f.2)
 fits_same P T U k (Drop t m) v w a known f = (arrives-same t m k a known.1 f.0, ((decisions_local T U k v w a).verdict t m _ known.0 known.1).0 f.1)
 fits_same P T U k (Fall t m) v w a known f = (arrives-same t m k a known.1 f.0, ((decisions_local T U k v w a).verdict t m _ known.0 known.1).0 f.1)
-fits_same P T U k (Void t m) v w a known f = late-same t m k a known.1 f
+fits_same P T U k (Void t m) v w a known f = (late-same t m k a known.1 f.0, λ e. f.1 (echoes-same P U T m k (agree_sym a) (omega (arith, known.1, sent-same k a)) e))
 fits_same P T U k (Get t) v w a known f = turn_has-same P t k _ v w a f
 fits_same P T U k (Set t x) v w a known f = (turn_has-same P t k _ v w a f.0, stable-same t k a _ f.1)
 fits_same P T U k (Skip t) v w a known f = (f.0, turn_has-same P t k _ v w a f.1, stable-same t k a _ f.2)
@@ -139,3 +156,6 @@ fits_same P T U k (Done t) v w a known f = turn_has-same P t k _ v w a f
 fits_same P T U k (Trap t c) v w a known f = ⊎_elim (λ h. inl (turn_has-same P t k _ v w a h)) (λ h. inr (h.0, lacks-same P t k v w a h.1)) f
 fits_same P T U k (Fail t) v w a known f = (omega (arith, f.0, born-same k a), living-same t k a f.1)
 fits_same P T U k (Lose m) v w a known f = ((same_at T U k a).in_flight m).0 f
+fits_same P T U k (Echo t m) v w a known f = (late-same t m k a known.1 f.0, echoes-same P T U m k a known.1 f.1)
+fits_same P T U k (Heed t m) v w a known f = (arrives-same t m k a known.1 f.0, ((decisions_local T U k v w a).verdict t m _ known.0 known.1).0 f.1, notice-same T U m k a known.1 f.2)
+fits_same P T U k (Repeat m) v w a known f = (((same_at T U k a).in_flight m).0 f.0, f.1)

@@ -7,9 +7,5 @@ use Rattle.tau_legal.specs.Traces.{Fitting}
 use Rattle.tau_legal.specs.Receivers.{HasReceiver}
 use Rattle.tau_legal.proofs.TurnLemmas.{receiver_exists}
 
--- any message has one: each Send names its receiver
-pub has_receiver : (T : Run) (m : ℕ) → m < sent T (len T) → HasReceiver T m
-has_receiver T m l = receiver_exists T m (len T) (omega arith) l
-
 pub receivers_of_fitting : (P : Program) (T : Run) (m : ℕ) → Fitting P T → m < sent T (len T) → HasReceiver T m
-receivers_of_fitting P T m f l = has_receiver T m l
+receivers_of_fitting P T m f l = receiver_exists P T f.steps m (len T) (omega arith) l

@@ -63,14 +63,14 @@ unfolding history
 source_pending k lt le = touched {j = 1} (source_turn k (omega arith) le) (omega arith) lt (record { step = Set 0 one; stands = refl; by = refl; passes = refl }) refl
 
 second_carries : SentWith dropping_run 3 source_point
-second_carries = record { place = 3; by = 0; origin = direct second_sent; carried = record { by = 0; acts = refl; pending = source_pending 3 (omega arith) (omega arith) } }
+second_carries = record { place = 3; by = 0; origin = direct second_sent; send = refl; carried = record { by = 0; acts = refl; pending = source_pending 3 (omega arith) (omega arith) } }
 
 -- by its Set at place 6 the sink's point takes the source's
 sink_takes : (H : ℕ → Type 0) → H 6 → PastIn dropping_run H (Is (point_at dropping_run 1 11)) source_point
 unfolding history
 sink_takes H held =
     reach.next (reach.start refl) (takes {j = 6} held (by_set {t = 1} (record { step = Set 1 one; stands = refl; by = refl; passes = refl }) refl
-    (record { by = 1; acts = refl; pending = came sink_turn (direct first_sent) (source_pending 2 (omega arith) (omega arith)) }) (λ e. omega (arith, ap (λ p. p.who) e))))
+    (record { by = 1; acts = refl; pending = came sink_turn (direct first_sent) refl (source_pending 2 (omega arith) (omega arith)) }) (λ e. omega (arith, ap (λ p. p.who) e))))
 
 -- who has heard of the third message's Send has heard of the rollback
 rollback_falls : Falls dropping_run 0 4

@@ -37,6 +37,7 @@ pub well_formed_prefix : (T : Run) (k : ℕ) → WellFormed T → k ≤ len T �
 well_formed_prefix T k w l = record {
   opening = w.opening;
   known = known;
+  versions = λ j s e. let below : j < k = omega (arith, slice_get_within (take k T.steps) j s e, len-prefix T k l) in w.versions j s (sym (slice_get-take k T.steps j below) ∙ e);
   few_steps = omega (arith, len-prefix T k l, w.few_steps);
 } where
   known : (j : ℕ) (s : Step) → step_at (prefix T k) j ≡ Some s → IsKnownAt (prefix T k) j s

@@ -11,10 +11,10 @@ use Rattle.tau_tree.specs.declared.programs.Program.{Program}
 use Rattle.tau_tree.specs.Code.{Code}
 use Rattle.tau_tree.specs.Sound.{Sound}
 use Rattle.tau_trace.specs.declared.step.Step.{Step}
-use Rattle.tau_trace.specs.declared.step.Step.TheVariants.{Take, Drop, Fall, Void, Get, Set, Skip, Send, New, Stabilize, Ask, Rollback, Trap, Fail}
+use Rattle.tau_trace.specs.declared.step.Step.TheVariants.{Take, Drop, Fall, Void, Get, Set, Skip, Send, New, Stabilize, Ask, Rollback, Trap, Fail, Echo, Heed, Repeat}
 use Rattle.tau_trace.specs.Steps.{actor, ends_turn, is_take, is_new, makes_message}
 use Rattle.tau_trace.specs.Run.{Run, step_at, len, starts, ActsAt, Does}
-use Rattle.tau_trace.specs.Numbering.{born, sent, IsNew, IsSent, Receives, post, message}
+use Rattle.tau_trace.specs.Numbering.{born, sent, IsNew, HasSender, Receives, post, message, notice, copy}
 use Rattle.tau_trace.specs.Histories.{Ended, IsFallingStep, by_fall, by_rollback, by_trap, by_fail}
 use Rattle.tau_trace.specs.Turns.{Turn, IsOpenTurn}
 use Rattle.tau_trace.specs.Known.{WellFormed}
@@ -22,13 +22,16 @@ use Rattle.tau_trace.proofs.Lists.{same_some}
 use Rattle.tau_trace.proofs.Counts.{count-zero}
 use Rattle.tau_trace.proofs.Counted.{falls_falling}
 use Rattle.tau_trace.proofs.Indexing.{born-next, sent-next}
-use Rattle.tau_trace.proofs.Agreement.{born-grows, sent_before}
+use Rattle.tau_trace.proofs.Agreement.{born-grows, sent_before, origin_before}
+use Rattle.tau_trace.proofs.Once.{origin_acts}
+use Rattle.tau_trace.proofs.Quiet.{acts_born}
 use Rattle.tau_trace.proofs.Sequences.{cases_last}
 use Rattle.tau_states.specs.Opening.{opening_states}
 use Rattle.tau_eval.specs.Eff.{Eff}
 use Rattle.tau_eval.specs.Meaning.{next}
 use Rattle.tau_legal.specs.Turns as turns
 use Rattle.tau_legal.specs.Turns.{HasBehaviour, start, created, HasBody, HasValue, Replies, RepliesOf, before, another, reply, TurnHas}
+use Rattle.tau_legal.specs.Fits.{Fits}
 use Rattle.tau_legal.specs.Traces.{Fitting}
 use Rattle.tau_legal.proofs.ValueLemmas.{at_all}
 use Rattle.tau_legal.proofs.StateLemmas.{element, state_exists}
@@ -38,12 +41,6 @@ record IsMaker (T : Run) (t : ℕ) : Type 0 where
   pub place : ℕ
   pub by : ℕ
   pub birth : IsNew T place by t
-
--- a step makes m
-record IsSender (T : Run) (m : ℕ) : Type 0 where
-  pub place : ℕ
-  pub by : ℕ
-  pub origin : IsSent T place by m
 
 made_here : (T : Run) (t k : ℕ) (s : Step) → step_at T k ≡ Some s → born T k ≤ t → t < born T (suc k) → IsMaker T t
 made_here T t k (New by b n v) e ge lt =
@@ -58,29 +55,43 @@ maker_exists T t (suc k) l ge lt =
     let here = element T.steps k (omega arith) in
     ⊎_elim (λ b. maker_exists T t k (omega arith) ge b) (λ le. made_here T t k here.0 here.1 le lt) (cases_lt t (born T k))
 
-sent_here : (T : Run) (m k : ℕ) (s : Step) → step_at T k ≡ Some s → sent T k ≤ m → m < sent T (suc k) → IsSender T m
-sent_here T m k (Send by to v) e ge lt =
-    let one = sent-next T k (Send by to v) e in
-    record { place = k; by = by; origin = record { to = to; value = v; stands = e; made = omega (arith, one) } }
-sent_here T m k s e ge lt = absurd (omega (arith, sent-next T k s e))
+-- in a fitting trace each message has a receiver: a post and the message of a Send by them, a notice since what was echoed has a
+-- sender, and a copy since what it repeats has one
+module _ (P : Program) (T : Run) (fits : (k : ℕ) (s : Step) → step_at T k ≡ Some s → Fits P T k s) where
+  receiver_here : (m k : ℕ) (s : Step) → step_at T k ≡ Some s → Fits P T k s → sent T k ≤ m → m < sent T (suc k) → ((n : ℕ) → n < sent T k → (t : ℕ) × Receives T n t) → (t : ℕ) × Receives T m t
+  receiver_here m k (Send by to v) e f ge lt all =
+      let one = sent-next T k (Send by to v) e in
+      (to, message {j = k} {by = by} (record { to = to; value = v; stands = e; made = omega (arith, one) }) refl)
+  receiver_here m k (Echo t n) e f ge lt all =
+      let one = sent-next T k (Echo t n) e in
+      let exists = f.0.in_flight.exists in
+      (f.1.sender, notice {j = k} {by = t} {n = n} (record { stands = e; made = omega (arith, one); earlier = omega (arith, exists) }) f.1.has)
+  receiver_here m k (Repeat n) e f ge lt all =
+      let one = sent-next T k (Repeat n) e in
+      let exists = f.0.exists in
+      let r = all n exists in
+      (r.0, copy {k = k} {n = n} (record { stands = e; made = omega (arith, one); earlier = omega (arith, exists) }) r.1)
+  receiver_here m k s e f ge lt all = absurd (omega (arith, sent-next T k s e))
 
--- a message that is no post was made by a Send
-sender_exists : (T : Run) (m k : ℕ) → k ≤ len T → length T.opening.targets ≤ m → m < sent T k → IsSender T m
-sender_exists T m zero l ge lt = absurd (omega (arith, count-zero (λ j. option_map_or makes_message (step_at T j) false)))
-sender_exists T m (suc k) l ge lt =
-    let here = element T.steps k (omega arith) in
-    ⊎_elim (λ b. sender_exists T m k (omega arith) ge b) (λ le. sent_here T m k here.0 here.1 le lt) (cases_lt m (sent T k))
+  receivers : (k : ℕ) → k ≤ len T → (m : ℕ) → m < sent T k → (t : ℕ) × Receives T m t
+  receivers zero l m lt =
+      let there = element T.opening.targets m (omega (arith, count-zero (λ j. option_map_or makes_message (step_at T j) false))) in
+      (there.0, post there.1)
+  receivers (suc k) l m lt =
+      let here = element T.steps k (omega arith) in
+      ⊎_elim (λ b. receivers k (omega arith) m b) (λ le. receiver_here m k here.0 here.1 (fits k here.0 here.1) le lt (λ n b. receivers k (omega arith) n b)) (cases_lt m (sent T k))
 
--- a message that exists has a receiver
-pub receiver_exists : (T : Run) (m k : ℕ) → k ≤ len T → m < sent T k → (t : ℕ) × Receives T m t
-receiver_exists T m k l lt = ⊎_elim of_post of_send (cases_lt m (length T.opening.targets)) where
-  of_post : m < length T.opening.targets → (t : ℕ) × Receives T m t
-  of_post b = let there = element T.opening.targets m b in (there.0, post there.1)
+  -- a message that exists has a receiver
+  pub receiver_exists : (m k : ℕ) → k ≤ len T → m < sent T k → (t : ℕ) × Receives T m t
+  receiver_exists m k l lt = receivers k l m lt
 
-  of_send : length T.opening.targets ≤ m → (t : ℕ) × Receives T m t
-  of_send ge = let s = sender_exists T m k l ge lt in (s.origin.to, message s.origin refl)
+-- the sender of a message exists
+pub sender_known : (T : Run) → WellFormed T → (m t k : ℕ) → m < sent T k → HasSender T m t → t < born T k
+sender_known T w m t k lt s =
+    let before = origin_before T s.place t m k s.origin lt in
+    omega (arith, acts_born T t s.place (w.known s.place) (origin_acts T s.place t m s.origin), born-grows T s.place k (omega (arith, before)))
 
--- which exists too
+-- and so does its receiver
 pub receiver_known : (T : Run) → WellFormed T → (m t k : ℕ) → m < sent T k → Receives T m t → t < born T k
 receiver_known T w m t k lt (post e) =
     let within = at_all (λ u. u < length T.opening.names) T.opening.targets m t w.opening.targets e in
@@ -89,6 +100,8 @@ receiver_known T w m t k lt (message {j = j} {by = by} o e) =
     let earlier = sent_before T j by m k o lt in
     let known = (w.known j (Send by o.to o.value) o.stands).1 in
     omega (arith, known, e, born-grows T j k (omega arith))
+receiver_known T w m t k lt (notice {n = n} o s) = sender_known T w n t k (omega (arith, o.earlier, lt)) s
+receiver_known T w m t k lt (copy {n = n} o r) = receiver_known T w n t k (omega (arith, o.earlier, lt)) r
 
 -- a falling step ends its transactor's turn
 falling_ends : (T : Run) (t k : ℕ) → IsFallingStep T t k → Does ends_turn T t k
@@ -126,15 +139,31 @@ module _ (P : Program) (T : Run) (sound : Sound P) (well : WellFormed T) (fittin
         body_by t birth.behaviour (created birth refl) (omega (arith, known, behaviours_are))
 
   -- a message that exists has a value
-  value_exists : (m k : ℕ) → k ≤ len T → m < sent T k → (v : Val) × HasValue P T m v
-  value_exists m k l lt = ⊎_elim of_post of_send (cases_lt m (length P.posts)) where
-    of_post : m < length P.posts → (v : Val) × HasValue P T m v
-    of_post b = let there = element P.posts m b in (val_of (there.0).value, turns.post {q = there.0} there.1 refl)
+  value_here : (m k : ℕ) (s : Step) → step_at T k ≡ Some s → Fits P T k s → sent T k ≤ m → m < sent T (suc k) → ((n : ℕ) → n < sent T k → (v : Val) × HasValue P T n v) → (v : Val) × HasValue P T m v
+  value_here m k (Send by to v) e f ge lt all =
+      let one = sent-next T k (Send by to v) e in
+      (val_of v, turns.message {j = k} {by = by} (record { to = to; value = v; stands = e; made = omega (arith, one) }) refl)
+  value_here m k (Echo t n) e f ge lt all =
+      let one = sent-next T k (Echo t n) e in
+      let exists = f.0.in_flight.exists in
+      (val.unit, turns.notice {j = k} {by = t} {n = n} (record { stands = e; made = omega (arith, one); earlier = omega (arith, exists) }) refl)
+  value_here m k (Repeat n) e f ge lt all =
+      let one = sent-next T k (Repeat n) e in
+      let exists = f.0.exists in
+      let r = all n exists in
+      (r.0, turns.copy {k = k} {n = n} (record { stands = e; made = omega (arith, one); earlier = omega (arith, exists) }) r.1)
+  value_here m k s e f ge lt all = absurd (omega (arith, sent-next T k s e))
 
-    of_send : length P.posts ≤ m → (v : Val) × HasValue P T m v
-    of_send ge =
-        let sender = sender_exists T m k l (omega (arith, posts_are)) lt in
-        (val_of sender.origin.value, turns.message sender.origin refl)
+  values : (k : ℕ) → k ≤ len T → (m : ℕ) → m < sent T k → (v : Val) × HasValue P T m v
+  values zero l m lt =
+      let there = element P.posts m (omega (arith, posts_are, count-zero (λ j. option_map_or makes_message (step_at T j) false))) in
+      (val_of (there.0).value, turns.post {q = there.0} there.1 refl)
+  values (suc k) l m lt =
+      let here = element T.steps k (omega arith) in
+      ⊎_elim (λ b. values k (omega arith) m b) (λ le. value_here m k here.0 here.1 (fitting.steps k here.0 here.1) le lt (λ n b. values k (omega arith) n b)) (cases_lt m (sent T k))
+
+  value_exists : (m k : ℕ) → k ≤ len T → m < sent T k → (v : Val) × HasValue P T m v
+  value_exists m k l lt = values k l m lt
 
   -- a transactor that has ended is in no turn
   ended_idle : (t k : ℕ) → Ended T t k → IsOpenTurn T t k None
@@ -174,7 +203,9 @@ module _ (P : Program) (T : Run) (sound : Sound P) (well : WellFormed T) (fittin
     gives j (Send u w v) a b e by goes = (val.unit, refl)
     gives j (Stabilize u) a b e by goes = (val.unit, refl)
     gives j (Drop u n) a b e by goes = absurd (idle_not u j n a b (same_some by) (fitting.steps j (Drop u n) e).0.idle)
-    gives j (Void u n) a b e by goes = absurd (idle_not u j n a b (same_some by) (ended_idle u j (fitting.steps j (Void u n) e).ended))
+    gives j (Void u n) a b e by goes = absurd (idle_not u j n a b (same_some by) (ended_idle u j (fitting.steps j (Void u n) e).0.ended))
+    gives j (Echo u n) a b e by goes = absurd (idle_not u j n a b (same_some by) (ended_idle u j (fitting.steps j (Echo u n) e).0.ended))
+    gives j (Heed u n) a b e by goes = absurd (idle_not u j n a b (same_some by) (fitting.steps j (Heed u n) e).0.idle)
     gives j s a b e by goes = absurd (cc)
 
     goes_on_at : (j : ℕ) (s : Step) → place < j → j < k → step_at T j ≡ Some s → actor s ≡ Some t → IsFalse (ends_turn s || is_take s)

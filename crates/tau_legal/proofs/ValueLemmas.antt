@@ -31,7 +31,7 @@ use Rattle.tau_tree.specs.Parts.{Throughout, NamesStart, NamesBehaviour, HasShor
 use Rattle.tau_trace.specs.Steps.{is_new}
 use Rattle.tau_trace.proofs.Counts.{count-suc}
 use Rattle.tau_legal.proofs.TraceLemmas.{below_length}
-use Rattle.tau_legal.specs.Turns.{HasValue, post, message, Replies, RepliesOf, before, another, reply, TurnHas}
+use Rattle.tau_legal.specs.Turns.{HasValue, post, message, notice, copy, Replies, RepliesOf, before, another, reply, TurnHas}
 
 -- an item of a list has what all items have
 pub at_all : {A : Type 0} (P : A → Type 0) (xs : List A) (k : ℕ) (x : A) → All P xs → slice_get xs k ≡ Some x → P x
@@ -91,6 +91,8 @@ module _ (P : Program) (T : Run) (sound : Sound P) (well : WellFormed T) (opens 
       let earlier = sent_before T j by m k o lt in
       let known = (well.known j (Send by o.to o.value) o.stands).2 in
       known_more (born T j) (born T k) v (born-grows T j k (omega arith)) (subst (IsKnown (born T j)) is (known_of (born T j) o.value known))
+  message_known m k v lt (notice o is) = subst (IsKnown (born T k)) is ((omega arith, omega arith), tt)
+  message_known m k v lt (copy {n = n} o h) = message_known n k v (omega (arith, o.earlier, lt)) h
 
   -- a value that a step at a place gave, is known at the end
   at_end : (j : ℕ) (s : Step) (v : Value) → step_at T j ≡ Some s → IsKnownValue (born T j) v → IsKnown (born T (len T)) (val_of v)
@@ -122,18 +124,7 @@ module _ (P : Program) (T : Run) (sound : Sound P) (well : WellFormed T) (opens 
   reply_known j (Skip t) r e h = subst (IsKnown (born T (len T))) (sym h) ((omega arith, omega arith), tt)
   reply_known j (Send t u x) r e h = subst (IsKnown (born T (len T))) (sym h) ((omega arith, omega arith), tt)
   reply_known j (Stabilize t) r e h = subst (IsKnown (born T (len T))) (sym h) ((omega arith, omega arith), tt)
-  reply_known j (Take t m) r e h = absurd h
-  reply_known j (Drop t m) r e h = absurd h
-  reply_known j (Fall t m) r e h = absurd h
-  reply_known j (Void t m) r e h = absurd h
-  reply_known j (Checkpoint t) r e h = absurd h
-  reply_known j (Hold t) r e h = absurd h
-  reply_known j (Rollback t) r e h = absurd h
-  reply_known j (Stay t) r e h = absurd h
-  reply_known j (Done t) r e h = absurd h
-  reply_known j (Trap t c) r e h = absurd h
-  reply_known j (Fail t) r e h = absurd h
-  reply_known j (Lose m) r e h = absurd h
+  reply_known j s r e h = absurd h
 
   -- the replies of a turn
   replies_known : (t a k : ℕ) (rs : List Val) → RepliesOf T (opening_states P.starts) t a k rs → AreKnown (born T (len T)) rs

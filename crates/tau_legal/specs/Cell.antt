@@ -39,6 +39,7 @@ five_to_cell = record { to = 0; value = five }
 
 abbrev pub adding_cell : Program
 adding_cell = record {
+  version = 1;
   nodes = 1;
   behaviours = cell ∷ [];
   starts = cell_start ∷ [];

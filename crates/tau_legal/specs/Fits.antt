@@ -4,10 +4,10 @@ use Rattle.tau_value.specs.Val.{Val}
 use Rattle.tau_value.specs.Value.{val_of}
 use Rattle.tau_tree.specs.declared.programs.Program.{Program}
 use Rattle.tau_trace.specs.declared.step.Step.{Step}
-use Rattle.tau_trace.specs.declared.step.Step.TheVariants.{Take, Drop, Fall, Void, Get, Set, Skip, Send, New, Stabilize, Ask, Checkpoint, Hold, Rollback, Stay, Done, Trap, Fail, Lose}
+use Rattle.tau_trace.specs.declared.step.Step.TheVariants.{Take, Drop, Fall, Void, Get, Set, Skip, Send, New, Stabilize, Ask, Checkpoint, Hold, Rollback, Stay, Done, Trap, Fail, Lose, Echo, Heed, Repeat}
 use Rattle.tau_trace.specs.Steps.{actor}
 use Rattle.tau_trace.specs.Run.{Run, len}
-use Rattle.tau_trace.specs.Numbering.{born, Receives, InFlight}
+use Rattle.tau_trace.specs.Numbering.{born, Receives, InFlight, HasSender, IsNotice}
 use Rattle.tau_trace.specs.Histories.{history, Ended, IsLiving}
 use Rattle.tau_trace.specs.Turns.{IsOpenTurn}
 use Rattle.tau_past.specs.Decisions.{Verdict, takes, drops, falls, Free}
@@ -26,6 +26,15 @@ pub record ArrivesLate (T : Run) (t m k : ℕ) : Type 0 where
   pub in_flight : InFlight T m k
   pub receiver : Receives T m t
   pub ended : Ended T t k
+
+-- the receipt of message m at place k by a transactor that has ended makes a notice: the version is 2, m isn't a notice itself, and
+-- it has a sender, which lives
+pub record Echoes (P : Program) (T : Run) (m k : ℕ) : Type 0 where
+  pub version : P.version ≡ 2
+  pub not_notice : ¬ IsNotice T m
+  pub sender : ℕ
+  pub has : HasSender T m sender
+  pub living : IsLiving T sender k
 
 -- the most transactors that there can be
 abbrev pub most_transactors : ℕ
@@ -46,12 +55,12 @@ pub record LacksNumber (P : Program) (T : Run) (t k : ℕ) : Type 0 where
   pub effect : TurnHas P T t k (eff.new behaviour node state)
   pub full : most_transactors ≤ born T k
 
--- the step fits after the steps before place k
+-- the step fits after the steps before place k; in version 1 there is no notice, and no Echo, Heed and Repeat fits
 abbrev pub Fits : Program → Run → ℕ → Step → Type 0
-Fits P T k (Take t m) = Arrives T t m k × Verdict T t k m takes
+Fits P T k (Take t m) = Arrives T t m k × Verdict T t k m takes × (¬ IsNotice T m)
 Fits P T k (Drop t m) = Arrives T t m k × Verdict T t k m drops
 Fits P T k (Fall t m) = Arrives T t m k × Verdict T t k m falls
-Fits P T k (Void t m) = ArrivesLate T t m k
+Fits P T k (Void t m) = ArrivesLate T t m k × (¬ Echoes P T m k)
 Fits P T k (Get t) = TurnHas P T t k eff.get
 Fits P T k (Set t v) = TurnHas P T t k (eff.set (val_of v)) × IsVolatile T t k
 Fits P T k (Skip t) = (v : Val) × TurnHas P T t k (eff.set v) × IsStable T t k
@@ -67,6 +76,9 @@ Fits P T k (Done t) = TurnHas P T t k eff.done
 Fits P T k (Trap t code) = TurnHas P T t k (eff.trap code) ⊎ ((code ≡ 7) × LacksNumber P T t k)
 Fits P T k (Fail t) = (t < born T k) × IsLiving T t k
 Fits P T k (Lose m) = InFlight T m k
+Fits P T k (Echo t m) = ArrivesLate T t m k × Echoes P T m k
+Fits P T k (Heed t m) = Arrives T t m k × Verdict T t k m takes × IsNotice T m
+Fits P T k (Repeat m) = InFlight T m k × (P.version ≡ 2)
 
 -- the kinds of steps that an open turn makes
 abbrev pub is_of_turn : Step → Bool

@@ -27,6 +27,7 @@ zero_to_source = record { to = 0; value = zero_state }
 
 abbrev pub falling_source : Program
 falling_source = record {
+  version = 1;
   nodes = 1;
   behaviours = source ∷ sink ∷ [];
   starts = source_start ∷ sink_start ∷ [];

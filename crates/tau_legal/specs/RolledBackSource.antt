@@ -47,6 +47,7 @@ two_to_source = record { to = 0; value = two }
 
 abbrev pub rolled_back_source : Program
 rolled_back_source = record {
+  version = 1;
   nodes = 1;
   behaviours = source ∷ sink ∷ [];
   starts = source_start ∷ sink_start ∷ [];

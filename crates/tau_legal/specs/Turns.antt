@@ -12,7 +12,7 @@ use Rattle.tau_tree.specs.Code.{Code}
 use Rattle.tau_trace.specs.declared.step.Step.{Step}
 use Rattle.tau_trace.specs.declared.step.Step.TheVariants.{Get, Set, Skip, Send, New, Stabilize, Ask}
 use Rattle.tau_trace.specs.Run.{Run, step_at, ActsAt}
-use Rattle.tau_trace.specs.Numbering.{born, IsNew, IsSent}
+use Rattle.tau_trace.specs.Numbering.{born, IsNew, IsSent, IsEchoed, IsRepeated}
 use Rattle.tau_trace.specs.Points.{point_at}
 use Rattle.tau_trace.specs.Turns.{Turn}
 use Rattle.tau_past.specs.States.{StateAt}
@@ -33,10 +33,13 @@ pub record HasBody (P : Program) (T : Run) (t : ℕ) (body : Code) : Type 0 wher
   pub stands : slice_get P.behaviours number ≡ Some behaviour
   pub is : behaviour.body ≡ body
 
--- the value of message m: a post's by the program, another one's by its Send
-pub data HasValue (P : Program) (T : Run) (m : ℕ) (v : Val) : Type 0 where
-  post : {q : Post} → slice_get P.posts m ≡ Some q → val_of q.value ≡ v → HasValue P T m v
-  message : {j by : ℕ} → (origin : IsSent T j by m) → val_of origin.value ≡ v → HasValue P T m v
+-- the value of a message: a post's by the program, that of a Send by it; that of a notice is unit, and that of a copy the one of
+-- the message that it repeats
+pub data HasValue (P : Program) (T : Run) : ℕ → Val → Type 0 where
+  post : {m : ℕ} {v : Val} {q : Post} → slice_get P.posts m ≡ Some q → val_of q.value ≡ v → HasValue P T m v
+  message : {j by m : ℕ} {v : Val} → (origin : IsSent T j by m) → val_of origin.value ≡ v → HasValue P T m v
+  notice : {j by n m : ℕ} {v : Val} → IsEchoed T j by n m → val.unit ≡ v → HasValue P T m v
+  copy : {k n m : ℕ} {v : Val} → IsRepeated T k n m → HasValue P T n v → HasValue P T m v
 
 -- the reply that the step at place j gives its turn: the state for a Get, the truth for an Ask, the new name for a New, and
 -- unit for a Set, Skip, Send or Stabilize

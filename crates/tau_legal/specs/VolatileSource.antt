@@ -51,6 +51,7 @@ seven_to_source = record { to = 0; value = seven }
 
 abbrev pub volatile_source : Program
 volatile_source = record {
+  version = 1;
   nodes = 1;
   behaviours = source ∷ sink ∷ [];
   starts = source_start ∷ sink_start ∷ [];

@@ -5,7 +5,7 @@ use Rattle.tau_points.specs.declared.point.Point.{Point}
 use Rattle.tau_points.proofs.PointOrder.{point_cmp-total}
 use Rattle.tau_tree.specs.declared.programs.Program.{Program}
 use Rattle.tau_forms.specs.Printed as forms
-use Rattle.tau_trace.specs.Run.{Run, len}
+use Rattle.tau_trace.specs.Run.{Run, len, second}
 use Rattle.tau_trace.specs.Places.{IsFirst}
 use Rattle.tau_past.specs.Audits.{IsBrokenAt, IsLeastBreak, RollsBackAt, IsBroken}
 use Rattle.tau_check.specs.Legality.{IsFirstIllegal}
@@ -17,7 +17,7 @@ use Rattle.tau_explain.proofs.OneAnswer.{one_answer}
 use Rattle.tau_cut.specs.Texts.{IsCutText}
 use Rattle.tau_cut.proofs.OneCut.{cut_text_once}
 use Rattle.tau_command.specs.declared.commands.Command.{Command}
-use Rattle.tau_command.specs.declared.commands.Command.TheVariants.{Run as RunCommand, Check, Audit, Report, Print, Gen, Drill, Why, Cut}
+use Rattle.tau_command.specs.declared.commands.Command.TheVariants.{Run as RunCommand, Check, Audit, Report, Print, Gen, Drill, Migrate, Why, Cut}
 use Rattle.tau_text.specs.declared.errors.InputError.{InputError}
 use Rattle.tau_text.specs.declared.errors.InputError.TheVariants as inputs
 use Rattle.tau_text.specs.Errors.{TellsInputFault}
@@ -31,13 +31,14 @@ use Rattle.tau_output.specs.Refusals.{of_input_error, TellsFault, TellsNotAsked}
 use Rattle.tau_output.specs.Faults.{input_limit, reads_input, IsFaultOf, IsInputFault, too_long, within}
 use Rattle.tau_output.specs.Explaining.{ExplainsAs, IsNotAsked, AsksInVain}
 use Rattle.tau_output.specs.Cutting.{CutsAs}
+use Rattle.tau_output.specs.Migrating.{second_program, IsRewritten, MigratesAs}
 use Rattle.tau_output.specs.Inner.Ends.{refused_by}
 use Rattle.tau_output.specs.Checks.{IsChecked, bad_line, ChecksAs}
 use Rattle.tau_output.specs.Audits.{IsAudited, broken_line, AuditsAs}
 use Rattle.tau_output.specs.Writing.{Answers, Writes, by_one_worker, WritesSerially}
 use Rattle.tau_output.specs.Reports.{ReportsAs}
 use Rattle.tau_output.specs.Printing.{PrintsAs}
-use Rattle.tau_output.proofs.SerialLemmas.{runs_once, drills_once}
+use Rattle.tau_output.proofs.SerialLemmas.{text_once, runs_once, drills_once}
 use Rattle.tau_output.specs.Laws.{WritesOnce, WritesWithoutFault, WritesWhereAsked, FailsOnce}
 
 -- bytes have one fault as a command takes them
@@ -49,6 +50,7 @@ one_fault_of Report bytes a b c d f g = (run_unique bytes).one_fault a b c d f g
 one_fault_of Print bytes a b c d f g = (print_unique bytes).one_fault a b c d f g
 one_fault_of (Gen number) bytes a b c d f g = absurd f
 one_fault_of (Drill number) bytes a b c d f g = absurd f
+one_fault_of Migrate bytes a b c d f g = (run_unique bytes).one_fault a b c d f g
 one_fault_of (Why place) bytes a b c d f g = (run_unique bytes).one_fault a b c d f g
 one_fault_of Cut bytes a b c d f g = (run_unique bytes).one_fault a b c d f g
 
@@ -67,6 +69,7 @@ clean Report bytes end text a b w f = (run_unique bytes).not_both (w.0.program, 
 clean Print bytes end text a b w f = (print_unique bytes).not_both w.0.program a b w.0.read f
 clean (Gen number) bytes end text a b w f = absurd f
 clean (Drill number) bytes end text a b w f = absurd f
+clean Migrate bytes end text a b w f = (run_unique bytes).not_both (w.program, w.run) a b w.read f
 clean (Why place) bytes end text a b w f = (run_unique bytes).not_both (w.0.program, w.0.run) a b w.0.read f
 clean Cut bytes end text a b w f = (run_unique bytes).not_both (w.0.program, w.0.run) a b w.0.read f
 
@@ -159,6 +162,7 @@ serially_answered Report bytes end text w = w
 serially_answered Print bytes end text w = w
 serially_answered (Gen number) bytes end text w = w
 serially_answered (Drill number) bytes end text w = w
+serially_answered Migrate bytes end text w = w
 serially_answered (Why place) bytes end text w = w
 serially_answered Cut bytes end text w = w
 
@@ -171,6 +175,7 @@ same_reading Report reads = reads
 same_reading Print reads = reads
 same_reading (Gen number) reads = reads
 same_reading (Drill number) reads = reads
+same_reading Migrate reads = reads
 same_reading (Why place) reads = reads
 same_reading Cut reads = reads
 
@@ -305,6 +310,26 @@ print_text_once : (bytes text other : List ℕ) → PrintsAs bytes text → Prin
 print_text_once bytes text other v w =
     v.is_text ∙ ap (λ p. printed (forms.printed p)) ((print_unique bytes).one_meaning v.program w.program v.read w.read) ∙ sym w.is_text
 
+rewritten_once : (P : Program) (T : Run) (end another : End) (text other : List ℕ) → IsRewritten P T end text → IsRewritten P T another other → (end ≡ another) × (text ≡ other)
+rewritten_once P T Done Done text other h k = (refl, text_once P T text other h.is_text k.is_text)
+rewritten_once P T Done (Bad k) text other h i = absurd (i.0.illegal (h.legal.steps k i.0.step i.0.stands))
+rewritten_once P T (Bad j) Done text other h i = absurd (h.0.illegal (i.legal.steps j h.0.step h.0.stands))
+rewritten_once P T (Bad j) (Bad k) text other h i =
+    let same = first_illegal_once P T j k h.0 i.0 in
+    (ap Bad same, h.1 ∙ ap bad_line same ∙ sym i.1)
+rewritten_once P T Done Stopped text other h i = absurd i
+rewritten_once P T Done (Broken c p f) text other h i = absurd i
+rewritten_once P T (Bad j) Stopped text other h i = absurd i
+rewritten_once P T (Bad j) (Broken c p f) text other h i = absurd i
+rewritten_once P T Stopped another text other h i = absurd h
+rewritten_once P T (Broken c p f) another text other h i = absurd h
+
+migrate_once : (bytes : List ℕ) (end another : End) (text other : List ℕ) → MigratesAs bytes end text → MigratesAs bytes another other → (end ≡ another) × (text ≡ other)
+migrate_once bytes end another text other v w =
+    let same = (run_unique bytes).one_meaning (v.program, v.run) (w.program, w.run) v.read w.read in
+    let there : IsRewritten (second_program v.program) (second v.run) another other = subst (λ (x : Program × Run). IsRewritten (second_program x.0) (second x.1) another other) (sym same) w.migrated in
+    rewritten_once (second_program v.program) (second v.run) end another text other v.migrated there
+
 explain_once : (place : ℕ) (bytes text other : List ℕ) → ExplainsAs place bytes text → ExplainsAs place bytes other → text ≡ other
 explain_once place bytes text other v w =
     let same = (run_unique bytes).one_meaning (v.program, v.run) (w.program, w.run) v.read w.read in
@@ -326,6 +351,7 @@ answers_once Report bytes end another text other v w = (v.1 ∙ sym w.1, report_
 answers_once Print bytes end another text other v w = (v.1 ∙ sym w.1, print_text_once bytes text other v.0 w.0)
 answers_once (Gen number) bytes end another text other v w = (v.1 ∙ sym w.1, v.0.is_text ∙ sym w.0.is_text)
 answers_once (Drill number) bytes end another text other v w = drills_once number end another text other v w
+answers_once Migrate bytes end another text other v w = migrate_once bytes end another text other v w
 answers_once (Why place) bytes end another text other v w = (v.1 ∙ sym w.1, explain_once place bytes text other v.0 w.0)
 answers_once Cut bytes end another text other v w = (v.1 ∙ sym w.1, cut_once bytes text other v.0 w.0)
 

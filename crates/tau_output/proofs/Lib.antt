@@ -7,3 +7,4 @@ pub mod ExplainLemmas
 pub mod TogetherLemmas
 pub mod DrillLemmas
 pub mod SerialLemmas
+pub mod MigrationLemmas

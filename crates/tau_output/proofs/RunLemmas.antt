@@ -3,7 +3,7 @@ use Rattle.std.proofs.Common.{◌≡◌, inl, inr, ℕ, Bool, true, false, List,
 use Rattle.std.proofs.lemmas.List.Elements.{All-nil, All-cons, All-append}
 use Rattle.tau_sexpr.specs.Tree.{Tree}
 use Rattle.tau_tree.specs.declared.programs.Program.{Program}
-use Rattle.tau_trace.specs.declared.step.Step.TheVariants.{Take, Drop, Fall, Checkpoint, Hold}
+use Rattle.tau_trace.specs.declared.step.Step.TheVariants.{Take, Drop, Fall, Checkpoint, Hold, Heed}
 use Rattle.tau_trace.specs.Run.{Run}
 use Rattle.tau_legal.specs.Traces.{Legal}
 use Rattle.tau_legal.specs.Ends.{EndsAt}
@@ -31,6 +31,7 @@ decided P T l = record {
   takes = λ t m k e. (l.steps k (Take t m) e).fits.1;
   drops = λ t m k e. (l.steps k (Drop t m) e).fits.1;
   falls = λ t m k e. (l.steps k (Fall t m) e).fits.1;
+  heeds = λ t m k e. (l.steps k (Heed t m) e).fits.1;
 }
 
 -- each form for a saved state is a line of the report, and so are the counts

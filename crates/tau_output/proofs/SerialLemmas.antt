@@ -35,7 +35,7 @@ forms_once P T fs gs a b =
     let report : a.report ≡ b.report = report_once P T a.report b.report a.report_is b.report_is in
     a.are ∙ (λ i. program_forms.printed P ++ (trace_mark ∷ (steps i ++ (report_mark ∷ report i)))) ∙ sym b.are
 
-text_once : (P : Program) (T : Run) (text other : List ℕ) → IsRunText P T text → IsRunText P T other → text ≡ other
+pub text_once : (P : Program) (T : Run) (text other : List ℕ) → IsRunText P T text → IsRunText P T other → text ≡ other
 text_once P T text other a b = a.is ∙ ap printed (forms_once P T a.forms b.forms a.are b.are) ∙ sym b.is
 
 text_of_same : (P Q : Program) (T U : Run) (text other : List ℕ) → P ≡ Q → T ≡ U → IsRunText P T text → IsRunText Q U other → text ≡ other

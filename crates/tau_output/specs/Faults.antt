@@ -1,7 +1,7 @@
 -- The fault of the input of a command (docs/formats.md, "Input faults").
 use Rattle.std.specs.Prelude.{◌≡◌, ℕ, ◌<◌, ◌≤◌, Bool, true, false, IsTrue, List, length}
 use Rattle.tau_command.specs.declared.commands.Command.{Command}
-use Rattle.tau_command.specs.declared.commands.Command.TheVariants.{Run, Check, Audit, Report, Print, Gen, Drill, Why, Cut}
+use Rattle.tau_command.specs.declared.commands.Command.TheVariants.{Run, Check, Audit, Report, Print, Gen, Drill, Migrate, Why, Cut}
 use Rattle.tau_text.specs.FaultNumbers.{fault_number}
 use Rattle.tau_text.specs.declared.faults.InputFault.TheVariants.{TooLong}
 use Rattle.tau_text.specs.Faults.{IsProgramFault, IsRunFault, IsPrintFault}
@@ -19,6 +19,7 @@ reads_input Report = true
 reads_input Print = true
 reads_input (Gen number) = false
 reads_input (Drill number) = false
+reads_input Migrate = true
 reads_input (Why place) = true
 reads_input Cut = true
 
@@ -31,6 +32,7 @@ IsFaultOf Report bytes fault at = IsRunFault bytes fault at
 IsFaultOf Print bytes fault at = IsPrintFault bytes fault at
 IsFaultOf (Gen number) bytes fault at = ⊥
 IsFaultOf (Drill number) bytes fault at = ⊥
+IsFaultOf Migrate bytes fault at = IsRunFault bytes fault at
 IsFaultOf (Why place) bytes fault at = IsRunFault bytes fault at
 IsFaultOf Cut bytes fault at = IsRunFault bytes fault at
 

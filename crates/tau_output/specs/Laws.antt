@@ -1,15 +1,19 @@
 -- What holds of all inputs: a command writes one text, none for an input with a fault or a place that is not asked, an input has one
--- fault, and what `run` writes determines its program and its run, and is accepted by the other commands.
+-- fault, what `run` writes determines its program and its run, and what `run` and `migrate` write is accepted by the other commands.
 use Rattle.std.specs.Prelude.{◌≡◌, ℕ, ◌≤◌, List, [], length, codes}
 use Rattle.tau_sexpr.specs.Printing.{printed}
 use Rattle.tau_forms.specs.Printed as forms
 use Rattle.tau_command.specs.declared.commands.Command.{Command}
-use Rattle.tau_command.specs.declared.commands.Command.TheVariants.{Check, Audit, Print, Why}
+use Rattle.tau_command.specs.declared.commands.Command.TheVariants.{Check, Audit, Print, Migrate, Why}
+use Rattle.tau_trace.specs.Run.{second}
+use Rattle.tau_legal.specs.Traces.{Complete}
+use Rattle.tau_text.specs.Meaning.{IsRunInput}
 use Rattle.tau_output.specs.declared.outputs.End.{End}
 use Rattle.tau_output.specs.declared.outputs.End.TheVariants.{Done, Stopped}
 use Rattle.tau_output.specs.Faults.{input_limit, IsInputFault}
 use Rattle.tau_output.specs.Explaining.{IsNotAsked}
 use Rattle.tau_output.specs.Runs.{RunsAs}
+use Rattle.tau_output.specs.Migrating.{second_program, MigratesAs}
 use Rattle.tau_output.specs.Writing.{Writes, WritesSerially}
 
 -- on one thread a command writes no other text for the same bytes, and ends in no other way
@@ -53,3 +57,18 @@ pub record IsAccepted {limit : ℕ} {bytes : List ℕ} {end : End} {text : List 
 -- so it is where the text isn't longer than an input may be
 abbrev pub RunTextsAreAccepted : Type 0
 RunTextsAreAccepted = (limit : ℕ) (bytes : List ℕ) (end : End) (text : List ℕ) (one : RunsAs limit bytes end text) → length text ≤ input_limit → IsAccepted one
+
+-- a text that `migrate` writes is read back as the program in version 2 and a run with the same steps; of it `check` says that it is
+-- legal, and whether it is complete, `audit` that it is safe, `print` writes its program, and `migrate` writes it again
+pub record IsMigrationAccepted {bytes text : List ℕ} (one : MigratesAs bytes Done text) : Type 0 where
+  pub read : IsRunInput text (second_program one.program) (second one.run)
+  pub same_steps : (second one.run).steps ≡ one.run.steps
+  pub check : Complete (second_program one.program) (second one.run) → Writes Check text Done (codes "legal complete\n")
+  pub check_open : ¬ Complete (second_program one.program) (second one.run) → Writes Check text Done (codes "legal open\n")
+  pub audit : Writes Audit text Done (codes "safe\n")
+  pub print : Writes Print text Done (printed (forms.printed (second_program one.program)))
+  pub migrate : Writes Migrate text Done text
+
+-- so it is where the text isn't longer than an input may be
+abbrev pub MigratedTextsAreAccepted : Type 0
+MigratedTextsAreAccepted = (bytes text : List ℕ) (one : MigratesAs bytes Done text) → length text ≤ input_limit → IsMigrationAccepted one

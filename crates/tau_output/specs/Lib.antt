@@ -5,6 +5,7 @@ pub mod Audits
 pub mod Reports
 pub mod Printing
 pub mod Drills
+pub mod Migrating
 pub mod Refusals
 pub mod Explaining
 pub mod Cutting

@@ -2,7 +2,7 @@
 use Rattle.std.specs.Prelude.{◌≡◌, ◌⊎◌, ℕ, ◌≤◌, List, Some, All}
 use Rattle.tau_sexpr.specs.Tree.{Tree}
 use Rattle.tau_tree.specs.declared.programs.Program.{Program}
-use Rattle.tau_trace.specs.declared.step.Step.TheVariants.{Take, Drop, Fall, Checkpoint, Hold}
+use Rattle.tau_trace.specs.declared.step.Step.TheVariants.{Take, Drop, Fall, Checkpoint, Hold, Heed}
 use Rattle.tau_trace.specs.Run.{Run, len, step_at}
 use Rattle.tau_trace.specs.Known.{WellFormed}
 use Rattle.tau_past.specs.Decisions.{Verdict, takes, drops, falls, Free}
@@ -27,6 +27,8 @@ pub record IsDecided (T : Run) : Type 0 where
   -- who checkpoints is free, and who holds back its checkpoint isn't
   pub checkpoints : (t k : ℕ) → step_at T k ≡ Some (Checkpoint t) → Free T t k
   pub holds : (t k : ℕ) → step_at T k ≡ Some (Hold t) → ¬ Free T t k
+  -- a notice is heeded where its verdict is that it can be taken
+  pub heeds : (t m k : ℕ) → step_at T k ≡ Some (Heed t m) → Verdict T t k m takes
   -- a message is taken, is discarded or forces a fall as its verdict says
   pub takes : (t m k : ℕ) → step_at T k ≡ Some (Take t m) → Verdict T t k m takes
   pub drops : (t m k : ℕ) → step_at T k ≡ Some (Drop t m) → Verdict T t k m drops
@@ -55,7 +57,7 @@ pub record RunsAs (steps : ℕ) (bytes : List ℕ) (end : End) (text : List ℕ)
   pub ends : EndsAs steps program run end
   -- no checkpoint's causal past, found from the whole list of steps, holds a point that is rolled back anywhere in it
   pub safe : Safe run
-  -- each Checkpoint, Hold, Take, Drop and Fall is decided exactly by what was heard
+  -- each Checkpoint, Hold, Take, Drop, Fall and Heed is decided exactly by what was heard
   pub decided : IsDecided run
   -- each value on a saved line of the report was saved by a Checkpoint or is an opening state
   pub saved : All (IsReportLine program run) is_text.are.report

@@ -1,8 +1,9 @@
 -- What each command writes for the bytes of its input, and how it then ends.
 use Rattle.std.specs.Prelude.{◌≡◌, ℕ, ◌≤◌, IsTrue, List, length}
 use Rattle.tau_value.specs.declared.limits.TheConstants.{STEP_LIMIT}
+use Rattle.tau_book.specs.declared.limits.TheConstants.{JOB_LIMIT}
 use Rattle.tau_command.specs.declared.commands.Command.{Command}
-use Rattle.tau_command.specs.declared.commands.Command.TheVariants.{Run, Check, Audit, Report, Print, Gen, Drill, Why, Cut}
+use Rattle.tau_command.specs.declared.commands.Command.TheVariants.{Run, Check, Audit, Report, Print, Gen, Drill, Migrate, Why, Cut}
 use Rattle.tau_output.specs.declared.outputs.End.{End}
 use Rattle.tau_output.specs.declared.outputs.End.TheVariants.{Done}
 use Rattle.tau_output.specs.Faults.{input_limit, reads_input}
@@ -12,6 +13,7 @@ use Rattle.tau_output.specs.Audits.{AuditsAs}
 use Rattle.tau_output.specs.Reports.{ReportsAs}
 use Rattle.tau_output.specs.Printing.{PrintsAs, GeneratesAs}
 use Rattle.tau_output.specs.Drills.{DrillsAs}
+use Rattle.tau_output.specs.Migrating.{MigratesAs}
 use Rattle.tau_output.specs.Explaining.{ExplainsAs}
 use Rattle.tau_output.specs.Cutting.{CutsAs}
 
@@ -24,6 +26,7 @@ Answers Report bytes end text = ReportsAs bytes text × (end ≡ Done)
 Answers Print bytes end text = PrintsAs bytes text × (end ≡ Done)
 Answers (Gen number) bytes end text = GeneratesAs number text × (end ≡ Done)
 Answers (Drill number) bytes end text = DrillsAs number end text
+Answers Migrate bytes end text = MigratesAs bytes end text
 Answers (Why place) bytes end text = ExplainsAs place bytes text × (end ≡ Done)
 Answers Cut bytes end text = CutsAs bytes text × (end ≡ Done)
 
@@ -41,6 +44,7 @@ by_one_worker Report = Report
 by_one_worker Print = Print
 by_one_worker (Gen number) = Gen number
 by_one_worker (Drill number) = Drill number
+by_one_worker Migrate = Migrate
 by_one_worker (Why place) = Why place
 by_one_worker Cut = Cut
 
@@ -50,5 +54,5 @@ WritesSerially command bytes end text = Writes (by_one_worker command) bytes end
 
 -- some workers, a number of jobs that a worker can hold, and a limit of steps that a trace can have
 abbrev pub HasLimit : Command → Type 0
-HasLimit (Run workers jobs seed steps) = (1 ≤ workers) × (1 ≤ jobs) × (jobs ≤ 16) × (steps ≤ STEP_LIMIT)
+HasLimit (Run workers jobs seed steps) = (1 ≤ workers) × (1 ≤ jobs) × (jobs ≤ JOB_LIMIT) × (steps ≤ STEP_LIMIT)
 HasLimit command = Unit {0}

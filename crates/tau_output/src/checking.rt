@@ -2,7 +2,7 @@
 ghost use Rattle.std.specs.Prelude.{◌≡◌, IfOk, IfErr};
 ghost use Rattle.tau_text.specs.Errors.{TellsInputFault};
 ghost use Rattle.tau_text.specs.Faults.{IsRunFault};
-ghost use Rattle.tau_output.specs.Checks.{ChecksAs};
+ghost use Rattle.tau_output.specs.Checks.{ChecksAs, bad_line as line_of_bad};
 ghost use Rattle.tau_output.specs.Inner.Ends.{end_of_check, line_of_check};
 
 use crate::{End, Output};
@@ -41,6 +41,13 @@ fn line_of(alloc: Global, legality: Legality) -> Result<Vec<u8>, AllocError>
     match legality {
         Legality::Legal { complete: true } => Vec::from_slice(alloc, b"legal complete\n"),
         Legality::Legal { complete: false } => Vec::from_slice(alloc, b"legal open\n"),
-        Legality::Bad { place } => Ok(format!(in alloc; "bad step {place}\n")?.into_bytes()),
+        Legality::Bad { place } => bad_line(alloc, place),
     }
+}
+
+/// The line for a first step that isn't legal.
+pub(crate) fn bad_line(alloc: Global, place: u32) -> Result<Vec<u8>, AllocError>
+    ensures { IfOk result (λ v. v.items ≡ line_of_bad place) }
+{
+    Ok(format!(in alloc; "bad step {place}\n")?.into_bytes())
 }

@@ -1,5 +1,5 @@
 //! Laws of inputs and of what is written. The calls do nothing: what they ensure holds of all bytes.
-ghost use Rattle.tau_output.specs.Laws.{WritesOnce, WritesWithoutFault, WritesWhereAsked, FailsOnce, TextsTellRuns, RunTextsAreAccepted};
+ghost use Rattle.tau_output.specs.Laws.{WritesOnce, WritesWithoutFault, WritesWhereAsked, FailsOnce, TextsTellRuns, RunTextsAreAccepted, MigratedTextsAreAccepted};
 
 /// For an input a command writes one text on one thread, or the input has one fault, and not both (docs/formats.md, "Input
 /// faults"); nor does `why` write for a place that isn't asked. So `run` with one worker writes the same each time, and so does `drill`.
@@ -19,4 +19,11 @@ pub fn run_texts_tell()
 /// safe, and `print` writes its program (docs/formats.md, "Command line").
 pub fn run_texts_are_accepted()
     ensures { RunTextsAreAccepted }
+{}
+
+/// A text that `migrate` writes, and that isn't longer than an input may be, is read back as the program in version 2 and a run with
+/// the same steps; of it `check` says that it is legal, `audit` that it is safe, `print` writes its program, and `migrate` the text
+/// again (docs/formats.md, "Migration").
+pub fn migrated_texts_are_accepted()
+    ensures { MigratedTextsAreAccepted }
 {}

@@ -8,6 +8,7 @@ mod drilling;
 mod explaining;
 mod generating;
 mod laws;
+mod migrating;
 mod outputs;
 mod printing;
 mod refusals;
@@ -15,7 +16,9 @@ mod reporting;
 mod running;
 mod together;
 
-pub use laws::{output_is_unique, run_texts_are_accepted, run_texts_tell};
+pub use laws::{
+    migrated_texts_are_accepted, output_is_unique, run_texts_are_accepted, run_texts_tell,
+};
 pub use outputs::{End, INPUT_LIMIT, Output, output_of, reads_input};
 pub use refusals::Refusal;
 pub use together::output_by_workers;

@@ -14,6 +14,7 @@ use crate::cutting::cut_run;
 use crate::drilling::drill_program;
 use crate::explaining::explain_run;
 use crate::generating::generate_program;
+use crate::migrating::migrate_run;
 use crate::printing::print_program;
 use crate::reporting::report_run;
 use crate::running::write_serial_run;
@@ -64,6 +65,7 @@ pub fn reads_input(command: &Command) -> bool
         Command::Print => true,
         Command::Gen { .. } => false,
         Command::Drill { .. } => false,
+        Command::Migrate => true,
         Command::Why { .. } => true,
         Command::Cut => true,
     }
@@ -99,6 +101,7 @@ pub fn output_of(alloc: Global, command: Command, bytes: &[u8]) -> Result<Output
         Command::Print => refused_by(print_program(alloc, bytes)),
         Command::Gen { number } => Ok(generate_program(alloc, number)?),
         Command::Drill { number } => Ok(drill_program(alloc, number)?),
+        Command::Migrate => refused_by(migrate_run(alloc, bytes)),
         Command::Why { place } => explain_run(alloc, bytes, place),
         Command::Cut => refused_by(cut_run(alloc, bytes)),
     }

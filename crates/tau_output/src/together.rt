@@ -4,6 +4,7 @@ ghost use Rattle.tau_value.specs.declared.limits.TheConstants.{STEP_LIMIT};
 ghost use Rattle.tau_text.specs.Errors.{TellsInputFault};
 ghost use Rattle.tau_text.specs.Faults.{IsProgramFault};
 ghost use Rattle.tau_command.specs.declared.commands.Command.TheVariants.{Why};
+ghost use Rattle.tau_book.specs.declared.limits.TheConstants.{JOB_LIMIT};
 ghost use Rattle.tau_output.specs.Faults.{input_limit, IsInputFault};
 ghost use Rattle.tau_output.specs.Refusals.{TellsFault, TellsNotAsked};
 ghost use Rattle.tau_output.specs.Explaining.{IsNotAsked, AsksInVain};
@@ -70,7 +71,7 @@ fn write_workers_run<R: Threads + Wait + Sync, G: Gate + Sync>(
 ) -> Result<Output, InputError>
     requires some { 1 ≤ settings.workers }
     requires one { 1 ≤ settings.jobs }
-    requires few { settings.jobs ≤ 16 }
+    requires few { settings.jobs ≤ JOB_LIMIT }
     requires limit { settings.limit ≤ STEP_LIMIT }
     ensures output { IfOk result (λ o. RunsAs settings.limit bytes.now o.end o.text.items) }
     ensures fault { IfErr result (TellsInputFault (IsProgramFault bytes.now)) }

@@ -13,6 +13,7 @@ use Rattle.tau_legal.specs.Turns.{TurnHas}
 use Rattle.tau_legal.specs.Traces.{Fitting}
 use Rattle.tau_legal.specs.Fits.{IsStepOfTurn}
 use Rattle.tau_legal.specs.Choices.{IsChoice}
+use Rattle.tau_legal.proofs.VersionLemmas.{turn_in_version}
 use Rattle.tau_legal.specs.declared.choices.Choice.{Choice}
 use Rattle.tau_legal.specs.declared.choices.Choice.TheVariants.{GoesOn, Ends}
 use Rattle.tau_rules.specs.declared.answers.Acted.{Acted}
@@ -52,7 +53,7 @@ module _ (old new : Core) (kept : IsKept old) (few : len old.run < 1000000) (t :
   }
 
   well_formed_after : (s : Step) → IsMadeBy old new t s → WellFormed (appended old.run s)
-  well_formed_after s made = well_formed_appended old.run s kept.well_formed (record { known = step_exists old kept t s made.step; few_steps = few })
+  well_formed_after s made = well_formed_appended old.run s kept.well_formed (record { known = step_exists old kept t s made.step; version = turn_in_version old.run.opening.version s made.step.of_turn; few_steps = few })
 
   -- where the step of the next effect of the job's turn was appended, that came of the effect
   pub acted : (a : Acted) → IsMade old new t a → IsActed old new job a

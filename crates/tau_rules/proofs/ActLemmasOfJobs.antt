@@ -33,6 +33,10 @@ taker_exists T w t place taker =
     let within = below_length T.steps place (Take t taker.0) taker.1 in
     omega (arith, known, born-grows T place (len T) (omega arith))
 
+-- an open turn began by a Take
+pub open_taker : (T : Run) (t place : ℕ) → IsOpenTurn T t (len T) (Some place) → IsTaker T place (Some t)
+open_taker T t place u = (u.0, u.1.takes)
+
 -- and so does that of an open turn
 pub turn_exists : (P : Program) (T : Run) → WellFormed T → (t : ℕ) (e : Eff) → TurnHas P T t (len T) e → t < born T (len T)
 turn_exists P T w t e h = taker_exists T w t h.place (h.message, h.turn.takes)

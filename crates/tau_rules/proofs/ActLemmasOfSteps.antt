@@ -7,7 +7,7 @@ use Rattle.tau_value.specs.Value.{val_of}
 use Rattle.tau_tree.specs.declared.programs.Program.{Program}
 use Rattle.tau_tree.specs.Sound.{Sound}
 use Rattle.tau_trace.specs.declared.step.Step.{Step}
-use Rattle.tau_trace.specs.declared.step.Step.TheVariants.{Take, Drop, Fall, Void, Get, Set, Skip, Send, New, Stabilize, Ask, Checkpoint, Hold, Rollback, Stay, Done, Trap, Fail, Lose}
+use Rattle.tau_trace.specs.declared.step.Step.TheVariants.{Take, Get, Set, Skip, Send, New, Stabilize, Ask, Checkpoint, Hold, Rollback, Stay, Done, Trap}
 use Rattle.tau_trace.specs.Steps.{actor, ends_turn, is_take}
 use Rattle.tau_trace.specs.Run.{Run, Agree, Does, step_at, ActsAt, len, appended}
 use Rattle.tau_trace.specs.Numbering.{born, sent}
@@ -66,12 +66,7 @@ module _ (P : Program) (T : Run) (sound : Sound P) (well : WellFormed T) (opens 
       (λ h. let known = effect_known t _ h in (exists t _ h, known.0, known.1))
       (λ h. (exists t _ h.1.effect, omega (arith, h.0), omega (arith, h.0)))
       f
-  fitting_known (Take t m) of_turn f = absurd (cc)
-  fitting_known (Drop t m) of_turn f = absurd (cc)
-  fitting_known (Fall t m) of_turn f = absurd (cc)
-  fitting_known (Void t m) of_turn f = absurd (cc)
-  fitting_known (Fail t) of_turn f = absurd (cc)
-  fitting_known (Lose m) of_turn f = absurd (cc)
+  fitting_known s of_turn f = absurd (cc)
 
   pub step_known : (t : ℕ) (s : Step) → IsStepOfTurn P T t s → IsKnownAt T (len T) s
   step_known t s h = fitting_known s h.of_turn h.fits

@@ -1,18 +1,19 @@
 -- What holds of a message that is delivered, and of the turn that it opens.
-use Rattle.std.proofs.Common.{◌≡◌, ℕ, zero, suc, ◌<◌, true, false, Option, Some, None, List, [], ◌∷◌, length, refl, sym, ap, ◌∙◌, subst, arith}
-use Rattle.std.specs.Prelude.{slice_get, slice_index_or, map, is_some}
+use Rattle.std.proofs.Common.{◌≡◌, ℕ, zero, suc, ◌<◌, true, false, not, Option, Some, None, List, [], ◌∷◌, length, refl, sym, ap, ◌∙◌, subst, arith}
+use Rattle.std.specs.Prelude.{◌↔◌, ◌≢◌, slice_get, slice_index_or, map, is_some, Bool, IsTrue}
+use Rattle.tau_trace.proofs.Once.{origin_is_one}
 use Rattle.tau_value.specs.Val.{Val}
 use Rattle.tau_tree.specs.Behaviour.{NamedCode}
 use Rattle.tau_tree.specs.declared.programs.Program.{Program}
 use Rattle.tau_tree.specs.Sound.{Sound}
-use Rattle.tau_trace.specs.declared.step.Step.TheVariants.{Take, Send, New}
+use Rattle.tau_trace.specs.declared.step.Step.TheVariants.{Take, New, Void, Echo, Heed}
 use Rattle.tau_trace.specs.Run.{Run, len, appended}
 use Rattle.tau_trace.specs.Places.{IsFirst}
-use Rattle.tau_trace.specs.Numbering.{born, sent, Receives, post, message, Removes}
-use Rattle.tau_trace.specs.Histories.{EndsAt}
+use Rattle.tau_trace.specs.Numbering.{born, sent, Receives, Removes, HasSender, IsSender, IsNotice}
+use Rattle.tau_trace.specs.Histories.{EndsAt, IsLiving}
 use Rattle.tau_trace.specs.Turns.{Turn, IsOpenTurn}
-use Rattle.tau_trace.specs.Known.{WellFormed}
-use Rattle.tau_trace.proofs.Agreement.{agree_appended, step_at-appended, born-grows, sent_before}
+use Rattle.tau_trace.specs.Known.{WellFormed, MayFollow}
+use Rattle.tau_trace.proofs.Agreement.{agree_appended, step_at-appended, born-grows}
 use Rattle.tau_trace.proofs.Indexing.{len-appended}
 use Rattle.tau_past.proofs.PendingLemmas.{turns_after_step}
 use Rattle.tau_script.specs.Openings.{program_opening}
@@ -20,8 +21,11 @@ use Rattle.tau_states.specs.Opening.{opening_states}
 use Rattle.tau_eval.specs.Turn.{IsTurnOf}
 use Rattle.tau_eval.specs.Turn as jobs
 use Rattle.tau_legal.specs.Turns.{HasBehaviour, start, created, HasBody, HasValue, RepliesOf, before}
-use Rattle.tau_legal.specs.Fits.{Arrives, ArrivesLate}
+use Rattle.tau_legal.specs.Fits.{Arrives, ArrivesLate, Echoes}
+use Rattle.tau_legal.specs.Traces.{Fitting}
+use Rattle.tau_legal.proofs.VersionLemmas.{notice_version}
 use Rattle.tau_legal.proofs.ValueLemmas.{at_all}
+use Rattle.tau_legal.proofs.TurnLemmas.{receiver_known}
 use Rattle.tau_legal.proofs.LocalLemmas.{body-same, value-same}
 use Rattle.tau_rules.specs.System.{Core, with_step}
 use Rattle.tau_rules.specs.Answers.{IsOpenJob, IsBegun}
@@ -39,17 +43,43 @@ arrives_late T t m (Some place) lt stays receives some ends = record { in_flight
 
 -- the receiver of a message that exists, exists
 pub receiver_exists : (T : Run) → WellFormed T → (m t : ℕ) → m < sent T (len T) → Receives T m t → t < born T (len T)
-receiver_exists T w m t lt (post e) =
-    let within = at_all (λ u. u < length T.opening.names) T.opening.targets m t w.opening.targets e in
-    omega (arith, within)
-receiver_exists T w m t lt (message {j = j} {by = by} o e) =
-    let before = sent_before T j by m (len T) o lt in
-    let known = (w.known j (Send by o.to o.value) o.stands).1 in
-    omega (arith, known, e, born-grows T j (len T) (omega arith))
+receiver_exists T w m t lt r = receiver_known T w m t (len T) lt r
 
 -- a message that exists and its receiver are known
 pub known_pair : (T : Run) → WellFormed T → (m t : ℕ) → m < sent T (len T) → Receives T m t → (t < born T (len T)) × (m < sent T (len T))
 known_pair T w m t lt receives = (receiver_exists T w m t lt receives, lt)
+
+-- a Void, an Echo and a Heed may follow
+module _ (P : Program) (T : Run) (w : WellFormed T) (f : Fitting P T) (few : len T < 1000000) (t m : ℕ) where
+  pub void_follows : ArrivesLate T t m (len T) → MayFollow T (Void t m)
+  void_follows late = record { known = known_pair T w m t late.in_flight.exists late.receiver; version = tt; few_steps = few }
+
+  pub echo_follows : ArrivesLate T t m (len T) → Echoes P T m (len T) → MayFollow T (Echo t m)
+  echo_follows late e = record { known = known_pair T w m t late.in_flight.exists late.receiver; version = ap (λ o. o.version) f.opening ∙ e.version; few_steps = few }
+
+  pub heed_follows : Arrives T t m (len T) → IsNotice T m → MayFollow T (Heed t m)
+  heed_follows arrives n = record { known = known_pair T w m t arrives.in_flight.exists arrives.receiver; version = notice_version T m w n; few_steps = few }
+
+-- whether a receipt makes a notice, by the sender and its end
+pub not_by_version : (P : Program) (T : Run) (m k : ℕ) (b : Bool) → b ≡ false → P.version ≢ 2 → IsTrue b ↔ Echoes P T m k
+not_by_version P T m k b is other = (λ h. let clash : false ≡ true = sym is ∙ h in absurd (cc), λ e. absurd (other e.version))
+
+pub not_by_notice : (P : Program) (T : Run) (m k : ℕ) (b : Bool) → b ≡ false → IsNotice T m → IsTrue b ↔ Echoes P T m k
+not_by_notice P T m k b is n = (λ h. let clash : false ≡ true = sym is ∙ h in absurd (cc), λ e. absurd (e.not_notice n))
+
+pub not_by_sender : (P : Program) (T : Run) (m k : ℕ) (b : Bool) → b ≡ false → IsSender T m None → IsTrue b ↔ Echoes P T m k
+not_by_sender P T m k b is none = (λ h. let clash : false ≡ true = sym is ∙ h in absurd (cc), λ e. absurd (none e.sender e.has))
+
+pub by_sender : (P : Program) (T : Run) (m u : ℕ) (end : Option ℕ) (b : Bool) → P.version ≡ 2 → ¬ IsNotice T m → HasSender T m u → IsFirst (EndsAt T u) (len T) end → is_some end ≡ not b → IsTrue b ↔ Echoes P T m (len T)
+by_sender P T m u None true two plain has none is = (λ h. record { version = two; not_notice = plain; sender = u; has = has; living = none }, λ e. refl)
+by_sender P T m u None false two plain has none is = absurd (cc)
+by_sender P T m u (Some place) true two plain has ends is = absurd (cc)
+by_sender P T m u (Some place) false two plain has ends is = (λ h. absurd (cc), λ e. absurd (not_living e)) where
+  not_living : Echoes P T m (len T) → ⊥
+  not_living e =
+      let same : e.sender ≡ u = (origin_is_one T e.has.place has.place e.sender u m e.has.origin has.origin).1 in
+      let living : IsLiving T u (len T) = subst (λ x. IsLiving T x (len T)) same e.living in
+      living place ends.0 ends.1
 
 -- the behaviour of a transactor exists
 pub behaviour_exists : (P : Program) (T : Run) → Sound P → WellFormed T → T.opening ≡ program_opening P → (t b : ℕ) → HasBehaviour P T t b → b < length P.behaviours

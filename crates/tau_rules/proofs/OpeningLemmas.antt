@@ -51,7 +51,7 @@ opened P = opened_run (program_opening P)
 pub opens : (P : Program) (states : List StateRecord) (records : List Record) (values : List Value) → Sound P → IsSound (program_opening P) → Holds (opened P) (opening_states P.starts) states → HasStarts P.starts records → HasPosts P.posts values → IsSystem P (opened P) states records values
 opens P states records values sound opening holds starts posts = record {
   sound = sound;
-  well_formed = record { opening = opening; known = λ k s e. absurd (cc); few_steps = omega arith };
+  well_formed = record { opening = opening; known = λ k s e. absurd (cc); versions = λ k s e. absurd (cc); few_steps = omega arith };
   fitting = record { opening = refl; steps = λ k s e. absurd (cc) };
   states_hold = holds;
   records_are = record {

@@ -3,7 +3,7 @@ use Rattle.std.proofs.Common.{◌≡◌, ⊎_elim, ℕ, ◌<◌, IsTrue, Some, r
 use Rattle.tau_points.specs.Reach.{start}
 use Rattle.tau_tree.specs.declared.programs.Program.{Program}
 use Rattle.tau_trace.specs.declared.step.Step.{Step}
-use Rattle.tau_trace.specs.declared.step.Step.TheVariants.{Take, Drop, Fall, Get, Set, Skip, Stabilize, Ask, Checkpoint}
+use Rattle.tau_trace.specs.declared.step.Step.TheVariants.{Take, Drop, Fall, Heed, Repeat, Get, Set, Skip, Stabilize, Ask, Checkpoint}
 use Rattle.tau_trace.specs.Steps.{actor}
 use Rattle.tau_trace.specs.Run.{Run, len}
 use Rattle.tau_trace.specs.Numbering.{born, InFlight}
@@ -55,6 +55,7 @@ hearing : (P : Program) (T : Run) (k m : ℕ) (s : Step) → Fits P T k s → he
 hearing P T k m (Take t n) f e = subst (λ x. InFlight T x k) (same_some e) f.0.in_flight
 hearing P T k m (Drop t n) f e = subst (λ x. InFlight T x k) (same_some e) f.0.in_flight
 hearing P T k m (Fall t n) f e = subst (λ x. InFlight T x k) (same_some e) f.0.in_flight
+hearing P T k m (Heed t n) f e = subst (λ x. InFlight T x k) (same_some e) f.0.in_flight
 hearing P T k m s f e = absurd (cc)
 
 pub is_ready : (P : Program) (T : Run) (s : Step) → WellFormed T → MayFollow T s → Fits P T (len T) s → IsReady T s
@@ -62,4 +63,5 @@ is_ready P T s w may fits = record {
   touching = λ t by h. touching P T (len T) t s fits by h;
   closing = closing P T (len T) s w may.known fits;
   hearing = λ m e. hearing P T (len T) m s fits e;
+  repeating = λ m e. let repeat : Fits P T (len T) (Repeat m) = subst (Fits P T (len T)) e fits in repeat.0;
 }

@@ -1,13 +1,13 @@
 -- The records after one step more.
-use Rattle.std.proofs.Common.{◌≡◌, ◌≢◌, ◌⊎◌, inl, inr, ⊎_elim, ℕ, zero, suc, ◌+◌, ◌<◌, IsTrue, false, cond, Option, Some, None, List, [], ◌∷◌, length, refl, sym, ap, ◌∙◌, subst, arith}
+use Rattle.std.proofs.Common.{◌≡◌, ◌≢◌, ◌⊎◌, inl, inr, ⊎_elim, ℕ, zero, suc, ◌+◌, ◌<◌, ◌||◌, Bool, true, false, IsTrue, cond, Option, Some, None, List, [], ◌∷◌, length, refl, sym, ap, ◌∙◌, subst, arith}
 use Rattle.std.proofs.lemmas.List.{length-append}
 use Rattle.std.specs.Prelude.{slice_get, slice_set}
 use Rattle.tau_value.specs.declared.shared.Value.{Value}
 use Rattle.tau_value.specs.Value.{val_of}
 use Rattle.tau_tree.specs.declared.programs.Program.{Program}
 use Rattle.tau_trace.specs.declared.step.Step.{Step}
-use Rattle.tau_trace.specs.declared.step.Step.TheVariants.{Take, Drop, Void, Get, Set, Skip, Send, New, Stabilize, Ask, Lose}
-use Rattle.tau_trace.specs.Steps.{actor, ends_turn, is_new}
+use Rattle.tau_trace.specs.declared.step.Step.TheVariants.{Take, Drop, Void, Get, Set, Skip, Send, New, Stabilize, Ask, Lose, Echo, Heed, Repeat}
+use Rattle.tau_trace.specs.Steps.{actor, ends_turn, leaves_turns, is_new}
 use Rattle.tau_trace.specs.Run.{Run, len, appended}
 use Rattle.tau_trace.specs.Numbering.{born}
 use Rattle.tau_trace.specs.Turns.{IsOpenTurn}
@@ -54,6 +54,13 @@ keeps_turns T t s by on = ⊎_elim touching keeping (touches_or_keeps s on) wher
   keeping : IsTrue (keeps_pending s) → KeepsTurns (appended T s) t (len T)
   keeping h = (turns_after_step (appended T s) t (len T)).keeping (record { step = s; stands = step_at-appended T s; by = by; passes = h })
 
+-- a step that ends a turn keeps the record
+pub ending_keeps : (s : Step) → IsTrue (ends_turn s) → IsTrue (keeps_record s)
+ending_keeps s h = either (leaves_turns s) (ends_turn s) h where
+  either : (a b : Bool) → IsTrue b → IsTrue (a || b)
+  either true b h = refl
+  either false b h = h
+
 -- a step that keeps its transactor's record ends a turn, or is made where no turn is open
 pub record IsIdleStep (T : Run) (t : ℕ) (s : Step) : Type 0 where
   pub keeping : IsTrue (keeps_pending s)
@@ -61,8 +68,11 @@ pub record IsIdleStep (T : Run) (t : ℕ) (s : Step) : Type 0 where
 
 kept_by : (P : Program) (T : Run) (t : ℕ) (s : Step) → Fitting P T → Fits P T (len T) s → actor s ≡ Some t → IsTrue (keeps_record s) → IsTrue (ends_turn s) ⊎ IsIdleStep T t s
 kept_by P T t (Drop u m) f fits by h = inr (record { keeping = refl; idle = subst (λ x. IsOpenTurn T x (len T) None) (same_some by) fits.0.idle })
-kept_by P T t (Void u m) f fits by h = inr (record { keeping = refl; idle = subst (λ x. IsOpenTurn T x (len T) None) (same_some by) (ended_idle P T u (len T) f fits.ended) })
+kept_by P T t (Void u m) f fits by h = inr (record { keeping = refl; idle = subst (λ x. IsOpenTurn T x (len T) None) (same_some by) (ended_idle P T u (len T) f fits.0.ended) })
 kept_by P T t (Lose m) f fits by h = absurd (cc)
+kept_by P T t (Echo u m) f fits by h = inr (record { keeping = refl; idle = subst (λ x. IsOpenTurn T x (len T) None) (same_some by) (ended_idle P T u (len T) f fits.0.ended) })
+kept_by P T t (Heed u m) f fits by h = inr (record { keeping = refl; idle = subst (λ x. IsOpenTurn T x (len T) None) (same_some by) fits.0.idle })
+kept_by P T t (Repeat m) f fits by h = absurd (cc)
 kept_by P T t s f fits by h = inl h
 
 -- a step makes no transactor, or is a New with the record of its transactor

@@ -35,13 +35,13 @@ goes_on P T s old new records records_after values values_after may fits system 
 -- a step is appended: the run, the states, the records and the values after it
 pub made : (P : Program) (T V : Run) (s : Step) (c : RecordChange) (old new : List StateRecord) (records changed records_after : List Record) (newborn : Option Record) (values values_after : List Value)
     → MayFollow T s → Fits P T (len T) s → Changes P T s c → IsSystem P T old records values
-    → V ≡ appended T s → Advances s old new → HasChanged c (actor s) records changed → IsNewborn s newborn → records_after ≡ with_newborn changed newborn → values_after ≡ with_sent values (sent_value s)
+    → V ≡ appended T s → Advances s old new → HasChanged c (actor s) records changed → IsNewborn s newborn → records_after ≡ with_newborn changed newborn → values_after ≡ with_sent values (sent_value values s)
     → IsSystem P V new records_after values_after
 made P T V s c old new records changed records_after newborn values values_after may fits changes system run advances has_changed is_newborn after sent =
     let w : WellFormed (appended T s) = well_formed_appended T s system.well_formed may in
     let are_records = records_change P T s system.well_formed w c records changed newborn system.fitting may fits changes has_changed is_newborn system.records_are in
-    let are_values = values_change P T s system.well_formed w values system.values_are in
-    let whole = goes_on P T s old new records (with_newborn changed newborn) values (with_sent values (sent_value s)) may fits system advances are_records are_values in
+    let are_values = values_change P T s system.well_formed w fits values system.values_are in
+    let whole = goes_on P T s old new records (with_newborn changed newborn) values (with_sent values (sent_value values s)) may fits system advances are_records are_values in
     subst (λ (R : Run). IsSystem P R new records_after values_after) (sym run)
     (subst (λ (rs : List Record). IsSystem P (appended T s) new rs values_after) (sym after)
     (subst (λ (vs : List Value). IsSystem P (appended T s) new (with_newborn changed newborn) vs) (sym sent) whole))

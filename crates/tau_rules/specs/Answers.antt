@@ -3,7 +3,7 @@ use Rattle.std.specs.Prelude.{◌≡◌, ◌≢◌, ℕ, suc, ◌<◌, IsTrue, O
 use Rattle.tau_value.specs.Value.{val_of}
 use Rattle.tau_tree.specs.declared.programs.Program.{Program}
 use Rattle.tau_trace.specs.declared.step.Step.{Step}
-use Rattle.tau_trace.specs.declared.step.Step.TheVariants.{Take, Drop, Fall, Void}
+use Rattle.tau_trace.specs.declared.step.Step.TheVariants.{Take, Drop, Fall, Void, Echo, Heed}
 use Rattle.tau_trace.specs.Steps.{ends_turn, is_take}
 use Rattle.tau_trace.specs.Run.{Run, len, step_at, Does}
 use Rattle.tau_trace.specs.Numbering.{born, Receives, Removes, InFlight}
@@ -19,7 +19,7 @@ use Rattle.tau_legal.specs.Choices.{goes_on}
 use Rattle.tau_rules.specs.declared.answers.Standing.{Standing}
 use Rattle.tau_rules.specs.declared.answers.Standing.TheVariants as standings
 use Rattle.tau_rules.specs.declared.answers.Delivered.{Delivered}
-use Rattle.tau_rules.specs.declared.answers.Delivered.TheVariants.{Began, Dropped, Fell, Voided}
+use Rattle.tau_rules.specs.declared.answers.Delivered.TheVariants.{Began, Dropped, Fell, Voided, Echoed, Heeded}
 use Rattle.tau_rules.specs.declared.answers.Acted.{Acted}
 use Rattle.tau_rules.specs.declared.answers.Acted.TheVariants.{Reply, TurnOver, Redo}
 use Rattle.tau_rules.specs.declared.errors.DeliverError.{DeliverError}
@@ -30,6 +30,8 @@ use Rattle.tau_rules.specs.declared.errors.FailError.{FailError}
 use Rattle.tau_rules.specs.declared.errors.FailError.TheVariants as fail_errors
 use Rattle.tau_rules.specs.declared.errors.LoseError.{LoseError}
 use Rattle.tau_rules.specs.declared.errors.LoseError.TheVariants as lose_errors
+use Rattle.tau_rules.specs.declared.errors.RepeatError.{RepeatError}
+use Rattle.tau_rules.specs.declared.errors.RepeatError.TheVariants as repeat_errors
 use Rattle.tau_rules.specs.System.{Core, with_step}
 
 -- the job is the record of a turn that is open after the run: the body of its transactor's behaviour, the number of nodes,
@@ -41,6 +43,11 @@ pub record IsOpenJob (P : Program) (T : Run) (job : jobs.TurnSoFar) : Type 0 whe
   pub nodes : job.nodes ≡ P.nodes
   pub value : HasValue P T message job.message
   pub replies : RepliesOf T (opening_states P.starts) job.who (suc job.place) (len T) job.replies
+
+-- the job of the record of t's open turn; None where no turn of it is open
+abbrev pub IsJobOf : Core → ℕ → Option jobs.TurnSoFar → Type 0
+IsJobOf k t None = IsOpenTurn k.run t (len k.run) None
+IsJobOf k t (Some job) = (job.who ≡ t) × IsOpenJob k.program k.run job
 
 -- the Take of the message at the end of the old run opened the turn of the job
 pub record IsBegun (old new : Core) (m : ℕ) (job : jobs.TurnSoFar) : Type 0 where
@@ -54,6 +61,8 @@ IsDelivered old new m (Began job) = IsBegun old new m job
 IsDelivered old new m Dropped = (t : ℕ) × (new ≡ with_step old (Drop t m))
 IsDelivered old new m Fell = (t : ℕ) × (new ≡ with_step old (Fall t m))
 IsDelivered old new m Voided = (t : ℕ) × (new ≡ with_step old (Void t m))
+IsDelivered old new m Echoed = (t : ℕ) × (new ≡ with_step old (Echo t m))
+IsDelivered old new m Heeded = (t : ℕ) × (new ≡ with_step old (Heed t m))
 
 -- why a message isn't delivered: the named step took it; or it is in flight, and the named turn of its receiver is open
 abbrev pub IsUndelivered : Run → ℕ → DeliverError → Type 0
@@ -107,6 +116,11 @@ IsUnfailed T t fail_errors.NoMemory = Unit {0}
 abbrev pub IsUnlost : Run → ℕ → LoseError → Type 0
 IsUnlost T m (lose_errors.NotInFlight place) = IsFirst (Removes T m) (len T) (Some place)
 IsUnlost T m lose_errors.NoMemory = Unit {0}
+
+-- why a message isn't repeated
+abbrev pub IsUnrepeated : Run → ℕ → RepeatError → Type 0
+IsUnrepeated T m (repeat_errors.NotInFlight place) = IsFirst (Removes T m) (len T) (Some place)
+IsUnrepeated T m repeat_errors.NoMemory = Unit {0}
 
 -- what a transactor is doing after the run; None where it doesn't exist
 abbrev pub IsStanding : Run → ℕ → Option Standing → Type 0

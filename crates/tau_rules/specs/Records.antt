@@ -1,6 +1,7 @@
 -- What the record of a transactor says.
-use Rattle.std.specs.Prelude.{◌≡◌, ℕ, suc, Bool, true, IsTrue, Option, Some, None, slice_get, slice_set, length, map, List, [], ◌∷◌, ◌++◌}
+use Rattle.std.specs.Prelude.{◌≡◌, ℕ, suc, Bool, true, IsTrue, ◌||◌, Option, Some, None, slice_get, slice_set, length, map, List, [], ◌∷◌, ◌++◌}
 use Rattle.tau_value.specs.declared.shared.Value.{Value}
+use Rattle.tau_value.specs.declared.shared.Value.TheVariants as values
 use Rattle.tau_value.specs.Value.{val_of}
 use Rattle.tau_tree.specs.declared.posts.Post.{Post}
 use Rattle.tau_tree.specs.declared.starts.Start.{Start}
@@ -10,8 +11,8 @@ use Rattle.tau_trace.specs.Numbering.{born, sent}
 use Rattle.tau_trace.specs.Turns.{Turn}
 use Rattle.tau_states.specs.Opening.{opening_states}
 use Rattle.tau_trace.specs.declared.step.Step.{Step}
-use Rattle.tau_trace.specs.declared.step.Step.TheVariants.{Take, Drop, Void, Send, New, Lose}
-use Rattle.tau_trace.specs.Steps.{ends_turn}
+use Rattle.tau_trace.specs.declared.step.Step.TheVariants.{Take, Send, New, Echo, Repeat}
+use Rattle.tau_trace.specs.Steps.{ends_turn, leaves_turns}
 use Rattle.tau_legal.specs.Choices.{goes_on}
 use Rattle.tau_rules.specs.declared.records.Record.{Record}
 use Rattle.tau_rules.specs.declared.records.RecordChange.{RecordChange}
@@ -54,10 +55,7 @@ IsChanged changes.Kept r q = q ≡ r
 
 -- the kinds of steps after which no turn has begun or gone on with a reply
 abbrev pub keeps_record : Step → Bool
-keeps_record (Drop t m) = true
-keeps_record (Void t m) = true
-keeps_record (Lose m) = true
-keeps_record s = ends_turn s
+keeps_record s = leaves_turns s || ends_turn s
 
 -- the step at the end of the run changes its transactor's record so
 abbrev pub Changes : Program → Run → Step → RecordChange → Type 0
@@ -65,10 +63,13 @@ Changes P T s (changes.Begins v) = (t : ℕ) × (m : ℕ) × (s ≡ Take t m) ×
 Changes P T s (changes.Replied x) = IsTrue (goes_on s) × Replies T (opening_states P.starts) (len T) s (val_of x)
 Changes P T s changes.Kept = IsTrue (keeps_record s)
 
--- the values after a step: with that of a Send
-abbrev pub sent_value : Step → Option Value
-sent_value (Send t u v) = Some v
-sent_value s = None
+-- the value of the message that a step makes, where these are the values so far: of a Send its value, of an Echo unit, of a Repeat
+-- that of the message
+abbrev pub sent_value : List Value → Step → Option Value
+sent_value vs (Send t u v) = Some v
+sent_value vs (Echo t m) = Some values.Unit
+sent_value vs (Repeat m) = slice_get vs m
+sent_value vs s = None
 
 abbrev pub with_sent : List Value → Option Value → List Value
 with_sent vs None = vs

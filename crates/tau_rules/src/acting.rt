@@ -11,7 +11,7 @@ ghost use Rattle.tau_eval.specs.Effect.{eff_of};
 ghost use Rattle.tau_eval.specs.Turn.{IsTurnOf};
 ghost use Rattle.tau_legal.specs.Turns.{TurnHas};
 ghost use Rattle.tau_legal.specs.Choices.{asks_freedom as asks_freedom_by, IsChoice};
-ghost use Rattle.tau_rules.specs.Answers.{IsActed, IsUnacted};
+ghost use Rattle.tau_rules.specs.Answers.{IsJobOf, IsActed, IsUnacted};
 ghost use Rattle.tau_rules.specs.Inner.Acting.{IsMade, step_of};
 
 use crate::records::{Record, RecordChange};
@@ -51,6 +51,19 @@ impl<'p, K: Knowledge + Drop> System<'p, K> {
             return Ok(Acted::Redo(job_of(self.alloc, self.program, own, who, turn)?));
         }
         self.make_step(who, pending.effect())
+    }
+
+    /// The job of the record of a transactor's open turn, made anew (docs/rules.md, "Steps"); `None` exactly where no turn of it is
+    /// open. The error is want of memory.
+    pub fn job_of(&self, who: u32) -> Result<Option<Job<'p>>, AllocError>
+        ensures { IfOk result (IsJobOf self.now who) }
+    {
+        let Some(turn) = self.trace.open_turn(who) else {
+            return Ok(None);
+        };
+        let own = &self.records[who as usize];
+        let job = job_of(self.alloc, self.program, own, who, turn)?;
+        Ok(Some(job))
     }
 
     /// Makes the step of the next effect of the open turn of a transactor.

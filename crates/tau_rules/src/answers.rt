@@ -24,6 +24,10 @@ pub enum Delivered<'p> {
     Fell,
     /// By a Void.
     Voided,
+    /// By an Echo, which makes a notice to the sender of the message.
+    Echoed,
+    /// By a Heed: the message is a notice.
+    Heeded,
 }
 
 /// What came of an effect (docs/rules.md, "Steps").

@@ -26,7 +26,7 @@ impl<'p, K: Knowledge + Drop> System<'p, K> {
     {
         let states = self.states.prepare(&step)?;
         let heard = self.known.prepare(self.alloc, &self.trace, &step)?;
-        let sent = sent_copy(&step)?;
+        let sent = sent_copy(&self.values, &step)?;
         let newborn = newborn_of(self.alloc, &step);
         self.trace.reserve()?;
         self.states.reserve()?;
@@ -52,7 +52,7 @@ fn keep_newborn(records: &mut Vec<Record>, newborn: Option<Record>)
     }
 }
 
-/// Adds the value that a step sends, in the room that there is.
+/// Adds the value of the message that a step makes, in the room that there is.
 fn keep_sent(values: &mut Vec<Value>, sent: Option<Value>)
     requires { vec_len values.old < vec_capacity values.old }
     ensures { values.new.items ≡ with_sent values.old.items sent }
@@ -62,12 +62,17 @@ fn keep_sent(values: &mut Vec<Value>, sent: Option<Value>)
     }
 }
 
-/// The value that a step sends.
-fn sent_copy(step: &Step) -> Result<Option<Value>, AllocError>
-    ensures { IfOk result (λ v. v ≡ sent_value step.now) }
+/// The value of the message that a step makes, where these are the values so far. The error is want of memory.
+fn sent_copy(values: &Vec<Value>, step: &Step) -> Result<Option<Value>, AllocError>
+    ensures { IfOk result (λ v. v ≡ sent_value values.now.items step.now) }
 {
     match step {
         Step::Send { value, .. } => Ok(Some(value.copy()?)),
+        Step::Echo { .. } => Ok(Some(Value::Unit)),
+        Step::Repeat { message } => match values.get(*message as usize) {
+            Some(value) => Ok(Some(value.copy()?)),
+            None => Ok(None),
+        },
         _ => Ok(None),
     }
 }

@@ -46,6 +46,16 @@ pub enum LoseError {
     NoMemory,
 }
 
+/// Why a message wasn't repeated (docs/formats.md, "Error types").
+#[derive(Clone, Copy, Debug, PartialEq, Eq, Error)]
+pub enum RepeatError {
+    /// The step at this place took the message out of flight.
+    #[error("the message left at step {ended_by}")]
+    NotInFlight { ended_by: u32 },
+    #[error("out of memory")]
+    NoMemory,
+}
+
 impl From<AllocError> for DeliverError {
     ghost use Rattle.std.specs.Prelude.{◌≡◌};
     ghost use Rattle.tau_rules.specs.declared.errors.DeliverError.TheVariants.{NoMemory};
@@ -87,5 +97,16 @@ impl From<AllocError> for LoseError {
 
     fn from(_error: AllocError) -> LoseError {
         LoseError::NoMemory
+    }
+}
+
+impl From<AllocError> for RepeatError {
+    ghost use Rattle.std.specs.Prelude.{◌≡◌};
+    ghost use Rattle.tau_rules.specs.declared.errors.RepeatError.TheVariants.{NoMemory};
+
+    ghost from_gives = { λ _ e. e ≡ NoMemory };
+
+    fn from(_error: AllocError) -> RepeatError {
+        RepeatError::NoMemory
     }
 }

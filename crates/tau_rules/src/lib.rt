@@ -15,6 +15,6 @@ mod turns;
 mod viewing;
 
 pub use answers::{Acted, Delivered, Standing};
-pub use errors::{ActError, DeliverError, FailError, LoseError};
+pub use errors::{ActError, DeliverError, FailError, LoseError, RepeatError};
 pub use laws::fitting_views_are_settled;
 pub use system::System;

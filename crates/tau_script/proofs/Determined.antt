@@ -18,6 +18,7 @@ due_as_once T k from (failures.Fail n) r s d e =
     let same : d.0 ≡ e.0 = omega (arith, d.1.2 e.0 e.1.1 e.1.0, e.1.2 d.0 d.1.1 d.1.0) in
     d.2 ∙ ap steps.Fail same ∙ sym e.2
 due_as_once T k from (failures.Lose m) r s d e = d.1 ∙ sym e.1
+due_as_once T k from (failures.Repeat m) r s d e = d.1 ∙ sym e.1
 
 same_entry : (S : List Entry) (k : ℕ) (c : Cursor) (e f : Entry) → IsRipe S k c e → IsRipe S k c f → e ≡ f
 same_entry S k c e f r s = same_some (sym r.stands ∙ s.stands)

@@ -25,10 +25,12 @@ fail_as T k from n (Some t) h = (Some (steps.Fail t), (t, h, refl))
 due_as : (T : Run) (k from : ℕ) (f : Failure) → (s : Option Step) × IsDueAs T k from f s
 due_as T k from (failures.Fail n) = let b = next_living T n k from in fail_as T k from n b.0 b.1
 due_as T k from (failures.Lose m) = ⊎_elim (λ f. (Some (steps.Lose m), (f, refl))) (λ n. (None, n)) (in_flight T m k)
+due_as T k from (failures.Repeat m) = ⊎_elim (λ f. (Some (steps.Repeat m), (f, refl))) (λ n. (None, n)) (in_flight T m k)
 
 not_both : (T : Run) (k from : ℕ) (f : Failure) (s : Step) → IsDueAs T k from f None → IsDueAs T k from f (Some s) → ⊥
 not_both T k from (failures.Fail n) s d e = omega (arith, d e.0 e.1.1, e.1.0)
 not_both T k from (failures.Lose m) s d e = d e.0
+not_both T k from (failures.Repeat m) s d e = d e.0
 
 -- by the step as which the ripe entry at the cursor is due
 passed_ripe : (S : List Entry) (T : Run) (k : ℕ) (c : Cursor) (e : Entry) (r : Option Step) → IsRipe S k c e → IsDueAs T k c.who e.failure r → Decided (IsPassedOver S T k c)

@@ -12,7 +12,7 @@ use Rattle.tau_trace.specs.Known.{IsKnownAt, WellFormed}
 use Rattle.tau_trace.proofs.Indexing.{born-le}
 use Rattle.tau_script.specs.declared.cursor.Cursor.{Cursor}
 use Rattle.tau_script.specs.Cursors.{next_entry, IsDueAs, IsRipe, IsPassedOver, PassesTo, rests, passes, IsDueAt, IsDueHere, MovedFrom, CursorAt, ComesTo, IsCurrent}
-use Rattle.tau_script.specs.Scripts.{HasObject, fails, loses}
+use Rattle.tau_script.specs.Scripts.{HasObject, fails, loses, repeats}
 
 module _ (S : List Entry) (T : Run) (k : ℕ) where
   -- where passing over ends, the cursor rests
@@ -40,6 +40,7 @@ module _ (S : List Entry) (T : Run) (k : ℕ) where
 pub object_as : (T : Run) (k from : ℕ) (f : Failure) (s : Step) → IsDueAs T k from f (Some s) → HasObject T k s
 object_as T k from (failures.Fail n) s d = subst (HasObject T k) (sym d.2) (fails d.1.1.exists d.1.1.living)
 object_as T k from (failures.Lose m) s d = subst (HasObject T k) (sym d.1) (loses d.0)
+object_as T k from (failures.Repeat m) s d = subst (HasObject T k) (sym d.1) (repeats d.0)
 
 pub object : (S : List Entry) (T : Run) (k : ℕ) (c : Cursor) (s : Step) → IsDueAt S T k c (Some s) → HasObject T k s
 object S T k c s d = object_as T k c.who d.entry.failure s d.due
@@ -48,6 +49,7 @@ object S T k c s d = object_as T k c.who d.entry.failure s d.due
 pub object_known : (T : Run) (k : ℕ) (s : Step) → HasObject T k s → IsKnownAt T k s
 object_known T k s (fails e l) = e
 object_known T k s (loses f) = f.exists
+object_known T k s (repeats f) = f.exists
 
 -- and a transactor that fails has a number after it
 known_fits : (T : Run) (s : Step) (t : ℕ) → WellFormed T → IsKnownAt T (len T) s → s ≡ steps.Fail t → t < 4294967295

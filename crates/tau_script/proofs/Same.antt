@@ -33,6 +33,8 @@ due_as-same T U k from (failures.Fail n) None a d = next-same T U n k from None 
 due_as-same T U k from (failures.Fail n) (Some s) a d = (d.0, next-same T U n k from (Some d.0) a d.1, d.2)
 due_as-same T U k from (failures.Lose m) None a d = λ f. d (((same_at T U k a).in_flight m).1 f)
 due_as-same T U k from (failures.Lose m) (Some s) a d = (((same_at T U k a).in_flight m).0 d.0, d.1)
+due_as-same T U k from (failures.Repeat m) None a d = λ f. d (((same_at T U k a).in_flight m).1 f)
+due_as-same T U k from (failures.Repeat m) (Some s) a d = (((same_at T U k a).in_flight m).0 d.0, d.1)
 
 passed-same : (S : List Entry) (T U : Run) (k : ℕ) (c : Cursor) → Agree T U k → IsPassedOver S T k c → IsPassedOver S U k c
 passed-same S T U k c a p =

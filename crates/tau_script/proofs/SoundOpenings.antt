@@ -20,4 +20,6 @@ sound_opening p s = record {
   a_home_each = simp length-map;
   homes = All-map (λ n. n < p.nodes) (λ s. s.node) p.starts s.start_nodes;
   targets = subst (λ n. All (λ t. t < n) (map (λ q. q.to) p.posts)) (sym (length-map p.starts (λ s. s.name))) (All-map (λ t. t < length p.starts) (λ q. q.to) p.posts s.receivers);
+  some_version = s.some_version;
+  few_versions = s.versions_limit;
 }

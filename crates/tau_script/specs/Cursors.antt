@@ -17,10 +17,12 @@ first_cursor = record { entry = 0; who = 0 }
 abbrev pub next_entry : Cursor → Cursor
 next_entry c = record { entry = c.entry + 1; who = 0 }
 
--- the cursor after a step of the script: a Lose goes to the next entry, a Fail to the transactor after the one that failed
+-- the cursor after a step of the script: a Lose and a Repeat go to the next entry, a Fail to the transactor after the one that
+-- failed
 abbrev pub moved_past : Step → Cursor → Cursor
 moved_past (steps.Fail t) c = record { entry = c.entry; who = t + 1 }
 moved_past (steps.Lose m) c = next_entry c
+moved_past (steps.Repeat m) c = next_entry c
 moved_past s c = c
 
 -- the cursor after a place at which this step was due, or none
@@ -34,6 +36,8 @@ IsDueAs T k from (failures.Fail n) None = IsNextLiving T n k from None
 IsDueAs T k from (failures.Fail n) (Some s) = (t : ℕ) × IsNextLiving T n k from (Some t) × (s ≡ steps.Fail t)
 IsDueAs T k from (failures.Lose m) None = ¬ InFlight T m k
 IsDueAs T k from (failures.Lose m) (Some s) = InFlight T m k × (s ≡ steps.Lose m)
+IsDueAs T k from (failures.Repeat m) None = ¬ InFlight T m k
+IsDueAs T k from (failures.Repeat m) (Some s) = InFlight T m k × (s ≡ steps.Repeat m)
 
 -- entry e stands at the cursor, and the run has at least as many steps as its place says
 pub record IsRipe (S : List Entry) (k : ℕ) (c : Cursor) (e : Entry) : Type 0 where

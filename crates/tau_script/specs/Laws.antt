@@ -36,6 +36,6 @@ CursorsGoOn = (S : List Entry) (T : Run) (c : Cursor) (due : Option Step) (s : S
 abbrev pub DueStepsHaveObjects : Type 0
 DueStepsHaveObjects = (S : List Entry) (T : Run) (k : ℕ) (s : Step) → DueStep S T k s → HasObject T k s
 
--- at a complete run the script allows no Fail and no Lose
+-- at a complete run the script allows no Fail, no Lose and no Repeat
 abbrev pub CompleteRunsHaveNoFailures : Type 0
 CompleteRunsHaveNoFailures = (S : List Entry) (T : Run) (s : Step) → IsComplete S T → Allows S T (len T) s → IsFalse (is_failure s)

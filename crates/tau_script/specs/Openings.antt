@@ -4,7 +4,8 @@ use Rattle.tau_tree.specs.declared.programs.Program.{Program}
 use Rattle.tau_tree.specs.Sound.{start_names, behaviour_names}
 use Rattle.tau_trace.specs.declared.opening.Opening.{Opening}
 
--- the names of its starts and behaviours, how many nodes it has, the node of each start and the receiver of each post
+-- the names of its starts and behaviours, how many nodes it has, the node of each start, the receiver of each post, and its
+-- version
 abbrev pub program_opening : Program → Opening
 program_opening p = record {
   names = start_names p;
@@ -12,4 +13,5 @@ program_opening p = record {
   nodes = p.nodes;
   homes = map (λ s. s.node) p.starts;
   targets = map (λ q. q.to) p.posts;
+  version = p.version;
 }

@@ -26,17 +26,20 @@ NoneDue S T k = IsDue S T k None
 abbrev pub is_failure : Step → Bool
 is_failure (steps.Fail t) = true
 is_failure (steps.Lose m) = true
+is_failure (steps.Repeat m) = true
 is_failure s = false
 
--- the script allows the step at place k: it is the due step, or none is due and it is neither a Fail nor a Lose
+-- the script allows the step at place k: it is the due step, or none is due and it is neither a Fail nor a
+-- Lose nor a Repeat
 abbrev pub Allows : List Entry → Run → ℕ → Step → Type 0
 Allows S T k s = DueStep S T k s ⊎ (NoneDue S T k × IsFalse (is_failure s))
 
--- a step of a script that has its object: a Fail of a transactor that exists and has not ended, a Lose of a message in
--- flight
+-- a step of a script that has its object: a Fail of a transactor that exists and has not ended, a Lose or a Repeat of a message
+-- in flight
 pub data HasObject (T : Run) (k : ℕ) : Step → Type 0 where
   fails : {t : ℕ} → t < born T k → IsLiving T t k → HasObject T k (steps.Fail t)
   loses : {m : ℕ} → InFlight T m k → HasObject T k (steps.Lose m)
+  repeats : {m : ℕ} → InFlight T m k → HasObject T k (steps.Repeat m)
 
 -- the run is complete: no step of the script is due, no turn is open, and no message is in flight
 pub record IsComplete (S : List Entry) (T : Run) : Type 0 where

@@ -1,5 +1,6 @@
 //! Cursors of scripts.
 ghost use Rattle.std.specs.Prelude.{◌≡◌, ◌<◌, ◌≤◌, ℕ, length};
+ghost use Rattle.tau_value.specs.declared.limits.TheConstants.{ENTRY_LIMIT};
 ghost use Rattle.tau_trace.specs.declared.step.Step.TheVariants as steps;
 ghost use Rattle.tau_script.specs.Cursors.{first_cursor, next_entry, moved_past};
 
@@ -35,9 +36,9 @@ impl Cursor {
 }
 
 /// Moves the cursor after a step of the script was appended: past the transactor of a Fail, or to the next entry after a
-/// Lose. Other steps leave it where it is. It takes no memory.
+/// Lose or a Repeat. Other steps leave it where it is. It takes no memory.
 pub fn passed(script: &Script, cursor: &mut Cursor, step: &Step)
-    requires few { length script.now ≤ 4096 }
+    requires few { length script.now ≤ ENTRY_LIMIT }
     requires entry { cursor.old.entry < length script.now }
     requires who { (t : ℕ) → step.now ≡ steps.Fail t → t < u32.MAX }
     ensures { cursor.new ≡ moved_past step.now cursor.old }
@@ -46,6 +47,7 @@ pub fn passed(script: &Script, cursor: &mut Cursor, step: &Step)
     match step {
         Step::Fail { who } => cursor.who = who + 1,
         Step::Lose { .. } => *cursor = cursor.next(),
+        Step::Repeat { .. } => *cursor = cursor.next(),
         _ => {}
     }
 }

@@ -36,6 +36,13 @@ pub(crate) fn due_as(failure: Failure, from: u32, trace: &Trace) -> Option<Step>
                 None
             }
         }
+        Failure::Repeat { message } => {
+            if is_in_flight(trace, message) {
+                Some(Step::Repeat { message })
+            } else {
+                None
+            }
+        }
     }
 }
 

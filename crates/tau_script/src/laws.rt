@@ -16,13 +16,13 @@ pub fn cursors_go_on()
     ensures { CursorsGoOn }
 {}
 
-/// A due Fail is that of a transactor that exists and has not ended, and a due Lose that of a message in flight
-/// (docs/rules.md, "Scripts").
+/// A due Fail is that of a transactor that exists and has not ended, and a due Lose or Repeat that of a
+/// message in flight (docs/rules.md, "Scripts").
 pub fn due_steps_have_objects()
     ensures { DueStepsHaveObjects }
 {}
 
-/// At a complete run the script allows no Fail and no Lose (docs/rules.md, "Complete").
+/// At a complete run the script allows no Fail, no Lose and no Repeat (docs/rules.md, "Complete").
 pub fn complete_runs_have_no_failures()
     ensures { CompleteRunsHaveNoFailures }
 {}

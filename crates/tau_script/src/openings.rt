@@ -10,9 +10,9 @@ use tau_trace::{Numbers, Opening};
 use tau_tree::{Behaviour, Post, Program, Start};
 use tau_value::Names;
 
-/// The opening of a program: the names of its starts and behaviours, the number of its nodes, the node of each start and
-/// the receiver of each post (docs/definitions.md, "Opening"). A sound program has an opening that a trace may have. The
-/// error is want of memory.
+/// The opening of a program: the names of its starts and behaviours, the number of its nodes, the node of each start, the
+/// receiver of each post, and its version (docs/definitions.md, "Opening"). A sound program has an opening that a trace may
+/// have. The error is want of memory.
 pub fn opening_of(alloc: Global, program: &Program) -> Result<Opening, AllocError>
     ensures opening { IfOk result (λ o. o ≡ program_opening program.now) }
     ensures sound { Sound program.now → IfOk result IsSound }
@@ -23,6 +23,7 @@ pub fn opening_of(alloc: Global, program: &Program) -> Result<Opening, AllocErro
         nodes: program.nodes,
         homes: homes(alloc, program.starts.items())?,
         targets: targets(alloc, program.posts.items())?,
+        version: program.version,
     })
 }
 

@@ -1,5 +1,6 @@
 //! The due step.
 ghost use Rattle.std.specs.Prelude.{◌≡◌, ◌<◌, ◌≤◌, ℕ, length, IfSome};
+ghost use Rattle.tau_value.specs.declared.limits.TheConstants.{ENTRY_LIMIT};
 ghost use Rattle.tau_trace.specs.declared.step.Step.TheVariants as steps;
 ghost use Rattle.tau_trace.specs.Run.{len};
 ghost use Rattle.tau_trace.specs.Known.{IsKnownAt};
@@ -15,7 +16,7 @@ use tau_tree::Script;
 /// the trace up to this one, and moved by `passed` after each due step, is the script's. A due step may be appended and
 /// passed. It takes no memory.
 pub fn due(script: &Script, cursor: &mut Cursor, trace: &Trace) -> Option<Step>
-    requires { length script.now ≤ 4096 }
+    requires { length script.now ≤ ENTRY_LIMIT }
     ensures passes { PassesTo script.now trace.now.run (len trace.now.run) cursor.old cursor.new }
     ensures due { IsDueAt script.now trace.now.run (len trace.now.run) cursor.new result }
     ensures known { IfSome result (IsKnownAt trace.now.run (len trace.now.run)) }
@@ -30,7 +31,7 @@ pub fn due(script: &Script, cursor: &mut Cursor, trace: &Trace) -> Option<Step>
 
 /// Passes over the entries that are ripe and not due.
 fn pass_over(script: &Script, cursor: &mut Cursor, trace: &Trace)
-    requires { length script.now ≤ 4096 }
+    requires { length script.now ≤ ENTRY_LIMIT }
     ensures passes { PassesTo script.now trace.now.run (len trace.now.run) cursor.old cursor.new }
     ensures rests { ¬ IsPassedOver script.now trace.now.run (len trace.now.run) cursor.new }
 {

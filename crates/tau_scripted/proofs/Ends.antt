@@ -24,15 +24,15 @@ use Rattle.tau_scripted.specs.Flight.{AreInFlight}
 use Rattle.tau_scripted.specs.ScriptedRun.{IsScripted}
 use Rattle.tau_scripted.proofs.Members.{contains_nothing, contains_here}
 use Rattle.tau_scripted.proofs.OpenLemmas.{AreBusy}
-use Rattle.tau_legal.proofs.ReceiverLemmas.{has_receiver}
+use Rattle.tau_legal.proofs.ReceiverLemmas.{receivers_of_fitting}
 use Rattle.tau_scripted.proofs.Homes.{each_homed}
 
 -- without open turns and letters nothing is left
-pub nothing_left : (T : Run) (ls : List Letter) (turns : List ℕ) → WellFormed T → AreInFlight T ls → AreOpenTurns T turns → turns ≡ [] → ls ≡ [] → NothingLeft T
-nothing_left T ls turns w letters are no_turns no_letters = record {
+pub nothing_left : (P : Program) (T : Run) (ls : List Letter) (turns : List ℕ) → WellFormed T → Fitting P T → AreInFlight T ls → AreOpenTurns T turns → turns ≡ [] → ls ≡ [] → NothingLeft T
+nothing_left P T ls turns w fitting letters are no_turns no_letters = record {
   no_turn = λ t place m u. contains_nothing place (subst (λ (xs : List ℕ). Contains xs place) no_turns ((are.each place).1 (record { who = t; message = m; turn = u })));
   none_in_flight = λ m f.
-      let r = has_receiver T m f.exists in
+      let r = receivers_of_fitting P T m fitting f.exists in
       let h = each_homed T w.opening (len T) r.0 (receiver_exists T w m r.0 f.exists r.1) in
       let l : Letter = record { message = m; who = r.0; node = h.0 } in
       contains_nothing l (subst (λ (xs : List Letter). Contains xs l) no_letters ((letters.each l).1 (record { in_flight = f; receiver = r.1; home = h.1 })));
@@ -57,6 +57,7 @@ module _ (P : Program) (T : Run) (c : Cursor) (due : Option Step) (s : Step) (as
       → CursorAt P.script (appended T s) (len (appended T s)) d → nodes ≡ T.opening.nodes → AreInFlight (appended T s) ls → AreBusy (appended T s) busy → AreOpenTurns (appended T s) turns
       → IsScripted P (appended T s) d nodes ls busy turns
   scripted_after d nodes ls busy turns w f allowed cursor at_nodes letters are turns_are = record {
+    sound = asked.sound;
     well_formed = w;
     legal = legal_grows P T s asked.well_formed w asked.legal (record { fits = fits_at_end P T s asked.well_formed w f; allowed = allowed });
     cursor_is = cursor;
@@ -71,7 +72,7 @@ pub asked_at : (P : Program) (T : Run) (c d : Cursor) (due : Option Step) (nodes
     → IsDueAt P.script T (len T) d due → HasAsked P T c due
 asked_at P T c d due nodes ls busy turns h over is =
     let rests : c ≡ d = stays P.script T (len T) c d (cursor_rests P.script T (len T) c h.cursor_is) over in
-    record { well_formed = h.well_formed; legal = h.legal; stands = h.cursor_is; due_is = subst (λ (x : Cursor). IsDueAt P.script T (len T) x due) (sym rests) is }
+    record { sound = h.sound; well_formed = h.well_formed; legal = h.legal; stands = h.cursor_is; due_is = subst (λ (x : Cursor). IsDueAt P.script T (len T) x due) (sym rests) is }
 
 -- the entry of a due step stands in the script
 pub due_entry : (P : Program) (T : Run) (c : Cursor) (due : Option Step) → HasAsked P T c due → IfSome due (λ s. c.entry < length P.script)

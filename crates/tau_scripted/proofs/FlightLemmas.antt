@@ -1,17 +1,18 @@
 -- The letters of the messages in flight, after one more step.
-use Rattle.std.proofs.Common.{◌≡◌, ◌≢◌, ◌⊎◌, ⊎_elim, ℕ, suc, ◌+◌, ◌<◌, Bool, true, false, not, eqb, eqb-true, eq-eqb, Some, None, List, [], ◌∷◌, ◌++◌, get_or, filter, refl, sym, ap, ◌∙◌, subst, arith}
+use Rattle.std.proofs.Common.{◌≡◌, ◌≢◌, ◌⊎◌, ◌↔◌, ⊎_elim, ℕ, suc, ◌+◌, ◌<◌, Bool, true, false, not, eqb, eqb-true, eq-eqb, Option, Some, None, List, [], ◌∷◌, ◌++◌, get_or, filter, refl, sym, ap, ◌∙◌, subst, arith}
+use Rattle.std.specs.Prelude.{IfSome}
 use Rattle.std.specs.List.{Contains}
 use Rattle.std.proofs.lemmas.List.Kept.{AllPairs-filter}
 use Rattle.std.proofs.lemmas.List.Quantifiers.{all_pairs_push}
 use Rattle.std.proofs.lemmas.List.Elements.{Contains-append_left, Contains-push, Contains-push_cases, Contains-get_or}
 use Rattle.tau_value.specs.declared.shared.Value.{Value}
 use Rattle.tau_mailbox.specs.declared.letter.Letter.{Letter}
-use Rattle.tau_mailbox.specs.Letters.{is_other, AllBelow}
+use Rattle.tau_mailbox.specs.Letters.{is_other, AllBelow, IsAscending}
 use Rattle.tau_trace.specs.declared.step.Step.{Step}
-use Rattle.tau_trace.specs.declared.step.Step.TheVariants.{Send}
-use Rattle.tau_trace.specs.Steps.{removed_by, is_send}
+use Rattle.tau_trace.specs.declared.step.Step.TheVariants.{Send, Echo, Repeat}
+use Rattle.tau_trace.specs.Steps.{removed_by, makes_message}
 use Rattle.tau_trace.specs.Run.{Run, len, appended}
-use Rattle.tau_trace.specs.Numbering.{born, sent, Receives, message, IsHome, InFlight}
+use Rattle.tau_trace.specs.Numbering.{born, sent, HasSender, Receives, message, notice, copy, IsHome, InFlight}
 use Rattle.tau_trace.specs.Known.{MayFollow, WellFormed}
 use Rattle.tau_trace.proofs.Lists.{same_some}
 use Rattle.tau_trace.proofs.Agreement.{agree_appended, step_at-appended, same_at}
@@ -20,6 +21,7 @@ use Rattle.tau_trace.proofs.Once.{home_once, receives_once}
 use Rattle.tau_rules.proofs.DeliverLemmas.{receiver_exists}
 use Rattle.tau_views.proofs.Appended.{one_if, sent_here, sent_then, flew, flies_on, not_removed, new_flies}
 use Rattle.tau_scripted.specs.Flight.{IsWaiting, AreInFlight}
+use Rattle.tau_scripted.specs.Inner.Index.{IsNoticeLetter}
 use Rattle.tau_scripted.proofs.Members.{contains_filter, filter_contains}
 
 -- a letter of another message
@@ -58,14 +60,14 @@ module _ (T : Run) (s : Step) (v : WellFormed T) where
       )
 
   -- a letter that waits is of a message that exists
-  pub waits_below : (l : Letter) → is_send s ≡ false → IsWaiting (appended T s) l → l.message < sent T (len T)
+  pub waits_below : (l : Letter) → makes_message s ≡ false → IsWaiting (appended T s) l → l.message < sent T (len T)
   waits_below l no_send h =
       let f : InFlight (appended T s) l.message (suc (len T)) = subst (InFlight (appended T s) l.message) (len-appended T s) h.in_flight in
       let none : sent (appended T s) (suc (len T)) ≡ sent T (len T) + 0 = subst (λ (b : Bool). sent (appended T s) (suc (len T)) ≡ sent T (len T) + one_if b) no_send (sent_then T s) in
       omega (arith, f.exists, none)
 
   -- after a step that takes no message out of flight and sends none
-  pub letters_stay : (ls : List Letter) → removed_by s ≡ None → is_send s ≡ false → AreInFlight T ls → AreInFlight (appended T s) ls
+  pub letters_stay : (ls : List Letter) → removed_by s ≡ None → makes_message s ≡ false → AreInFlight T ls → AreInFlight (appended T s) ls
   letters_stay ls none no_send h = record {
     ascending = h.ascending;
     each = λ l. (
@@ -77,7 +79,7 @@ module _ (T : Run) (s : Step) (v : WellFormed T) where
     nothing e = cc
 
   -- after a step that takes one out
-  pub letters_without : (m : ℕ) (ls : List Letter) → removed_by s ≡ Some m → is_send s ≡ false → AreInFlight T ls → AreInFlight (appended T s) (filter (is_other m) ls)
+  pub letters_without : (m : ℕ) (ls : List Letter) → removed_by s ≡ Some m → makes_message s ≡ false → AreInFlight T ls → AreInFlight (appended T s) (filter (is_other m) ls)
   letters_without m ls takes no_send h = record {
     ascending = AllPairs-filter (λ a b. a.message < b.message) (is_other m) ls h.ascending;
     each = λ l. (
@@ -90,13 +92,71 @@ module _ (T : Run) (s : Step) (v : WellFormed T) where
 pub letters_below : (T : Run) (ls : List Letter) → AreInFlight T ls → AllBelow (sent T (len T)) ls
 letters_below T ls h k d lt = ((h.each (get_or ls k d)).0 (Contains-get_or ls k d lt)).in_flight.exists
 
--- the letter of the message that a Send makes
+-- so the letter of a notice comes behind them
+pub notice_last : (T : Run) (t m : ℕ) (o : Option Letter) (ls : List Letter) → IsNoticeLetter T t m o → AreInFlight T ls → IfSome o (λ l. AllBelow l.message ls)
+notice_last T t m None ls tells h = tt
+notice_last T t m (Some l) ls tells h = subst (λ n. AllBelow n ls) (sym tells.0) (letters_below T ls h)
+
+-- the letter of the message that a step makes
 abbrev pub letter_to : Run → ℕ → ℕ → Letter
 letter_to T u n = record { message = sent T (len T); who = u; node = n }
 
 last_or_below : (j k : ℕ) → j < k + 1 → (j < k) ⊎ (j ≡ k)
 last_or_below j k l = grind arith
 
+-- the letters that a step leaves in flight
+pub record AreLeft (s : Step) (ls rs : List Letter) : Type 0 where
+  pub ascending : IsAscending rs
+  pub each : (l : Letter) → Contains rs l ↔ (Contains ls l × (¬ (removed_by s ≡ Some l.message)))
+
+pub all_left : (T : Run) (s : Step) (ls : List Letter) → removed_by s ≡ None → AreInFlight T ls → AreLeft s ls ls
+all_left T s ls none h = record { ascending = h.ascending; each = λ l. (λ c. (c, λ e. nothing (sym none ∙ e)), λ p. p.0) } where
+  nothing : {m : ℕ} → ¬ (None ≡ Some m)
+  nothing e = cc
+
+pub others_left : (T : Run) (s : Step) (m : ℕ) (ls : List Letter) → removed_by s ≡ Some m → AreInFlight T ls → AreLeft s ls (filter (is_other m) ls)
+others_left T s m ls takes h = record {
+  ascending = AllPairs-filter (λ a b. a.message < b.message) (is_other m) ls h.ascending;
+  each = λ l. (
+    λ c. let r = filter_contains (is_other m) ls l c in (r.0, λ e. other_message m l r.1 (same_some (sym e ∙ takes))),
+    λ p. contains_filter (is_other m) ls l p.0 (is_other-true m l (λ e. p.1 (takes ∙ ap Some (sym e)))),
+  );
+}
+
+module _ (T : Run) (s : Step) (w : WellFormed T) (may : MayFollow T s) (makes : makes_message s ≡ true) (u n : ℕ) (receiver : Receives (appended T s) (sent T (len T)) u) (home : IsHome (appended T s) u n) where
+  one_more : sent (appended T s) (suc (len T)) ≡ sent T (len T) + 1
+  one_more = subst (λ (b : Bool). sent (appended T s) (suc (len T)) ≡ sent T (len T) + one_if b) makes (sent_then T s)
+
+  new_waits : IsWaiting (appended T s) (letter_to T u n)
+  new_waits = waits_at T s w (letter_to T u n) (new_flies T s w may (sent T (len T)) (omega arith) (omega (arith, one_more))) receiver home
+
+  -- after a step that makes a message
+  pub letters_making : (ls rs : List Letter) → AreInFlight T ls → AreLeft s ls rs → AreInFlight (appended T s) (rs ++ letter_to T u n ∷ [])
+  letters_making ls rs h left = record {
+    ascending = all_pairs_push (λ a b. a.message < b.message) rs (letter_to T u n) left.ascending (λ k d lt. ((h.each (get_or rs k d)).0 ((left.each (get_or rs k d)).0 (Contains-get_or rs k d lt)).0).in_flight.exists);
+    each = λ l. (there l, back l);
+  } where
+    there : (l : Letter) → Contains (rs ++ letter_to T u n ∷ []) l → IsWaiting (appended T s) l
+    there l c = ⊎_elim
+        (λ d. let p = (left.each l).0 d in waits_on T s w l p.1 ((h.each l).0 p.0))
+        (λ (e : letter_to T u n ≡ l). subst (IsWaiting (appended T s)) e new_waits)
+        (Contains-push_cases rs (letter_to T u n) l c)
+
+    same : (l : Letter) → l.message ≡ sent T (len T) → IsWaiting (appended T s) l → letter_to T u n ≡ l
+    same l e wait =
+        let who : u ≡ l.who = receives_once (appended T s) (sent T (len T)) u l.who receiver (subst (λ m. Receives (appended T s) m l.who) e wait.receiver) in
+        let node : n ≡ l.node = home_once (appended T s) u n l.node w.opening home (subst (λ x. IsHome (appended T s) x l.node) (sym who) wait.home) in
+        λ i. record { message = sym e i; who = who i; node = node i }
+
+    back : (l : Letter) → IsWaiting (appended T s) l → Contains (rs ++ letter_to T u n ∷ []) l
+    back l wait =
+        let f : InFlight (appended T s) l.message (suc (len T)) = subst (InFlight (appended T s) l.message) (len-appended T s) wait.in_flight in
+        ⊎_elim
+        (λ lt. let r = waited T s w l lt wait in Contains-append_left rs (letter_to T u n ∷ []) l ((left.each l).1 ((h.each l).1 r.0, r.1)))
+        (λ (e : l.message ≡ sent T (len T)). subst (λ (x : Letter). Contains (rs ++ letter_to T u n ∷ []) x) (same l e wait) (Contains-push rs (letter_to T u n)))
+        (last_or_below l.message (sent T (len T)) (omega (arith, f.exists, one_more)))
+
+-- after a Send
 module _ (T : Run) (t u : ℕ) (v : Value) (w : WellFormed T) (may : MayFollow T (Send t u v)) (n : ℕ) (home : IsHome T u n) where
   receiver_is : Receives (appended T (Send t u v)) (sent T (len T)) u
   receiver_is = message (record { to = u; value = v; stands = step_at-appended T (Send t u v); made = sym (sent_here T (Send t u v)) }) refl
@@ -104,31 +164,28 @@ module _ (T : Run) (t u : ℕ) (v : Value) (w : WellFormed T) (may : MayFollow T
   home_is : IsHome (appended T (Send t u v)) u n
   home_is = ((same_at T (appended T (Send t u v)) (len T) (agree_appended T (Send t u v))).home u n may.known.1).0 home
 
-  new_waits : IsWaiting (appended T (Send t u v)) (letter_to T u n)
-  new_waits = waits_at T (Send t u v) w (letter_to T u n) (new_flies T (Send t u v) w may (sent T (len T)) (omega arith) (omega (arith, sent_then T (Send t u v)))) receiver_is home_is
-
-  -- after a Send
   pub letters_with : (ls : List Letter) → AreInFlight T ls → AreInFlight (appended T (Send t u v)) (ls ++ letter_to T u n ∷ [])
-  letters_with ls h = record {
-    ascending = all_pairs_push (λ a b. a.message < b.message) ls (letter_to T u n) h.ascending (letters_below T ls h);
-    each = λ l. (there l, back l);
-  } where
-    there : (l : Letter) → Contains (ls ++ letter_to T u n ∷ []) l → IsWaiting (appended T (Send t u v)) l
-    there l c = ⊎_elim
-        (λ d. waits_on T (Send t u v) w l (λ e. cc) ((h.each l).0 d))
-        (λ (e : letter_to T u n ≡ l). subst (IsWaiting (appended T (Send t u v))) e new_waits)
-        (Contains-push_cases ls (letter_to T u n) l c)
+  letters_with ls h = letters_making T (Send t u v) w may refl u n receiver_is home_is ls ls h (all_left T (Send t u v) ls refl h)
 
-    same : (l : Letter) → l.message ≡ sent T (len T) → IsWaiting (appended T (Send t u v)) l → letter_to T u n ≡ l
-    same l e wait =
-        let who : u ≡ l.who = receives_once (appended T (Send t u v)) (sent T (len T)) u l.who receiver_is (subst (λ m. Receives (appended T (Send t u v)) m l.who) e wait.receiver) in
-        let node : n ≡ l.node = home_once (appended T (Send t u v)) u n l.node w.opening home_is (subst (λ x. IsHome (appended T (Send t u v)) x l.node) (sym who) wait.home) in
-        λ i. record { message = sym e i; who = who i; node = node i }
+-- after a Repeat: the copy has the receiver of the message that it repeats
+module _ (T : Run) (m u n : ℕ) (w : WellFormed T) (may : MayFollow T (Repeat m)) (receives : Receives T m u) (home : IsHome T u n) where
+  copy_received : Receives (appended T (Repeat m)) (sent T (len T)) u
+  copy_received = copy {k = len T} {n = m} (record { stands = step_at-appended T (Repeat m); made = sym (sent_here T (Repeat m)); earlier = may.known }) (((same_at T (appended T (Repeat m)) (len T) (agree_appended T (Repeat m))).receives m u may.known).0 receives)
 
-    back : (l : Letter) → IsWaiting (appended T (Send t u v)) l → Contains (ls ++ letter_to T u n ∷ []) l
-    back l wait =
-        let f : InFlight (appended T (Send t u v)) l.message (suc (len T)) = subst (InFlight (appended T (Send t u v)) l.message) (len-appended T (Send t u v)) wait.in_flight in
-        ⊎_elim
-        (λ lt. Contains-append_left ls (letter_to T u n ∷ []) l ((h.each l).1 (waited T (Send t u v) w l lt wait).0))
-        (λ (e : l.message ≡ sent T (len T)). subst (λ (x : Letter). Contains (ls ++ letter_to T u n ∷ []) x) (same l e wait) (Contains-push ls (letter_to T u n)))
-        (last_or_below l.message (sent T (len T)) (omega (arith, f.exists, sent_then T (Send t u v))))
+  copy_home : IsHome (appended T (Repeat m)) u n
+  copy_home = ((same_at T (appended T (Repeat m)) (len T) (agree_appended T (Repeat m))).home u n (receiver_exists T w m u may.known receives)).0 home
+
+  pub letters_repeated : (ls : List Letter) → AreInFlight T ls → AreInFlight (appended T (Repeat m)) (ls ++ letter_to T u n ∷ [])
+  letters_repeated ls h = letters_making T (Repeat m) w may refl u n copy_received copy_home ls ls h (all_left T (Repeat m) ls refl h)
+
+-- after an Echo: the notice goes to the sender of the message, which is out of flight
+module _ (T : Run) (t m u n : ℕ) (w : WellFormed T) (may : MayFollow T (Echo t m)) (sender : HasSender T m u) (exists : u < born T (len T)) (home : IsHome T u n) where
+  notice_received : Receives (appended T (Echo t m)) (sent T (len T)) u
+  notice_received = notice {j = len T} {by = t} {n = m} (record { stands = step_at-appended T (Echo t m); made = sym (sent_here T (Echo t m)); earlier = may.known.1 })
+      (record { place = sender.place; origin = ((same_at T (appended T (Echo t m)) (len T) (agree_appended T (Echo t m))).origin m sender.place u may.known.1).0 sender.origin })
+
+  notice_home : IsHome (appended T (Echo t m)) u n
+  notice_home = ((same_at T (appended T (Echo t m)) (len T) (agree_appended T (Echo t m))).home u n exists).0 home
+
+  pub letters_echoed : (ls : List Letter) → AreInFlight T ls → AreInFlight (appended T (Echo t m)) (filter (is_other m) ls ++ letter_to T u n ∷ [])
+  letters_echoed ls h = letters_making T (Echo t m) w may refl u n notice_received notice_home ls (filter (is_other m) ls) h (others_left T (Echo t m) m ls refl h)

@@ -1,16 +1,21 @@
 -- The letters of the posts, and a run without steps.
-use Rattle.std.proofs.Common.{◌≡◌, ⊎_elim, ℕ, ◌+◌, ◌<◌, List, [], ◌∷◌, ◌++◌, length, get_or, sym, ap, subst, arith}
+use Rattle.std.proofs.Common.{◌≡◌, ⊎_elim, ℕ, ◌+◌, ◌<◌, false, List, [], ◌∷◌, ◌++◌, length, get_or, sym, ap, subst, arith}
 use Rattle.std.specs.List.{Contains}
+use Rattle.std.specs.Option.{option_map_or}
 use Rattle.std.proofs.lemmas.List.Quantifiers.{all_pairs_push}
 use Rattle.std.proofs.lemmas.List.Elements.{Contains-append_left, Contains-push, Contains-push_cases, Contains-get_or}
 use Rattle.std.proofs.lemmas.Option.{slice_get_within}
 use Rattle.tau_mailbox.specs.declared.letter.Letter.{Letter}
 use Rattle.tau_mailbox.specs.Letters.{AllBelow}
 use Rattle.tau_tree.specs.declared.programs.Program.{Program}
-use Rattle.tau_trace.specs.Run.{Run, len}
+use Rattle.tau_tree.specs.Sound.{Sound}
+use Rattle.tau_trace.specs.Run.{Run, len, step_at}
 use Rattle.tau_trace.specs.Known.{WellFormed, IsSound}
-use Rattle.tau_trace.specs.Numbering.{sent, Receives, IsHome}
+use Rattle.tau_trace.specs.Numbering.{sent, Receives, post, IsHome}
+use Rattle.tau_trace.specs.Steps.{makes_message}
+use Rattle.tau_trace.proofs.Counts.{count-zero}
 use Rattle.tau_trace.proofs.Once.{home_once, receives_once}
+use Rattle.tau_trace.proofs.Reading.{element}
 use Rattle.tau_script.specs.declared.cursor.Cursor.{Cursor}
 use Rattle.tau_script.specs.Cursors.{CursorAt}
 use Rattle.tau_script.specs.Openings.{program_opening}
@@ -44,6 +49,15 @@ one_posted T x ls sound r at h = record {
       subst (λ (y : Letter). Contains (ls ++ x ∷ []) y) same (Contains-push ls x))
       (below_or_last l.message x.message k.0)
 
+-- without steps, each message is a post and has its receiver
+pub post_receiver : (T : Run) (m : ℕ) → T.steps ≡ [] → m < sent T (len T) → (t : ℕ) × Receives T m t
+post_receiver T m first lt =
+    let F : ℕ → Type 0 = λ k. m < sent T k in
+    let at : len T ≡ 0 = ap length first in
+    let there : m < sent T 0 = subst F at lt in
+    let found = element T.opening.targets m (omega (arith, there, count-zero (λ j. option_map_or makes_message (step_at T j) false))) in
+    (found.0, post found.1)
+
 -- without steps, all messages are in flight
 pub all_posted : (T : Run) (n : ℕ) (ls : List Letter) → T.steps ≡ [] → n ≡ sent T (len T) → ArePosted T n ls → AreInFlight T ls
 all_posted T n ls e is h = record {
@@ -55,11 +69,12 @@ all_posted T n ls e is h = record {
 }
 
 -- what is kept of a run without steps
-pub first_scripted : (P : Program) (T : Run) (c : Cursor) (nodes : ℕ) (ls : List Letter) (busy turns : List ℕ) → WellFormed T → T ≡ record { opening = program_opening P; steps = [] }
+pub first_scripted : (P : Program) (T : Run) (c : Cursor) (nodes : ℕ) (ls : List Letter) (busy turns : List ℕ) → Sound P → WellFormed T → T ≡ record { opening = program_opening P; steps = [] }
     → CursorAt P.script T (len T) c → nodes ≡ T.opening.nodes → AreInFlight T ls → busy ≡ [] → turns ≡ [] → IsScripted P T c nodes ls busy turns
-first_scripted P T c nodes ls busy turns w e cursor at_nodes letters no_busy no_turns =
+first_scripted P T c nodes ls busy turns sound w e cursor at_nodes letters no_busy no_turns =
     let none : len T ≡ 0 = ap len e in
     record {
+      sound = sound;
       well_formed = w;
       legal = record { opening = ap (λ (x : Run). x.opening) e; steps = λ k s at. absurd (omega (arith, slice_get_within T.steps k s at, none)) };
       cursor_is = cursor;

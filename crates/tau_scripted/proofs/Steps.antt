@@ -5,11 +5,12 @@ use Rattle.tau_mailbox.specs.declared.letter.Letter.{Letter}
 use Rattle.tau_mailbox.specs.Letters.{is_other}
 use Rattle.tau_tree.specs.declared.programs.Program.{Program}
 use Rattle.tau_trace.specs.declared.step.Step.{Step}
-use Rattle.tau_trace.specs.declared.step.Step.TheVariants.{Take, Drop, Fall, Void, Get, Set, Skip, Send, New, Stabilize, Ask, Fail, Lose}
-use Rattle.tau_trace.specs.Steps.{actor, removed_by, is_send, ends_turn}
+use Rattle.tau_trace.specs.declared.step.Step.TheVariants.{Take, Drop, Fall, Void, Get, Set, Skip, Send, New, Stabilize, Ask, Fail, Lose, Echo, Heed, Repeat}
+use Rattle.tau_trace.specs.Steps.{actor, removed_by, makes_message, ends_turn}
 use Rattle.tau_trace.specs.Run.{Run, len, appended}
 use Rattle.tau_trace.specs.Known.{WellFormed, IsKnownAt, MayFollow}
-use Rattle.tau_trace.specs.Numbering.{born, sent, IsHome}
+use Rattle.tau_trace.specs.Numbering.{born, sent, Receives, IsHome, InFlight}
+use Rattle.tau_trace.specs.Histories.{Ended}
 use Rattle.tau_trace.specs.Turns.{IsOpenTurn}
 use Rattle.tau_trace.proofs.Agreement.{agree_appended, step_at-appended, born-same, sent-same}
 use Rattle.tau_trace.proofs.Indexing.{known_same, len-appended}
@@ -17,7 +18,7 @@ use Rattle.tau_trace.proofs.Lists.{same_some}
 use Rattle.tau_trace.proofs.Once.{receives_once}
 use Rattle.tau_script.specs.declared.cursor.Cursor.{Cursor}
 use Rattle.tau_script.specs.Cursors.{CursorAt, IsCurrent, IsDueAt, PassesTo, moved_past_due}
-use Rattle.tau_script.specs.Scripts.{Allows, NoneDue, is_failure}
+use Rattle.tau_script.specs.Scripts.{Allows, NoneDue, HasObject, fails, loses, repeats, is_failure}
 use Rattle.tau_legal.specs.Traces.{Fitting, Legal}
 use Rattle.tau_legal.specs.Fits.{Fits, is_of_turn}
 use Rattle.tau_legal.specs.Turns.{TurnHas}
@@ -32,7 +33,7 @@ use Rattle.tau_eval.specs.declared.effects.Effect.TheVariants as effects
 use Rattle.tau_legal.specs.Choices.{goes_on}
 use Rattle.tau_rules.specs.System.{Core, with_step}
 use Rattle.tau_rules.specs.declared.answers.Delivered.{Delivered}
-use Rattle.tau_rules.specs.declared.answers.Delivered.TheVariants.{Began, Dropped, Fell, Voided}
+use Rattle.tau_rules.specs.declared.answers.Delivered.TheVariants.{Began, Dropped, Fell, Voided, Echoed, Heeded}
 use Rattle.tau_rules.specs.declared.answers.Acted.{Acted}
 use Rattle.tau_rules.specs.declared.answers.Acted.TheVariants.{Reply, TurnOver, Redo}
 use Rattle.tau_rules.specs.Answers.{IsDelivered, IsActed, IsStepped, IsOpenJob}
@@ -40,11 +41,12 @@ use Rattle.tau_check.specs.Inner.Checkers.{HasAsked}
 use Rattle.tau_check.proofs.Endings.{fits_at_end, turn_no_failure}
 use Rattle.tau_check.proofs.FamilyLemmas.{IsRow, of_effect, effect_once}
 use Rattle.tau_check.proofs.TurnSteps.{acts_in_turn}
-use Rattle.tau_scripted.specs.Inner.Index.{receiver_of, IsNodeOf, with_letter, letters_received, busy_received, turns_received, busy_ended, turns_ended, letters_acted, busy_acted, turns_acted}
+use Rattle.tau_scripted.specs.Inner.Index.{receiver_of, IsNodeOf, with_letter, IsNoticeLetter, with_notice, letters_received, busy_received, turns_received, busy_ended, turns_ended, letters_acted, busy_acted, turns_acted}
 use Rattle.tau_scripted.specs.Flight.{IsWaiting, AreInFlight}
 use Rattle.tau_scripted.specs.OpenTurns.{AreOpenTurns}
 use Rattle.tau_scripted.specs.ScriptedRun.{IsScripted, IsUnchangedAtRedo, messages_of}
-use Rattle.tau_scripted.proofs.FlightLemmas.{letters_stay, letters_without, letters_with}
+use Rattle.tau_scripted.proofs.FlightLemmas.{letter_to, letters_stay, letters_without, letters_with, letters_repeated, letters_echoed}
+use Rattle.tau_legal.proofs.TurnLemmas.{sender_known}
 use Rattle.tau_scripted.proofs.OpenLemmas.{AreBusy, TurnsStay, stay_idle, stay_going, begin_take, end_own, open_stay, open_begin, open_end, busy_stay, busy_begin, busy_end}
 use Rattle.tau_scripted.proofs.Ends.{current_after, scripted_after}
 
@@ -54,8 +56,19 @@ may_follow T s w =
     let known : IsKnownAt (appended T s) (len T) s = w.known (len T) s (step_at-appended T s) in
     record {
       known = known_same T.opening (born (appended T s) (len T)) (born T (len T)) (sent (appended T s) (len T)) (sent T (len T)) s (sym (born-same (len T) (agree_appended T s))) (sym (sent-same (len T) (agree_appended T s))) known;
+      version = w.versions (len T) s (step_at-appended T s);
       few_steps = omega (arith, w.few_steps, len-appended T s);
     }
+
+-- the message of a due Repeat is in flight
+pub repeats_in_flight : (T : Run) (k m : ℕ) → HasObject T k (Repeat m) → InFlight T m k
+repeats_in_flight T k m h = by (Repeat m) h refl where
+  by : (s : Step) → HasObject T k s → s ≡ Repeat m → InFlight T m k
+  by s (fails lt living) e = absurd (cc)
+  by s (loses f) e = absurd (cc)
+  by s (repeats {m = n} f) e =
+      let same : n ≡ m = cc in
+      subst (λ x. InFlight T x k) same f
 
 -- the receiver of a Send
 abbrev pub sent_to : Step → Option ℕ
@@ -116,13 +129,16 @@ letters_going T (Ask t a) n ls v w going at h = letters_stay T (Ask t a) v ls re
 letters_going T s n ls v w going at h = absurd (cc)
 
 -- a step of a turn that ends it leaves the letters
-over_keeps : (s : Step) → IsTrue (is_of_turn s) → IsTrue (ends_turn s) → (removed_by s ≡ None) × (is_send s ≡ false)
+over_keeps : (s : Step) → IsTrue (is_of_turn s) → IsTrue (ends_turn s) → (removed_by s ≡ None) × (makes_message s ≡ false)
 over_keeps (Take t m) h e = absurd (cc)
 over_keeps (Drop t m) h e = absurd (cc)
 over_keeps (Fall t m) h e = absurd (cc)
 over_keeps (Void t m) h e = absurd (cc)
 over_keeps (Send t u v) h e = absurd (cc)
 over_keeps (Lose m) h e = absurd (cc)
+over_keeps (Echo t m) h e = absurd (cc)
+over_keeps (Heed t m) h e = absurd (cc)
+over_keeps (Repeat m) h e = absurd (cc)
 over_keeps s h e = (refl, refl)
 
 module _ (old new : Core) (c d : Cursor) (nodes : ℕ) (ls : List Letter) (busy turns : List ℕ) (kept : IsScripted old.program old.run c nodes ls busy turns) (w : WellFormed new.run) (f : Fitting new.program new.run) where
@@ -161,11 +177,25 @@ module _ (old new : Core) (c d : Cursor) (nodes : ℕ) (ls : List Letter) (busy 
         nobody : (t : ℕ) → ¬ (None ≡ Some t)
         nobody t e = cc
 
+  -- after a Repeat, by the letter of its copy, which goes to the receiver of the message
+  pub after_repeat : (m : ℕ) (l : Letter) → HasAsked old.program old.run c (Some (Repeat m)) → new ≡ with_step old (Repeat m)
+      → (IsCurrent new.program.script new.run (len new.run) (moved_past_due (Some (Repeat m)) c) → CursorAt new.program.script new.run (len new.run) d)
+      → l.message ≡ sent old.run (len old.run) → Receives old.run m l.who → IsHome old.run l.who l.node → IsScripted new.program new.run d nodes (ls ++ l ∷ []) busy turns
+  after_repeat m l asked is moves number receives home =
+      let may : MayFollow old.run (Repeat m) = may_follow old.run (Repeat m) (subst (λ (k : Core). WellFormed k.run) is w) in
+      let stay : TurnsStay old.run (Repeat m) = stay_idle old.run (Repeat m) (λ t k e. cc) (λ t by. absurd (nobody t by)) in
+      let made : AreInFlight (appended old.run (Repeat m)) (ls ++ letter_to old.run l.who l.node ∷ []) = letters_repeated old.run m l.who l.node kept.well_formed may receives home ls kept.letters_are in
+      let same : letter_to old.run l.who l.node ≡ l = λ i. record { message = sym number i; who = l.who; node = l.node } in
+      let letters : AreInFlight (appended old.run (Repeat m)) (ls ++ l ∷ []) = subst (λ (y : Letter). AreInFlight (appended old.run (Repeat m)) (ls ++ y ∷ [])) same made in
+      after_step (Some (Repeat m)) (Repeat m) asked is (allows_due (Repeat m) asked) moves (ls ++ l ∷ []) busy turns letters (busy_stay old.run (Repeat m) busy kept.busy_are stay) (open_stay old.run (Repeat m) turns kept.turns_are stay) where
+        nobody : (t : ℕ) → ¬ (None ≡ Some t)
+        nobody t e = cc
+
   -- where no step is due
   none_asked : NoneDue old.program.script old.run (len old.run) → HasAsked old.program old.run c None
   none_asked none =
       let same : none.cursor ≡ c = one_cursor old.program.script old.run (len old.run) none.cursor c none.stands kept.cursor_is in
-      record { well_formed = kept.well_formed; legal = kept.legal; stands = kept.cursor_is; due_is = subst (λ (x : Cursor). IsDueAt old.program.script old.run (len old.run) x None) same none.due }
+      record { sound = kept.sound; well_formed = kept.well_formed; legal = kept.legal; stands = kept.cursor_is; due_is = subst (λ (x : Cursor). IsDueAt old.program.script old.run (len old.run) x None) same none.due }
 
   last_fits : (s : Step) → new ≡ with_step old s → Fits old.program old.run (len old.run) s
   last_fits s is = fits_at_end old.program old.run s kept.well_formed (subst (λ (k : Core). WellFormed k.run) is w) (subst (λ (k : Core). Fitting k.program k.run) is f)
@@ -190,17 +220,36 @@ module _ (old new : Core) (c d : Cursor) (nodes : ℕ) (ls : List Letter) (busy 
         after_step None (Take l.who l.message) (none_asked none) here (inr (none, refl)) moves (filter (is_other l.message) ls) (busy ++ l.who ∷ []) (turns ++ len old.run ∷ [])
         (letters_without old.run (Take l.who l.message) kept.well_formed l.message ls refl refl kept.letters_are) (busy_begin old.run (Take l.who l.message) busy kept.busy_are l.who l.message begins) (open_begin old.run (Take l.who l.message) turns kept.turns_are l.who l.message begins)
 
+    -- after an Echo, by the letter of its notice
+    after_echo : (t : ℕ) (notice : Option Letter) → IsNoticeLetter old.run l.who l.message notice → new ≡ with_step old (Echo t l.message) → IsScripted new.program new.run d nodes (with_notice (filter (is_other l.message) ls) notice) busy turns
+    after_echo t None tells is =
+        let f = last_fits (Echo t l.message) is in
+        let who : t ≡ l.who = receives_once old.run l.message t l.who f.0.receiver waits.receiver in
+        absurd (tells (subst (λ u. Ended old.run u (len old.run)) who f.0.ended) f.1.sender f.1.has)
+    after_echo t (Some x) tells is =
+        let f = last_fits (Echo t l.message) is in
+        let who : t ≡ l.who = receives_once old.run l.message t l.who f.0.receiver waits.receiver in
+        let may : MayFollow old.run (Echo t l.message) = may_follow old.run (Echo t l.message) (subst (λ (k : Core). WellFormed k.run) is w) in
+        let exists = sender_known old.run kept.well_formed l.message x.who (len old.run) f.0.in_flight.exists tells.1 in
+        let made : AreInFlight (appended old.run (Echo t l.message)) (filter (is_other l.message) ls ++ letter_to old.run x.who x.node ∷ []) = letters_echoed old.run t l.message x.who x.node kept.well_formed may tells.1 exists tells.2 ls kept.letters_are in
+        let same : letter_to old.run x.who x.node ≡ x = λ i. record { message = sym tells.0 i; who = x.who; node = x.node } in
+        after_other (Echo t l.message) refl is (ap Some who) (λ u n e. cc) (filter (is_other l.message) ls ++ x ∷ []) (subst (λ (y : Letter). AreInFlight (appended old.run (Echo t l.message)) (filter (is_other l.message) ls ++ y ∷ [])) same made)
+
     -- after each receipt
-    pub after_receipt : (r : Delivered) → IsDelivered old new l.message r → IsScripted new.program new.run d nodes (letters_received l.message ls r) (busy_received l.who busy r) (turns_received (len old.run) turns r)
-    after_receipt (Began job) h = after_take job.who h.appended
-    after_receipt Dropped h =
+    pub after_receipt : (notice : Option Letter) → IsNoticeLetter old.run l.who l.message notice → (r : Delivered) → IsDelivered old new l.message r → IsScripted new.program new.run d nodes (letters_received l.message notice ls r) (busy_received l.who busy r) (turns_received (len old.run) turns r)
+    after_receipt notice tells (Began job) h = after_take job.who h.appended
+    after_receipt notice tells Dropped h =
         let who : h.0 ≡ l.who = receives_once old.run l.message h.0 l.who (last_fits (Drop h.0 l.message) h.1).0.receiver waits.receiver in
         after_other (Drop h.0 l.message) refl h.1 (ap Some who) (λ t n e. cc) (filter (is_other l.message) ls) (letters_without old.run (Drop h.0 l.message) kept.well_formed l.message ls refl refl kept.letters_are)
-    after_receipt Fell h =
+    after_receipt notice tells Fell h =
         let who : h.0 ≡ l.who = receives_once old.run l.message h.0 l.who (last_fits (Fall h.0 l.message) h.1).0.receiver waits.receiver in
         after_other (Fall h.0 l.message) refl h.1 (ap Some who) (λ t n e. cc) ls (letters_stay old.run (Fall h.0 l.message) kept.well_formed ls refl refl kept.letters_are)
-    after_receipt Voided h =
-        let who : h.0 ≡ l.who = receives_once old.run l.message h.0 l.who (last_fits (Void h.0 l.message) h.1).receiver waits.receiver in
+    after_receipt notice tells Echoed h = after_echo h.0 notice tells h.1
+    after_receipt notice tells Heeded h =
+        let who : h.0 ≡ l.who = receives_once old.run l.message h.0 l.who (last_fits (Heed h.0 l.message) h.1).0.receiver waits.receiver in
+        after_other (Heed h.0 l.message) refl h.1 (ap Some who) (λ t n e. cc) (filter (is_other l.message) ls) (letters_without old.run (Heed h.0 l.message) kept.well_formed l.message ls refl refl kept.letters_are)
+    after_receipt notice tells Voided h =
+        let who : h.0 ≡ l.who = receives_once old.run l.message h.0 l.who (last_fits (Void h.0 l.message) h.1).0.receiver waits.receiver in
         after_other (Void h.0 l.message) refl h.1 (ap Some who) (λ t n e. cc) (filter (is_other l.message) ls) (letters_without old.run (Void h.0 l.message) kept.well_formed l.message ls refl refl kept.letters_are)
 
   module _ (job : jobs.TurnSoFar) (e : Effect) (none : NoneDue old.program.script old.run (len old.run)) (is_effect : eff_of e ≡ jobs.next_in job) (n : ℕ) (at : IsNodeOf old.run e n)
@@ -228,7 +277,7 @@ module _ (old new : Core) (c d : Cursor) (nodes : ℕ) (ls : List Letter) (busy 
     same_core same =
         let cursor : CursorAt new.program.script new.run (len new.run) d = moves (inl (subst (λ (k : Core). CursorAt k.program.script k.run (len k.run) c) (sym same) kept.cursor_is)) in
         let was : IsScripted new.program new.run c nodes ls busy turns = subst (λ (k : Core). IsScripted k.program k.run c nodes ls busy turns) (sym same) kept in
-        record { well_formed = was.well_formed; legal = was.legal; cursor_is = cursor; nodes_are = was.nodes_are; letters_are = was.letters_are; busy_are = was.busy_are; turns_are = was.turns_are }
+        record { sound = was.sound; well_formed = was.well_formed; legal = was.legal; cursor_is = cursor; nodes_are = was.nodes_are; letters_are = was.letters_are; busy_are = was.busy_are; turns_are = was.turns_are }
 
     -- after an effect
     pub after_act : (a : Acted) → IsActed old new job a → IsScripted new.program new.run d nodes (letters_acted (sent old.run (len old.run)) n ls e a) (busy_acted job.who busy a) (turns_acted job.place turns a)

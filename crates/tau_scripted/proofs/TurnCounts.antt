@@ -6,7 +6,7 @@ use Rattle.tau_mailbox.specs.MailState.{is_not}
 use Rattle.tau_rules.specs.declared.answers.Acted.{Acted}
 use Rattle.tau_rules.specs.declared.answers.Acted.TheVariants.{Reply, TurnOver, Redo}
 use Rattle.tau_rules.specs.declared.answers.Delivered.{Delivered}
-use Rattle.tau_rules.specs.declared.answers.Delivered.TheVariants.{Began, Dropped, Fell, Voided}
+use Rattle.tau_rules.specs.declared.answers.Delivered.TheVariants.{Began, Dropped, Fell, Voided, Echoed, Heeded}
 use Rattle.tau_scripted.specs.Inner.Index.{turns_received, turns_ended, turns_acted}
 
 pub fewer_ended : (turns : List ℕ) (turn : Option ℕ) → length (turns_ended turns turn) ≤ length turns
@@ -23,9 +23,13 @@ front_received place turns (Began job) = take-append_seam turns (place ∷ [])
 front_received place turns Dropped = take-length turns
 front_received place turns Fell = take-length turns
 front_received place turns Voided = take-length turns
+front_received place turns Echoed = take-length turns
+front_received place turns Heeded = take-length turns
 
 pub one_received : (place : ℕ) (turns : List ℕ) (d : Delivered) → length (turns_received place turns d) ≤ length turns + 1
 one_received place turns (Began job) = omega (arith, length-append turns (place ∷ []))
 one_received place turns Dropped = omega arith
 one_received place turns Fell = omega arith
 one_received place turns Voided = omega arith
+one_received place turns Echoed = omega arith
+one_received place turns Heeded = omega arith

@@ -4,6 +4,7 @@ use Rattle.std.specs.List.{Contains}
 use Rattle.tau_mailbox.specs.declared.letter.Letter.{Letter}
 use Rattle.tau_mailbox.specs.MailState.{is_deliverable}
 use Rattle.tau_tree.specs.declared.programs.Program.{Program}
+use Rattle.tau_tree.specs.Sound.{Sound}
 use Rattle.tau_trace.specs.declared.step.Step.{Step}
 use Rattle.tau_trace.specs.Run.{Run, len}
 use Rattle.tau_trace.specs.Known.{WellFormed}
@@ -30,6 +31,7 @@ pub record ScriptedRun : Type 0 where
 -- the run is legal, the cursor is the script's, and these are the number of nodes, the letters of the messages in flight, the transactors
 -- in a turn and the open turns
 pub record IsScripted (P : Program) (T : Run) (cursor : Cursor) (nodes : ℕ) (letters : List Letter) (busy turns : List ℕ) : Type 0 where
+  pub sound : Sound P
   pub well_formed : WellFormed T
   pub legal : Legal P T
   pub cursor_is : CursorAt P.script T (len T) cursor

@@ -1,5 +1,6 @@
 //! The cursor of the script after a step.
 ghost use Rattle.std.specs.Prelude.{◌≡◌, ◌<◌, ◌≤◌, ℕ, length, IfSome};
+ghost use Rattle.tau_value.specs.declared.limits.TheConstants.{ENTRY_LIMIT};
 ghost use Rattle.tau_trace.specs.declared.step.Step.TheVariants as steps;
 ghost use Rattle.tau_trace.specs.Run.{len};
 ghost use Rattle.tau_trace.specs.Known.{WellFormed};
@@ -19,7 +20,7 @@ pub(crate) fn due_by<'p, K: Knowledge + Drop>(
     ensures passes { PassesTo system.now.program.script system.now.run (len system.now.run) cursor.old cursor.new }
     ensures current { IsCurrent system.now.program.script system.now.run (len system.now.run) cursor.old → CursorAt system.now.program.script system.now.run (len system.now.run) cursor.new }
     ensures due { IsDueAt system.now.program.script system.now.run (len system.now.run) cursor.new result }
-    ensures entries { length system.now.program.script ≤ 4096 }
+    ensures entries { length system.now.program.script ≤ ENTRY_LIMIT }
     ensures who { IfSome result (λ s. (t : ℕ) → s ≡ steps.Fail t → t < u32.MAX) }
     ensures well_formed { WellFormed system.now.run }
     ensures fitting { Fitting system.now.program system.now.run }
@@ -33,7 +34,7 @@ pub(crate) fn move_past<'p, K: Knowledge + Drop>(
     cursor: &mut Cursor,
     step: &Step,
 )
-    requires few { length system.now.program.script ≤ 4096 }
+    requires few { length system.now.program.script ≤ ENTRY_LIMIT }
     requires entry { cursor.old.entry < length system.now.program.script }
     requires who { (t : ℕ) → step.now ≡ steps.Fail t → t < u32.MAX }
     ensures current { IsCurrent system.now.program.script system.now.run (len system.now.run) (moved_past step.now cursor.old) → CursorAt system.now.program.script system.now.run (len system.now.run) cursor.new }

@@ -1,6 +1,6 @@
 //! The due steps of the script.
 ghost use Rattle.std.specs.Prelude.{◌≡◌, ◌<◌, ◌≤◌, ℕ, Some, IfOk, OnOk, OnErr, length};
-ghost use Rattle.tau_value.specs.declared.limits.TheConstants.{STEP_LIMIT};
+ghost use Rattle.tau_value.specs.declared.limits.TheConstants.{STEP_LIMIT, ENTRY_LIMIT};
 ghost use Rattle.tau_trace.specs.declared.step.Step.TheVariants as steps;
 ghost use Rattle.tau_trace.specs.Run.{len};
 ghost use Rattle.tau_rules.specs.System.{with_step};
@@ -9,7 +9,8 @@ ghost use Rattle.tau_scripted.specs.ScriptedRun.{IsDueMade};
 
 use crate::Scripted;
 use crate::cursors::move_past;
-use crate::making::{make_fail, make_lose};
+use crate::letters::copy_of;
+use crate::making::{make_fail, make_lose, make_repeat};
 use std::alloc::AllocError;
 use tau_knowledge::Knowledge;
 use tau_trace::Step;
@@ -29,6 +30,7 @@ impl<'p, K: Knowledge + Drop> Scripted<'p, K> {
         match step {
             Step::Fail { who } => self.fail(who)?,
             Step::Lose { message } => self.lose(message)?,
+            Step::Repeat { message } => self.repeat(message)?,
             _ => unreachable!(),
         }
         Ok(true)
@@ -38,7 +40,7 @@ impl<'p, K: Knowledge + Drop> Scripted<'p, K> {
     fn fail(&mut self, who: u32) -> Result<(), AllocError>
         requires few { len self.old.system.run < STEP_LIMIT }
         requires asked { HasAsked self.old.system.program self.old.system.run self.old.cursor (Some (steps.Fail who)) }
-        requires entries { length self.old.system.program.script ≤ 4096 }
+        requires entries { length self.old.system.program.script ≤ ENTRY_LIMIT }
         requires entry { self.old.cursor.entry < length self.old.system.program.script }
         requires last { who < u32.MAX }
         ensures ok { OnOk result (self.new.system ≡ with_step self.old.system (steps.Fail who)) }
@@ -56,7 +58,7 @@ impl<'p, K: Knowledge + Drop> Scripted<'p, K> {
     fn lose(&mut self, message: u32) -> Result<(), AllocError>
         requires few { len self.old.system.run < STEP_LIMIT }
         requires asked { HasAsked self.old.system.program self.old.system.run self.old.cursor (Some (steps.Lose message)) }
-        requires entries { length self.old.system.program.script ≤ 4096 }
+        requires entries { length self.old.system.program.script ≤ ENTRY_LIMIT }
         requires entry { self.old.cursor.entry < length self.old.system.program.script }
         ensures ok { OnOk result (self.new.system ≡ with_step self.old.system (steps.Lose message)) }
         ensures turns { self.new.turns ≡ self.old.turns }
@@ -65,6 +67,24 @@ impl<'p, K: Knowledge + Drop> Scripted<'p, K> {
         make_lose(&mut self.system, message)?;
         self.index.remove(message);
         move_past(&self.system, &mut self.cursor, &Step::Lose { message });
+        Ok(())
+    }
+
+    /// Repeats a message in flight.
+    fn repeat(&mut self, message: u32) -> Result<(), AllocError>
+        requires few { len self.old.system.run < STEP_LIMIT }
+        requires asked { HasAsked self.old.system.program self.old.system.run self.old.cursor (Some (steps.Repeat message)) }
+        requires entries { length self.old.system.program.script ≤ ENTRY_LIMIT }
+        requires entry { self.old.cursor.entry < length self.old.system.program.script }
+        ensures ok { OnOk result (self.new.system ≡ with_step self.old.system (steps.Repeat message)) }
+        ensures turns { self.new.turns ≡ self.old.turns }
+        ensures err { OnErr result (self.new ≡ self.old) }
+    {
+        let copy = copy_of(self.system.trace(), message);
+        self.index.reserve_for(Some(copy))?;
+        make_repeat(&mut self.system, message)?;
+        self.index.put(Some(copy));
+        move_past(&self.system, &mut self.cursor, &Step::Repeat { message });
         Ok(())
     }
 }

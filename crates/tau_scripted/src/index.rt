@@ -2,8 +2,8 @@
 ghost use Rattle.std.specs.Prelude.{◌≡◌, ◌<◌, ◌≤◌, [], ◌∷◌, ◌++◌, ◌↔◌, false, filter, IsTrue, IfSome, OnOk, OnErr, vec_len};
 ghost use Rattle.std.specs.Vec.{vec_capacity};
 ghost use Rattle.tau_mailbox.specs.Letters.{is_other, AllBelow};
-ghost use Rattle.tau_mailbox.specs.MailState.{is_busy, is_not, room};
-ghost use Rattle.tau_scripted.specs.Inner.Index.{IsSame, receiver_of, with_letter, letters_received, busy_received, turns_received, busy_ended, turns_ended, letters_acted, busy_acted, turns_acted};
+ghost use Rattle.tau_mailbox.specs.MailState.{is_busy, is_not, room, KeepsRoom};
+ghost use Rattle.tau_scripted.specs.Inner.Index.{IsSame, receiver_of, with_letter, with_notice, letters_received, busy_received, turns_received, busy_ended, turns_ended, letters_acted, busy_acted, turns_acted};
 
 use std::alloc::{AllocError, Global};
 use tau_eval::{Effect, Pending};
@@ -34,6 +34,7 @@ impl Index {
     /// Makes room for one more open turn.
     pub(crate) fn reserve_turn(&mut self) -> Result<(), AllocError>
         ensures same { IsSame self.old self.new }
+        ensures rooms { self.new.mailboxes.rooms ≡ self.old.mailboxes.rooms }
         ensures busy { OnOk result (1 ≤ self.new.mailboxes.turn_room) }
         ensures turns { OnOk result (vec_len self.new.turns < vec_capacity self.new.turns) }
     {
@@ -52,6 +53,17 @@ impl Index {
         }
     }
 
+    /// Makes room for a letter, if there is one.
+    pub(crate) fn reserve_for(&mut self, letter: Option<Letter>) -> Result<(), AllocError>
+        ensures same { IsSame self.old self.new }
+        ensures ok { OnOk result (IfSome letter (λ l. 1 ≤ room self.new.mailboxes.rooms l.who)) }
+    {
+        match letter {
+            Some(letter) => self.mailboxes.reserve(letter.who),
+            None => Ok(()),
+        }
+    }
+
     /// Whether no turn is open.
     pub(crate) fn has_no_turn(&self) -> bool
         ensures { IsTrue result ↔ (self.now.turns.items ≡ []) }
@@ -59,13 +71,22 @@ impl Index {
         self.turns.as_slice().is_empty()
     }
 
-    /// Takes in a receipt of a message at a place.
-    pub(crate) fn receive(&mut self, letter: Letter, place: u32, delivered: &Delivered<'_>)
+    /// Takes in a receipt of a message at a place, with the letter of the notice that its Echo makes.
+    pub(crate) fn receive(
+        &mut self,
+        letter: Letter,
+        notice: Option<Letter>,
+        place: u32,
+        delivered: &Delivered<'_>,
+    )
         requires idle { is_busy self.old.mailboxes.busy letter.who ≡ false }
+        requires node { IfSome notice (λ l. l.node < self.old.mailboxes.nodes) }
+        requires last { IfSome notice (λ l. AllBelow l.message self.old.mailboxes.letters) }
+        requires room { IfSome notice (λ l. 1 ≤ room self.old.mailboxes.rooms l.who) }
         requires busy { 1 ≤ self.old.mailboxes.turn_room }
         requires turns { vec_len self.old.turns < vec_capacity self.old.turns }
         ensures nodes { self.new.mailboxes.nodes ≡ self.old.mailboxes.nodes }
-        ensures letters { self.new.mailboxes.letters ≡ letters_received letter.message self.old.mailboxes.letters delivered.now }
+        ensures letters { self.new.mailboxes.letters ≡ letters_received letter.message notice self.old.mailboxes.letters delivered.now }
         ensures busy { self.new.mailboxes.busy ≡ busy_received letter.who self.old.mailboxes.busy delivered.now }
         ensures turns { self.new.turns.items ≡ turns_received place self.old.turns.items delivered.now }
     {
@@ -75,7 +96,10 @@ impl Index {
                 self.mailboxes.open(letter.who);
                 self.turns.push_reserved(place);
             }
-            Delivered::Dropped | Delivered::Voided => self.remove(letter.message),
+            Delivered::Dropped | Delivered::Voided | Delivered::Heeded => {
+                self.remove(letter.message);
+            }
+            Delivered::Echoed => self.echo(letter.message, notice),
             Delivered::Fell => {}
         }
     }
@@ -85,10 +109,40 @@ impl Index {
         ensures nodes { self.new.mailboxes.nodes ≡ self.old.mailboxes.nodes }
         ensures letters { self.new.mailboxes.letters ≡ filter (is_other message) self.old.mailboxes.letters }
         ensures busy { self.new.mailboxes.busy ≡ self.old.mailboxes.busy }
+        ensures room { KeepsRoom self.old.mailboxes.rooms self.new.mailboxes.rooms }
         ensures turn_room { self.new.mailboxes.turn_room ≡ self.old.mailboxes.turn_room }
         ensures turns { self.new.turns ≡ self.old.turns }
     {
         let _letter = self.mailboxes.leave(message);
+    }
+
+    /// Takes a message out of flight, and puts the letter of its notice behind the others, in the room that was made for it.
+    fn echo(&mut self, message: u32, notice: Option<Letter>)
+        requires node { IfSome notice (λ l. l.node < self.old.mailboxes.nodes) }
+        requires last { IfSome notice (λ l. AllBelow l.message self.old.mailboxes.letters) }
+        requires room { IfSome notice (λ l. 1 ≤ room self.old.mailboxes.rooms l.who) }
+        ensures nodes { self.new.mailboxes.nodes ≡ self.old.mailboxes.nodes }
+        ensures letters { self.new.mailboxes.letters ≡ with_notice (filter (is_other message) self.old.mailboxes.letters) notice }
+        ensures busy { self.new.mailboxes.busy ≡ self.old.mailboxes.busy }
+        ensures turns { self.new.turns ≡ self.old.turns }
+    {
+        self.remove(message);
+        self.put(notice);
+    }
+
+    /// Puts a letter behind the others, if there is one, in the room that was made for it.
+    pub(crate) fn put(&mut self, letter: Option<Letter>)
+        requires node { IfSome letter (λ l. l.node < self.old.mailboxes.nodes) }
+        requires last { IfSome letter (λ l. AllBelow l.message self.old.mailboxes.letters) }
+        requires room { IfSome letter (λ l. 1 ≤ room self.old.mailboxes.rooms l.who) }
+        ensures nodes { self.new.mailboxes.nodes ≡ self.old.mailboxes.nodes }
+        ensures letters { self.new.mailboxes.letters ≡ with_notice self.old.mailboxes.letters letter }
+        ensures busy { self.new.mailboxes.busy ≡ self.old.mailboxes.busy }
+        ensures turns { self.new.turns ≡ self.old.turns }
+    {
+        if let Some(letter) = letter {
+            self.mailboxes.arrive_spare(letter);
+        }
     }
 
     /// Puts the message that an effect sends in flight, if it sends one, where its receiver is at this node.

@@ -4,6 +4,7 @@
 mod cursors;
 mod due;
 mod index;
+mod letters;
 mod making;
 mod posts;
 mod receipts;

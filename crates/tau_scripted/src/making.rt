@@ -13,7 +13,7 @@ ghost use Rattle.tau_scripted.specs.Flight.{IsWaiting};
 use std::alloc::AllocError;
 use tau_knowledge::Knowledge;
 use tau_mailbox::Letter;
-use tau_rules::{DeliverError, Delivered, FailError, LoseError, System};
+use tau_rules::{DeliverError, Delivered, FailError, LoseError, RepeatError, System};
 
 /// Lets a transactor that hasn't ended fail.
 pub(crate) fn make_fail<'p, K: Knowledge + Drop>(
@@ -47,6 +47,24 @@ pub(crate) fn make_lose<'p, K: Knowledge + Drop>(
         Ok(()) => Ok(()),
         Err(LoseError::NotInFlight { .. }) => unreachable!(),
         Err(LoseError::NoMemory) => Err(AllocError),
+    }
+}
+
+/// Repeats a message in flight.
+pub(crate) fn make_repeat<'p, K: Knowledge + Drop>(
+    system: &mut System<'p, K>,
+    message: u32,
+) -> Result<(), AllocError>
+    requires few { len system.old.run < STEP_LIMIT }
+    requires in_flight { InFlight system.old.run message (len system.old.run) }
+    requires version { system.old.run.opening.version ≡ 2 }
+    ensures ok { OnOk result (system.new ≡ with_step system.old (steps.Repeat message)) }
+    ensures err { OnErr result (system.new ≡ system.old) }
+{
+    match system.repeat(message) {
+        Ok(()) => Ok(()),
+        Err(RepeatError::NotInFlight { .. }) => unreachable!(),
+        Err(RepeatError::NoMemory) => Err(AllocError),
     }
 }
 

@@ -1,11 +1,10 @@
 //! The posts of an opening.
-ghost use Rattle.std.specs.Prelude.{◌≡◌, ◌<◌, [], OnOk};
-ghost use Rattle.tau_trace.specs.Run.{len};
-ghost use Rattle.tau_trace.specs.Numbering.{sent, Receives, IsHome};
+ghost use Rattle.std.specs.Prelude.{◌≡◌, [], OnOk};
 ghost use Rattle.tau_scripted.specs.Flight.{AreInFlight};
 
+use crate::letters::letter_of;
 use std::alloc::AllocError;
-use tau_mailbox::{Letter, Mailboxes};
+use tau_mailbox::Mailboxes;
 use tau_trace::Trace;
 
 /// Puts the letters of the messages of a trace without steps in.
@@ -24,23 +23,4 @@ pub(crate) fn post_all(mailboxes: &mut Mailboxes, trace: &Trace) -> Result<(), A
         mailboxes.arrive(letter_of(trace, message))?;
     }
     Ok(())
-}
-
-/// The letter of a message.
-fn letter_of(trace: &Trace, message: u32) -> Letter
-    requires { message < sent trace.now.run (len trace.now.run) }
-    ensures message { result.message ≡ message }
-    ensures receiver { Receives trace.now.run message result.who }
-    ensures home { IsHome trace.now.run result.who result.node }
-    ensures node { result.node < trace.now.run.opening.nodes }
-{
-    // The trace is well formed, so what a message names exists.
-    let _len = trace.len();
-    let Some(who) = trace.target(message) else {
-        unreachable!()
-    };
-    let Some(node) = trace.home(who) else {
-        unreachable!()
-    };
-    Letter { message, who, node }
 }

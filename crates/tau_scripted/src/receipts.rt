@@ -7,6 +7,7 @@ ghost use Rattle.tau_rules.specs.Answers.{IsDelivered};
 
 use crate::Scripted;
 use crate::cursors::due_by;
+use crate::letters::notice_of;
 use crate::making::make_receipt;
 use std::alloc::AllocError;
 use tau_knowledge::Knowledge;
@@ -27,10 +28,12 @@ impl<'p, K: Knowledge + Drop> Scripted<'p, K> {
         let Some(letter) = self.index.mailboxes.deliverable(number) else {
             unreachable!()
         };
+        let notice = notice_of(self.system.trace(), letter);
+        self.index.reserve_for(notice)?;
         self.index.reserve_turn()?;
         let place = self.system.trace().len();
         let delivered = make_receipt(&mut self.system, letter)?;
-        self.index.receive(letter, place, &delivered);
+        self.index.receive(letter, notice, place, &delivered);
         let _due = due_by(&self.system, &mut self.cursor);
         Ok(delivered)
     }

@@ -1,13 +1,13 @@
 //! The system with its script.
 ghost use Rattle.std.specs.Prelude.{◌≡◌, ◌≤◌, ◌↔◌, [], IfOk, IfSome, ℕ, ◌<◌, IsTrue, length};
-ghost use Rattle.tau_value.specs.declared.limits.TheConstants.{STEP_LIMIT};
+ghost use Rattle.tau_value.specs.declared.limits.TheConstants.{STEP_LIMIT, ENTRY_LIMIT};
 ghost use Rattle.tau_tree.specs.Sound.{Sound};
 ghost use Rattle.tau_trace.specs.declared.step.Step.TheVariants as steps;
 ghost use Rattle.tau_trace.specs.Run.{len};
 ghost use Rattle.tau_trace.specs.Known.{WellFormed};
 ghost use Rattle.tau_script.specs.Cursors.{CursorAt};
 ghost use Rattle.tau_script.specs.Openings.{program_opening};
-ghost use Rattle.tau_legal.specs.Traces.{Legal, Complete};
+ghost use Rattle.tau_legal.specs.Traces.{Legal, Complete, Fitting};
 ghost use Rattle.tau_check.specs.Inner.Checkers.{HasAsked, NothingLeft};
 ghost use Rattle.tau_scripted.specs.OpenTurns.{AreOpenTurns};
 ghost use Rattle.tau_scripted.specs.Flight.{AreInFlight, AreDeliverable};
@@ -94,6 +94,7 @@ impl<'p, K: Knowledge + Drop> Scripted<'p, K> {
     pub fn turns(&self) -> &[u32]
         ensures value { result.now ≡ self.now.turns }
         ensures turns { AreOpenTurns self.now.system.run result.now }
+        ensures fitting { Fitting self.now.system.program self.now.system.run }
     {
         &self.index.turns
     }
@@ -135,7 +136,7 @@ impl<'p, K: Knowledge + Drop> Scripted<'p, K> {
     /// The due step of the script.
     pub(crate) fn due(&self) -> Option<Step>
         ensures asked { HasAsked self.now.system.program self.now.system.run self.now.cursor result }
-        ensures entries { length self.now.system.program.script ≤ 4096 }
+        ensures entries { length self.now.system.program.script ≤ ENTRY_LIMIT }
         ensures entry { IfSome result (λ s. self.now.cursor.entry < length self.now.system.program.script) }
         ensures who { IfSome result (λ s. (t : ℕ) → s ≡ steps.Fail t → t < u32.MAX) }
     {

@@ -1,8 +1,8 @@
 -- No form of a program or a step is the mark behind it, so that the forms of a run text are cut at the marks in one way.
-use Rattle.std.proofs.Common.{◌≡◌, ◌≢◌, ⊎_elim, ℕ, ◌<◌, ◌≤◌, List, [], ◌∷◌, ◌++◌, length, get_or, Option, Some, None, refl, sym, ◌∙◌, subst, arith}
+use Rattle.std.proofs.Common.{◌≡◌, ◌≢◌, ⊎_elim, ℕ, ◌<◌, ◌≤◌, ◌==◌, Bool, true, false, cond, List, [], ◌∷◌, ◌++◌, length, get_or, Option, Some, None, refl, sym, ◌∙◌, subst, arith}
 use Rattle.std.specs.Prelude.{slice_get, option_map, All}
 use Rattle.std.proofs.lemmas.Option.{slice_get_cases, get_or_from_slice_get}
-use Rattle.std.proofs.lemmas.List.Elements.{All-cons, All-head, All-tail, All-append, All-map}
+use Rattle.std.proofs.lemmas.List.Elements.{All-nil, All-cons, All-head, All-tail, All-append, All-map}
 use Rattle.tau_sexpr.specs.Tree.{Tree}
 use Rattle.tau_tree.specs.Sound.{behaviour_names, start_names}
 use Rattle.tau_tree.specs.declared.programs.Program.{Program}
@@ -29,6 +29,10 @@ cut_once m (x ∷ xs) (y ∷ ys) us vs hx hy e =
     let rest = cut_once m xs ys us vs (All-tail (λ z. z ≢ m) x xs hx) (All-tail (λ z. z ≢ m) y ys hy) tail in
     (λ i. head i ∷ rest.0 i, rest.1)
 
+version_unmarked : (b : Bool) (v : ℕ) → All (λ x. x ≢ trace_mark) (cond b (program_forms.version_form v ∷ []) [])
+version_unmarked true v = All-cons (λ x. x ≢ trace_mark) (program_forms.version_form v) [] (λ e. cc) (All-nil (λ x. x ≢ trace_mark))
+version_unmarked false v = All-nil (λ x. x ≢ trace_mark)
+
 -- no form of a program is the mark `(trace)`
 pub program_unmarked : (P : Program) → All (λ x. x ≢ trace_mark) (program_forms.printed P)
 program_unmarked P =
@@ -39,7 +43,7 @@ program_unmarked P =
     let s = All-map U (program_forms.start_form bs ss) P.starts (λ k d lt e. cc) in
     let p = All-map U (program_forms.post_form ss) P.posts (λ k d lt e. cc) in
     let t = All-map U program_forms.entry_form P.script (λ k d lt e. cc) in
-    All-cons U _ _ (λ e. cc) (All-append U _ _ (All-append U _ _ (All-append U _ _ b s) p) t)
+    All-append U (program_forms.version_forms P.version) _ (version_unmarked (P.version == 2) P.version) (All-cons U _ _ (λ e. cc) (All-append U _ _ (All-append U _ _ (All-append U _ _ b s) p) t))
 
 -- no form of a step is the mark `(report)`
 unmarked_at : (T : Run) (k : ℕ) (x : Tree) (o : Option Step) → Some x ≡ option_map (λ s. step_form T.opening (number_made s (born T k) (sent T k)) s) o → x ≢ report_mark

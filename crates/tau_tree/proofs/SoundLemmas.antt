@@ -11,7 +11,7 @@ use Rattle.tau_tree.specs.declared.programs.Program.{Program}
 use Rattle.tau_tree.specs.Behaviour.{NamedCode}
 use Rattle.tau_tree.specs.Code.{Code}
 use Rattle.tau_tree.specs.Parts.{depth_of, IsBoundIn, Throughout, HasNames, NamesStart, NamesBehaviour, HasArity, HasItem, HasTwoNames, HasShortText}
-use Rattle.tau_tree.specs.Sound.{Sound, FailsBelow, bodies}
+use Rattle.tau_tree.specs.Sound.{Sound, IsSoundFailure, bodies}
 use Rattle.tau_tree.specs.Checks.{KeepsLimits, KeepsRules, IsSoundStart, IsSoundPost, IsSoundBehaviour}
 use Rattle.tau_tree.proofs.SplitLemmas.{throughout_weaker, throughout_both}
 
@@ -67,7 +67,7 @@ rules_from_each n m c h =
 pub record PassesChecks (p : Program) : Type 0 where
   pub limits : KeepsLimits p
   pub posts : All (IsSoundPost (length p.starts)) p.posts
-  pub entries : All (λ e. FailsBelow p.nodes e.failure) p.script
+  pub entries : All (λ e. IsSoundFailure p.nodes p.version e.failure) p.script
   pub starts : All (IsSoundStart p.nodes (length p.behaviours) (length p.starts)) p.starts
   pub start_names : AllPairs (λ v w. v ≢ w) (map (λ s. s.name) p.starts)
   pub behaviours : All (IsSoundBehaviour (length p.starts) (length p.behaviours)) p.behaviours
@@ -78,6 +78,8 @@ sound_from_checks p h =
     let n = length p.starts in
     let m = length p.behaviours in
     let each : All (λ b. KeepsEach n m b.body) p.behaviours = λ k d lt. let b = h.behaviours k d lt in each_from_rules n m _ b.rules in record {
+      some_version = h.limits.some_version;
+      versions_limit = h.limits.version;
       some_nodes = h.limits.some_nodes;
       nodes_limit = h.limits.nodes;
       behaviours_limit = h.limits.behaviours;
@@ -93,7 +95,7 @@ sound_from_checks p h =
       state_names = λ k d lt. (h.starts k d lt).names;
       receivers = λ k d lt. (h.posts k d lt).receiver;
       post_names = λ k d lt. (h.posts k d lt).names;
-      failing_nodes = h.entries;
+      sound_failures = h.entries;
       states_bounded = λ k d lt. (h.starts k d lt).bounded;
       posts_bounded = λ k d lt. (h.posts k d lt).bounded;
       texts_bounded = All-map (Throughout HasShortText) (λ b. b.body) p.behaviours (λ k d lt. (each k d lt).short_text);
@@ -115,6 +117,8 @@ checks_from_sound p s =
     let m = length p.behaviours in
     let at : (P : Code → Type 0) → All P (bodies p) → All (λ b. P b.body) p.behaviours = λ P h. All-unmap P (λ b. b.body) p.behaviours h in record {
       limits = record {
+        some_version = s.some_version;
+        version = s.versions_limit;
         some_nodes = s.some_nodes;
         nodes = s.nodes_limit;
         behaviours = s.behaviours_limit;
@@ -127,7 +131,7 @@ checks_from_sound p s =
         names = s.post_names k d lt;
         bounded = s.posts_bounded k d lt;
       };
-      entries = s.failing_nodes;
+      entries = s.sound_failures;
       starts = λ k d lt. record {
         named = All-unmap IsName (λ t. t.name) p.starts s.starts_named k d lt;
         behaviour = s.start_behaviours k d lt;
@@ -171,7 +175,7 @@ module _ (p : Program) (n m : ℕ) (posts : List Post) (script : List Entry) (st
       let h = checks_from_sound p s in rw (of.starts_number, of.behaviours_number, are) (h.behaviours, h.behaviour_names)
 
   -- each check by its answer
-  pub sound_from_answers : (behaviours : List NamedCode) → behaviours ≡ p.behaviours → KeepsLimits p → All (IsSoundPost n) posts → All (λ e. FailsBelow p.nodes e.failure) script → All (IsSoundStart p.nodes m n) starts × AllPairs (λ v w. v ≢ w) (map (λ s. s.name) starts) → All (IsSoundBehaviour n m) behaviours × AllPairs (λ v w. v ≢ w) (map (λ b. b.name) behaviours) → Sound p
+  pub sound_from_answers : (behaviours : List NamedCode) → behaviours ≡ p.behaviours → KeepsLimits p → All (IsSoundPost n) posts → All (λ e. IsSoundFailure p.nodes p.version e.failure) script → All (IsSoundStart p.nodes m n) starts × AllPairs (λ v w. v ≢ w) (map (λ s. s.name) starts) → All (IsSoundBehaviour n m) behaviours × AllPairs (λ v w. v ≢ w) (map (λ b. b.name) behaviours) → Sound p
   sound_from_answers behaviours are limits ps es ss bs = sound_from_checks p (record {
     limits = limits;
     posts = rw (of.starts_number, of.posts_are) at ps;

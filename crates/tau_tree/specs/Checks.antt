@@ -13,6 +13,8 @@ use Rattle.tau_tree.specs.Parts.{depth_of, IsBoundIn, Throughout, HasNames, Name
 
 -- the limits of a program
 pub record KeepsLimits (p : Program) : Type 0 where
+  pub some_version : 1 ≤ p.version
+  pub version : p.version ≤ 2
   pub some_nodes : 0 < p.nodes
   pub nodes : p.nodes ≤ NODE_LIMIT
   pub behaviours : length p.behaviours ≤ BEHAVIOUR_LIMIT

@@ -1,11 +1,11 @@
 -- The rules of a sound program.
-use Rattle.std.specs.Prelude.{◌≢◌, ℕ, ◌+◌, ◌<◌, ◌≤◌, List, [], length, map, All, AllPairs}
+use Rattle.std.specs.Prelude.{◌≡◌, ◌≢◌, ℕ, ◌+◌, ◌<◌, ◌≤◌, List, [], length, map, All, AllPairs}
 use Rattle.tau_value.specs.declared.limits.TheConstants.{NODE_LIMIT, BEHAVIOUR_LIMIT, START_LIMIT, POST_LIMIT, ENTRY_LIMIT}
 use Rattle.tau_value.specs.Names.{IsName, AreNames}
 use Rattle.tau_value.specs.Sizes.{IsInBounds, NamesBelow, levels_of}
 use Rattle.tau_value.specs.Value.{val_of}
 use Rattle.tau_tree.specs.declared.entries.Failure.{Failure}
-use Rattle.tau_tree.specs.declared.entries.Failure.TheVariants.{Fail, Lose}
+use Rattle.tau_tree.specs.declared.entries.Failure.TheVariants.{Fail, Lose, Repeat}
 use Rattle.tau_tree.specs.declared.programs.Program.{Program}
 use Rattle.tau_tree.specs.Code.{Code}
 use Rattle.tau_tree.specs.Parts.{depth_of, IsBoundIn, Throughout, HasNames, NamesStart, NamesBehaviour, HasArity, HasItem, HasTwoNames, HasShortText}
@@ -22,12 +22,16 @@ start_names p = map (λ s. s.name) p.starts
 abbrev pub bodies : Program → List Code
 bodies p = map (λ b. b.body) p.behaviours
 
--- a failing node is below the number of nodes; a message that is lost needn't exist
-abbrev pub FailsBelow : ℕ → Failure → Type 0
-FailsBelow nodes (Fail node) = node < nodes
-FailsBelow nodes (Lose message) = Unit {0}
+-- a failing node is below the number of nodes; a message that is lost or repeated needn't exist; none is repeated in version 1
+abbrev pub IsSoundFailure : ℕ → ℕ → Failure → Type 0
+IsSoundFailure nodes version (Fail node) = node < nodes
+IsSoundFailure nodes version (Lose message) = Unit {0}
+IsSoundFailure nodes version (Repeat message) = version ≡ 2
 
 pub record Sound (p : Program) : Type 0 where
+  -- the version is 1 or 2
+  pub some_version : 1 ≤ p.version
+  pub versions_limit : p.version ≤ 2
   -- there are 1 to 64 nodes, and at most 256 behaviours, 1,024 starts, 4,096 posts and 4,096 script entries
   pub some_nodes : 0 < p.nodes
   pub nodes_limit : p.nodes ≤ NODE_LIMIT
@@ -46,7 +50,7 @@ pub record Sound (p : Program) : Type 0 where
   pub state_names : All (λ s. NamesBelow (length p.starts) (val_of s.state)) p.starts
   pub receivers : All (λ q. q.to < length p.starts) p.posts
   pub post_names : All (λ q. NamesBelow (length p.starts) (val_of q.value)) p.posts
-  pub failing_nodes : All (λ e. FailsBelow p.nodes e.failure) p.script
+  pub sound_failures : All (λ e. IsSoundFailure p.nodes p.version e.failure) p.script
   -- each value is in bounds, and so is each text in a body
   pub states_bounded : All (λ s. IsInBounds (val_of s.state)) p.starts
   pub posts_bounded : All (λ q. IsInBounds (val_of q.value)) p.posts

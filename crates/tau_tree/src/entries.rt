@@ -4,11 +4,13 @@ ghost use Rattle.std.specs.Prelude.{◌≡◌, ◌↔◌, [], ◌∷◌, ◌++�
 use std::alloc::{AllocError, Global};
 use std::marker::Model;
 
-/// What a script entry does: a node fails, or a message is lost (docs/rules.md, "Scripts").
+/// What a script entry does: a node fails, a message is lost, or, in version 2, a message is repeated (docs/rules.md,
+/// "Scripts").
 #[derive(Clone, Copy, Debug, PartialEq, Eq)]
 pub enum Failure {
     Fail { node: u32 },
     Lose { message: u32 },
+    Repeat { message: u32 },
 }
 
 /// A script entry: what happens, and at which place of the trace at the earliest (docs/rules.md, "Scripts").

@@ -8,10 +8,12 @@ use crate::soundness::{
 use crate::{Behaviours, Posts, Script, Starts};
 use std::alloc::{AllocError, Global};
 
-/// A program: how many nodes it has, its behaviours, start transactors and posts, and its failure script
+/// A program: its version, how many nodes it has, its behaviours, start transactors and posts, and its failure script
 /// (docs/formats.md, "Programs"). Behaviours, starts and posts are numbered from 0 in their order.
 #[derive(Drop)]
 pub struct Program {
+    /// 1 or 2 (docs/rules.md, "Version 1 and version 2").
+    pub version: u32,
     pub nodes: u32,
     pub behaviours: Behaviours,
     pub starts: Starts,
@@ -27,6 +29,7 @@ impl Program {
         ensures { IfOk result (λ p. p ≡ self.now) }
     {
         Ok(Program {
+            version: self.version,
             nodes: self.nodes,
             behaviours: self.behaviours.copy()?,
             starts: self.starts.copy()?,
@@ -39,18 +42,19 @@ impl Program {
     pub fn same(&self, other: &Program) -> bool
         ensures { IsTrue result ↔ (self.now ≡ other.now) }
     {
-        self.nodes == other.nodes
+        self.version == other.version
+            && self.nodes == other.nodes
             && self.behaviours.same(&other.behaviours)
             && self.starts.same(&other.starts)
             && self.posts.same(&other.posts)
             && self.script.same(&other.script)
     }
 
-    /// Whether the program is sound: it keeps its limits; each number in it names something that exists, but for a
-    /// message that is lost; each variable is bound; each name is a name, and no two behaviours and no two starts have
-    /// the same one; each operation has its number of arguments; no `seq` is empty; the two names of a `fold` differ;
-    /// each value is in bounds, texts in bodies included; and no form that it is printed as is deeper than 200
-    /// (docs/formats.md, "Programs"). The error is want of memory.
+    /// Whether the program is sound: its version is 1 or 2; it keeps its limits; each number in it names something that
+    /// exists, but for a message that is lost or repeated; a message is repeated in version 2 alone; each variable is bound;
+    /// each name is a name, and no two behaviours and no two starts have the same one; each operation has its number of
+    /// arguments; no `seq` is empty; the two names of a `fold` differ; each value is in bounds, texts in bodies included; and
+    /// no form that it is printed as is deeper than 200 (docs/formats.md, "Programs"). The error is want of memory.
     pub fn sound(&self, alloc: Global) -> Result<bool, AllocError>
         ensures { IfOk result (λ b. IsTrue b ↔ Sound self.now) }
     {
@@ -65,7 +69,7 @@ impl Program {
         if !are_sound_posts(self.posts.items(), counts.starts) {
             return Ok(false);
         }
-        if !are_sound_entries(self.script.items(), counts.nodes) {
+        if !are_sound_entries(self.script.items(), counts.nodes, self.version) {
             return Ok(false);
         }
         if !are_sound_starts(alloc, self.starts.items(), counts)? {

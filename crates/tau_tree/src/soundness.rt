@@ -1,6 +1,6 @@
 //! The rules of a sound program.
 ghost use Rattle.std.specs.Prelude.{◌≡◌, ◌≢◌, ◌↔◌, ◌∷◌, [], ◌++◌, IsTrue, IfOk, OnOk, All, AllPairs, Contains, map};
-ghost use Rattle.tau_tree.specs.Sound.{FailsBelow};
+ghost use Rattle.tau_tree.specs.Sound.{IsSoundFailure};
 ghost use Rattle.tau_tree.specs.Checks.{KeepsLimits, IsSoundStart, IsSoundPost, IsSoundBehaviour};
 
 use crate::bodies::{is_bound, is_regular, is_shallow};
@@ -21,11 +21,12 @@ pub struct Counts {
     pub starts: u32,
 }
 
-/// Whether a program keeps its limits (docs/limits.md).
+/// Whether a program keeps its limits (docs/limits.md), and its version is 1 or 2.
 pub fn keeps_limits(program: &Program) -> bool
     ensures { IsTrue result ↔ KeepsLimits program.now }
 {
-    (1..=NODE_LIMIT).contains(&program.nodes)
+    (1..=2).contains(&program.version)
+        && (1..=NODE_LIMIT).contains(&program.nodes)
         && program.behaviours.len() <= BEHAVIOUR_LIMIT
         && program.starts.len() <= START_LIMIT
         && program.posts.len() <= POST_LIMIT
@@ -73,19 +74,22 @@ fn is_sound_post(post: &Post, starts: u32) -> bool
     post.to < starts && in_bounds(&post.value) && names_below(&post.value, starts)
 }
 
-/// Whether each node that fails exists.
-pub fn are_sound_entries(entries: &[Entry], nodes: u32) -> bool
-    ensures { IsTrue result ↔ All (λ e. FailsBelow nodes e.failure) entries.now }
+/// Whether each node that fails exists, and no message is repeated in version 1.
+pub fn are_sound_entries(entries: &[Entry], nodes: u32, version: u32) -> bool
+    ensures { IsTrue result ↔ All (λ e. IsSoundFailure nodes version e.failure) entries.now }
 {
-    entries.iter().all(|entry| is_sound_entry(entry, nodes))
+    entries
+        .iter()
+        .all(|entry| is_sound_entry(entry, nodes, version))
 }
 
-fn is_sound_entry(entry: &Entry, nodes: u32) -> bool
-    ensures { IsTrue result ↔ FailsBelow nodes entry.now.failure }
+fn is_sound_entry(entry: &Entry, nodes: u32, version: u32) -> bool
+    ensures { IsTrue result ↔ IsSoundFailure nodes version entry.now.failure }
 {
     match entry.failure {
         Failure::Fail { node } => node < nodes,
         Failure::Lose { .. } => true,
+        Failure::Repeat { .. } => version == 2,
     }
 }
 

@@ -1,6 +1,7 @@
 -- What the checker keeps of the steps before a place, and what it finds of the step there.
 use Rattle.std.specs.Prelude.{◌≡◌, ℕ, Bool, true, false, List, Option}
 use Rattle.tau_tree.specs.declared.programs.Program.{Program}
+use Rattle.tau_tree.specs.Sound.{Sound}
 use Rattle.tau_trace.specs.declared.step.Step.{Step}
 use Rattle.tau_trace.specs.Run.{Run, len, Agree}
 use Rattle.tau_trace.specs.Known.{WellFormed}
@@ -26,6 +27,7 @@ pub record HasAsked (P : Program) (T : Run) (cursor : Cursor) (due : Option Step
   pub legal : Legal P T
   pub stands : CursorAt P.script T (len T) cursor
   pub due_is : IsDueAt P.script T (len T) cursor due
+  pub sound : Sound P
 
 -- the step is legal and was appended
 pub record GoesOn (old new : Core) (cursor : Cursor) (js : List (Option jobs.TurnSoFar)) (s : Step) : Type 0 where

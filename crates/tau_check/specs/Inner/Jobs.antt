@@ -9,7 +9,7 @@ use Rattle.tau_trace.specs.Run.{Run, len}
 use Rattle.tau_trace.specs.Turns.{Turn}
 use Rattle.tau_eval.specs.Turn as jobs
 use Rattle.tau_rules.specs.declared.answers.Delivered.{Delivered}
-use Rattle.tau_rules.specs.declared.answers.Delivered.TheVariants.{Began, Dropped, Fell, Voided}
+use Rattle.tau_rules.specs.declared.answers.Delivered.TheVariants.{Began, Dropped, Fell, Voided, Echoed, Heeded}
 use Rattle.tau_rules.specs.System.{Core}
 use Rattle.tau_rules.specs.Answers.{IsOpenJob, IsStepped}
 
@@ -47,6 +47,8 @@ IsKeptBegun old new (Began job) = IsKeptWith old new job
 IsKeptBegun old new Dropped = new ≡ old
 IsKeptBegun old new Fell = new ≡ old
 IsKeptBegun old new Voided = new ≡ old
+IsKeptBegun old new Echoed = new ≡ old
+IsKeptBegun old new Heeded = new ≡ old
 
 -- the step of a job's turn was made: with a reply, with which the turn goes on; or without one, and the turn is over
 abbrev pub IsTurnStep : Core → Core → jobs.TurnSoFar → Option Value → Type 0

@@ -11,7 +11,7 @@ use Rattle.tau_tree.specs.Parts.{Throughout}
 use Rattle.tau_tree.specs.Sound.{start_names, bodies}
 use Rattle.tau_tree.specs.declared.entries.Entry.{Entry}
 use Rattle.tau_tree.specs.declared.entries.Failure.{Failure}
-use Rattle.tau_tree.specs.declared.entries.Failure.TheVariants.{Fail, Lose}
+use Rattle.tau_tree.specs.declared.entries.Failure.TheVariants.{Fail, Lose, Repeat}
 use Rattle.tau_tree.specs.declared.programs.Program.{Program}
 
 -- an integer fits i64
@@ -23,6 +23,7 @@ HasFittingInteger c = Unit {0}
 abbrev pub HasFittingMessage : Failure → Type 0
 HasFittingMessage (Fail node) = Unit {0}
 HasFittingMessage (Lose message) = message < 2 ^ 32
+HasFittingMessage (Repeat message) = message < 2 ^ 32
 
 pub record HasFittingNumbers (e : Entry) : Type 0 where
   pub place : e.at < 2 ^ 32

@@ -20,7 +20,7 @@ use Rattle.tau_forms.specs.Faults.{Fault, shape, unknown, twice, IsClean, IsFirs
 use Rattle.tau_forms.specs.Keywords.{keyword_in}
 use Rattle.tau_forms.specs.Roles.{Role, first, mark, expression, row, count_of, has_items, word_of, names_in}
 use Rattle.tau_forms.specs.Meaning.{plain_of, program_in}
-use Rattle.tau_forms.specs.Tops.{nodes_of}
+use Rattle.tau_forms.specs.Tops.{nodes_of, version_of}
 use Rattle.tau_forms.specs.Inner.Wanted.{role_of}
 
 -- an error tells the first fault of a part whose own first node is `at`; want of memory tells nothing
@@ -92,11 +92,16 @@ has_top_items sorts.Behaviour n = n == 2
 has_top_items sorts.Start n = n == 4
 has_top_items sorts.Post n = n == 2
 has_top_items sorts.At n = n == 2
+has_top_items sorts.Version n = n == 1
 has_top_items sorts.Other n = false
 
 -- what the first word of a list of nodes is, after these forms: a mark where the list tells a number of nodes
 abbrev pub nodes_first : List Tree → Option ℕ → Role
 nodes_first before told = if is_some told then mark (is_some (nodes_of before)) else first
+
+-- the same of a list of a version
+abbrev pub version_first : List Tree → Option ℕ → Role
+version_first before told = if is_some told then mark (is_some (version_of before)) else first
 
 -- all forms at the top are passed and have no fault, or the first fault is told
 abbrev pub PassesForms : {A : Type 0} → List Tree → Result A ProgramError → Type 0

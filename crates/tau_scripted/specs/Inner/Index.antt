@@ -4,11 +4,12 @@ use Rattle.tau_mailbox.specs.declared.letter.Letter.{Letter}
 use Rattle.tau_mailbox.specs.Letters.{is_other}
 use Rattle.tau_mailbox.specs.MailState.{is_not}
 use Rattle.tau_trace.specs.Run.{Run, len}
-use Rattle.tau_trace.specs.Numbering.{born, IsHome}
+use Rattle.tau_trace.specs.Numbering.{born, sent, HasSender, IsHome}
+use Rattle.tau_trace.specs.Histories.{Ended}
 use Rattle.tau_eval.specs.declared.effects.Effect.{Effect}
 use Rattle.tau_eval.specs.declared.effects.Effect.TheVariants.{Send}
 use Rattle.tau_rules.specs.declared.answers.Delivered.{Delivered}
-use Rattle.tau_rules.specs.declared.answers.Delivered.TheVariants.{Began, Dropped, Fell, Voided}
+use Rattle.tau_rules.specs.declared.answers.Delivered.TheVariants.{Began, Dropped, Fell, Voided, Echoed, Heeded}
 use Rattle.tau_rules.specs.declared.answers.Acted.{Acted}
 use Rattle.tau_rules.specs.declared.answers.Acted.TheVariants.{Reply, TurnOver, Redo}
 use Rattle.tau_scripted.specs.declared.index.Index.{Index}
@@ -34,13 +35,25 @@ abbrev pub with_letter : ℕ → ℕ → List Letter → Option ℕ → List Let
 with_letter m n ls None = ls
 with_letter m n ls (Some u) = ls ++ record { message = m; who = u; node = n } ∷ []
 
--- the letters, the receivers in a turn and the open turns after a receipt: each but a Fall takes the message out of flight, and a
--- Take opens a turn
-abbrev pub letters_received : ℕ → List Letter → Delivered → List Letter
-letters_received m ls (Began job) = filter (is_other m) ls
-letters_received m ls Dropped = filter (is_other m) ls
-letters_received m ls Fell = ls
-letters_received m ls Voided = filter (is_other m) ls
+-- the letter of the notice that an Echo of message m by its receiver t makes; None where t hasn't ended or m has no sender
+abbrev pub IsNoticeLetter : Run → ℕ → ℕ → Option Letter → Type 0
+IsNoticeLetter T t m None = Ended T t (len T) → (u : ℕ) → ¬ HasSender T m u
+IsNoticeLetter T t m (Some l) = (l.message ≡ sent T (len T)) × HasSender T m l.who × IsHome T l.who l.node
+
+-- the letters with that of a notice, if there is one
+abbrev pub with_notice : List Letter → Option Letter → List Letter
+with_notice ls None = ls
+with_notice ls (Some l) = ls ++ l ∷ []
+
+-- the letters, the receivers in a turn and the open turns after a receipt: each but a Fall takes the message out of flight, a
+-- Take opens a turn, and an Echo makes a notice
+abbrev pub letters_received : ℕ → Option Letter → List Letter → Delivered → List Letter
+letters_received m notice ls (Began job) = filter (is_other m) ls
+letters_received m notice ls Dropped = filter (is_other m) ls
+letters_received m notice ls Fell = ls
+letters_received m notice ls Voided = filter (is_other m) ls
+letters_received m notice ls Echoed = with_notice (filter (is_other m) ls) notice
+letters_received m notice ls Heeded = filter (is_other m) ls
 
 abbrev pub busy_received : ℕ → List ℕ → Delivered → List ℕ
 busy_received t busy (Began job) = busy ++ t ∷ []

@@ -1,61 +1,21 @@
-use Rattle.std.proofs.Common.{rules}
-use Rattle.tau_cli.proofs.OutputLemmas.{stops_without_fault}
+use Rattle.std.proofs.Common.{refl, subst}
+use Rattle.tau_output.specs.Writing.{WritesSerially}
+use Rattle.tau_cli.specs.Ends.{effect_on}
+use Rattle.tau_cli.proofs.WriteLemmas.{serial_end}
+use Rattle.tau_cli.proofs.EndLemmas.{Finds, stopped, told}
 use Rattle.tau_cli.proofs.calls.tau_still.Goals as goal
 
-pub returns : goal.returns
-returns g c = record {
-  words = search rules;
-  unread = search rules;
-  refused = search rules;
-  read_fault = search rules;
-  untouched = search rules;
-  input = search rules;
-  faulty = search rules;
-  place = search rules;
-  unasked = c.in-Err.ensures.unasked;
-  unwritten = search rules;
-  written = search rules;
-  write_fault = search rules;
-  front = search rules;
-  no_memory = search rules;
-  complete = λ command bytes e l f r w.
-      stops_without_fault c.in-Err.status c.args.words.now _ _ _ command bytes c.in-Err.ensures.status e l f r;
-}
+pub returns-in-Ok : goal.returns-in-Ok
+returns-in-Ok g c =
+    let asked = c.in-Ok.asked in
+    let found = c.output_of.ensures in
+    told WritesSerially c.args.words.now (effect_on g.I.Source.left g.I.Source.faults c.args.input.now c.ask.new.input) (effect_on g.O.Sink.held g.O.Sink.faults c.args.output.now c.tell.new.output)
+    asked c.output_of.result c.tell.result c.in-Ok.ensures
+    (subst (λ bytes. Finds WritesSerially asked.command bytes c.output_of.result) c.deref.ensures.value
+    (record { output = found.output; fault = found.fault; faulty = found.faulty; not_asked = found.not_asked; unasked = found.unasked }))
+    (serial_end asked.command asked.bytes.items) c.tell.ensures
 
-pub returns-in-Ok-write_all_of : goal.returns-in-Ok-write_all_of
-returns-in-Ok-write_all_of g c = record {
-  words = search rules;
-  unread = search rules;
-  refused = search rules;
-  read_fault = search rules;
-  untouched = search rules;
-  input = search rules;
-  faulty = search rules;
-  place = search rules;
-  unasked = λ place bytes w e n. absurd (c.in-Ok.ensures.unasked place bytes w e n);
-  unwritten = search rules;
-  written = search rules;
-  write_fault = search rules;
-  front = search rules;
-  no_memory = search rules;
-  complete = search rules;
-}
-
-pub returns-in-Err-WriteFault : goal.returns-in-Err-WriteFault
-returns-in-Err-WriteFault g c = record {
-  words = search rules;
-  unread = search rules;
-  refused = search rules;
-  read_fault = search rules;
-  untouched = search rules;
-  input = search rules;
-  faulty = search rules;
-  place = search rules;
-  unasked = λ place bytes w e n. absurd (c.in-Ok.ensures.unasked place bytes w e n);
-  unwritten = search rules;
-  written = search rules;
-  write_fault = search rules;
-  front = search rules;
-  no_memory = search rules;
-  complete = search rules;
-}
+pub returns-in-Err : goal.returns-in-Err
+returns-in-Err g c =
+    stopped WritesSerially c.args.words.now (effect_on g.I.Source.left g.I.Source.faults c.args.input.now c.ask.new.input) (effect_on g.O.Sink.held g.O.Sink.faults c.args.output.now c.args.output.now)
+    c.in-Err.status c.in-Err.ensures refl

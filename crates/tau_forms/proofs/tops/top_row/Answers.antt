@@ -1,13 +1,13 @@
 use Rattle.std.proofs.Common.{◌≡◌, true, Some, map, sym, ap, ◌∙◌}
 use Rattle.tau_sexpr.specs.Form.{tree_of}
-use Rattle.tau_sexpr.specs.Tree.{Tree, list, inside, more, word}
+use Rattle.tau_sexpr.specs.Tree.{list, inside, word}
 use Rattle.tau_forms.specs.Inner.Passing.{has_top_items, roles_of}
 use Rattle.tau_forms.specs.Roles.{count_of, top_first, top_items, with_first}
 use Rattle.tau_forms.specs.Inner.Wanted.{role_of}
 use Rattle.tau_forms.proofs.RowLemmas.{count_of-inside}
-use Rattle.tau_forms.proofs.TopLemmas.{row_of_top, row_of_top_none, first_is_mark, first_is_word}
+use Rattle.tau_forms.proofs.TopLemmas.{row_of_top, row_of_top_none, first_is_mark, first_is_version, first_is_word}
 use Rattle.tau_forms.proofs.tops.top_row.Goals as goal
-use Rattle.tau_forms.proofs.tops.top_row.Goals.{in-Nodes, in_default}
+use Rattle.tau_forms.proofs.tops.top_row.Goals.{in-Nodes, in-Version, in_default}
 
 pub returns-then-not-has_top_items : goal.returns-then-not-has_top_items
 returns-then-not-has_top_items c =
@@ -28,6 +28,7 @@ returns c =
     let first_is : role_of c.match-sort.first ≡ top_first before (list ts) =
     elim c.match-sort.branch [
       | in-Nodes v ↦ ap role_of v.first-is ∙ v.first_of_nodes-first.ensures before h ∙ first_is_mark before ts us head sort c.in_ok-list.ensures c.sort_of-sort.ensures v.in-Nodes.is
-      | in_default v ↦ ap role_of v.first-is ∙ first_is_word before ts us head sort c.in_ok-list.ensures c.sort_of-sort.ensures v.in_default.not-Nodes
+      | in-Version v ↦ ap role_of v.first-is ∙ v.first_of_version-first.ensures before h ∙ first_is_version before ts us head sort c.in_ok-list.ensures c.sort_of-sort.ensures v.in-Version.is
+      | in_default v ↦ ap role_of v.first-is ∙ first_is_word before ts us head sort c.in_ok-list.ensures c.sort_of-sort.ensures v.in_default.not-Nodes v.in_default.not-Version
     ] in
     ap (λ q. Some (roles_of w q)) c.in_ok-list.ensures ∙ c.row_of_sort.ensures before (word head) us h z items ∙ ap (λ r. with_first r (top_items tb before sort us)) first_is ∙ sym (row_of_top tb before ts us head sort c.in_ok-list.ensures c.sort_of-sort.ensures)

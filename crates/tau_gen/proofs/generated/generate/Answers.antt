@@ -12,6 +12,7 @@ returns-clause-program c =
     let posts = c.in_ok-posts.ensures.posts n at in
     let script = c.in_ok-script.ensures n (c.in_ok-posts.ensures.words n at) in
     λ i. record {
+      version = 1;
       nodes = 4;
       behaviours = c.in_ok-behaviours.ensures i;
       starts = c.in_ok-starts.ensures i;

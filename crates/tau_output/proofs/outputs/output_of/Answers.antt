@@ -1,4 +1,4 @@
-use Rattle.tau_command.specs.declared.commands.Command.TheVariants.{Run, Check, Audit, Report, Print, Cut}
+use Rattle.tau_command.specs.declared.commands.Command.TheVariants.{Run, Check, Audit, Report, Print, Migrate, Cut}
 use Rattle.tau_output.proofs.LawLemmas.{answer_told, why_told}
 use Rattle.tau_output.proofs.outputs.output_of.Goals as goal
 
@@ -26,6 +26,10 @@ returns-in-Print-clause-faulty c =
 pub returns-in-Cut-clause-faulty : goal.returns-in-Cut-clause-faulty
 returns-in-Cut-clause-faulty c =
     (answer_told c.args.command Cut c.args.bytes.now c.cut_run.result c.refused_by-in-Cut.result c.in-Cut.is c.refused_by-in-Cut.ensures c.requires.bytes c.cut_run.ensures.output c.cut_run.ensures.fault).gives.faulty
+
+pub returns-in-Migrate-clause-faulty : goal.returns-in-Migrate-clause-faulty
+returns-in-Migrate-clause-faulty c =
+    (answer_told c.args.command Migrate c.args.bytes.now c.migrate_run.result c.refused_by-in-Migrate.result c.in-Migrate.is c.refused_by-in-Migrate.ensures c.requires.bytes c.migrate_run.ensures.output c.migrate_run.ensures.fault).gives.faulty
 
 pub returns-in-Why-clause-faulty : goal.returns-in-Why-clause-faulty
 returns-in-Why-clause-faulty c =

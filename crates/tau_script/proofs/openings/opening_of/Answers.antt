@@ -11,4 +11,4 @@ returns-clause-sound c = λ s.
     let behaviours = ap (map (λ b. b.name)) (sym c.items-2.ensures) ∙ sym c.in_ok-behaviour_names.ensures in
     let homes = ap (map (λ s. s.node)) (sym c.items-3.ensures) ∙ sym c.in_ok-homes.ensures in
     let targets = ap (map (λ q. q.to)) (sym c.items-4.ensures) ∙ sym c.in_ok-targets.ensures in
-    subst IsSound (λ i. record { names = names i; behaviours = behaviours i; nodes = p.nodes; homes = homes i; targets = targets i }) (sound_opening p s)
+    subst IsSound (λ i. record { names = names i; behaviours = behaviours i; nodes = p.nodes; homes = homes i; targets = targets i; version = p.version }) (sound_opening p s)

@@ -1,11 +1,17 @@
-use Rattle.std.proofs.Common.{◌≡◌, ◌∙◌, ◌+◌, ◌∷◌, ◌++◌, ℕ, List, [], sym, subst, arith}
+use Rattle.std.proofs.Common.{◌≡◌, ◌∙◌, ◌+◌, ◌<◌, ◌∷◌, ◌++◌, ℕ, List, [], sym, subst, arith}
 use Rattle.tau_mailbox.specs.declared.letter.Letter.{Letter}
 use Rattle.tau_mailbox.specs.Letters.{AllBelow}
 use Rattle.tau_trace.specs.Run.{Run, len}
 use Rattle.tau_trace.specs.Numbering.{sent, Receives}
 use Rattle.tau_scripted.specs.Inner.Posted.{ArePosted}
-use Rattle.tau_scripted.proofs.PostLemmas.{posted_below, one_posted, all_posted}
+use Rattle.tau_scripted.proofs.PostLemmas.{post_receiver, posted_below, one_posted, all_posted}
 use Rattle.tau_scripted.proofs.posts.post_all.Goals as goal
+
+pub letter_of-requires-clause-received : goal.letter_of-requires-clause-received
+letter_of-requires-clause-received c =
+    let T : Run = c.args.trace.now.run in
+    let there : c.loop-message.message < sent T (len T) = omega (arith, c.loop-message-test.true, c.sent-count.ensures) in
+    post_receiver T c.loop-message.message c.requires.first there
 
 pub arrive-requires-clause-node : goal.arrive-requires-clause-node
 arrive-requires-clause-node c = omega (arith, c.letter_of.ensures.node, c.loop-message.invariant.nodes, c.requires.nodes)

@@ -1,5 +1,5 @@
 use Rattle.tau_rules.specs.System.{Core}
-use Rattle.tau_check.proofs.Endings.{other_illegal, due_object, goes_on_due, not_same}
+use Rattle.tau_check.proofs.Endings.{other_illegal, due_object, due_repeats, goes_on_due, not_same}
 use Rattle.tau_check.proofs.checker.Checker.check_due.Goals as goal
 
 pub returns-then-not-same_step : goal.returns-then-not-same_step
@@ -11,6 +11,11 @@ pub make_due-requires-clause-object : goal.make_due-requires-clause-object
 make_due-requires-clause-object c =
     let old : Core = c.args.self.now.system in
     due_object old.program old.run c.args.self.now.cursor c.args.due.now c.requires.asked
+
+pub make_due-requires-clause-version : goal.make_due-requires-clause-version
+make_due-requires-clause-version c =
+    let old : Core = c.args.self.now.system in
+    λ m e. due_repeats old.program old.run c.args.self.now.cursor c.args.due.now m c.requires.asked e
 
 pub returns : goal.returns
 returns c =

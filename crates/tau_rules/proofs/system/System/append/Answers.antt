@@ -40,7 +40,7 @@ invariant_of-self-2 g c =
     let advances : Advances s old c.apply.new.self.records = subst (λ (rs : List StateRecord). Advances s old rs) (sym states) c.in_ok-states.ensures in
     let by : HasChanged c.args.change (actor s) c.reserve-4.new.self.items c.change_record.new.records.items = subst (λ (o : Option ℕ). HasChanged c.args.change o c.reserve-4.new.self.items c.change_record.new.records.items) c.actor.ensures c.in_ok-change_record.ensures.ok in
     let has_changed : HasChanged c.args.change (actor s) c.self.inside.records.items c.change_record.new.records.items = subst (λ (rs : List Record). HasChanged c.args.change (actor s) rs c.change_record.new.records.items) c.in_ok-reserve-4.ensures.items by in
-    let sent : c.keep_sent.new.values.items ≡ with_sent c.self.inside.values.items (sent_value s) = c.keep_sent.ensures ∙ (λ i. with_sent (c.in_ok-reserve-3.ensures.items i) (c.in_ok-sent.ensures i)) in
+    let sent : c.keep_sent.new.values.items ≡ with_sent c.self.inside.values.items (sent_value c.self.inside.values.items s) = c.keep_sent.ensures ∙ (λ i. with_sent (c.in_ok-reserve-3.ensures.items i) (c.in_ok-sent.ensures i)) in
     let knows = subst (λ (R : Run). g.K.Knowledge.knows c.apply-2.new.self R) (sym run) (c.apply-2.ensures (appended T s) c.in_ok-heard.ensures.ok) in (
       made P T c.push_spare.new.self.run s c.args.change old c.apply.new.self.records c.self.inside.records.items c.change_record.new.records.items c.keep_newborn.new.records.items c.newborn_of-newborn.result c.self.inside.values.items c.keep_sent.new.values.items
           may fits changes c.self.invariant.0 run advances has_changed c.newborn_of-newborn.ensures c.keep_newborn.ensures sent,

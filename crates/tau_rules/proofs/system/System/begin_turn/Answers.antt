@@ -36,7 +36,7 @@ append-requires-clause-known g c =
     let few : len T < 1000000 = subst (λ (k : Core). len k.run < 1000000) (sym c.self.view_is) c.requires.few in
     let arrives : Arrives T c.args.who c.args.message (len T) = subst (λ (k : Core). Arrives k.run c.args.who c.args.message (len k.run)) (sym c.self.view_is) c.requires.arrives in
     subst (λ (k : Core). MayFollow k.run (Take c.args.who c.args.message)) c.self.view_is
-    (record { known = known_pair T c.self.invariant.0.well_formed c.args.message c.args.who arrives.in_flight.exists arrives.receiver; few_steps = few })
+    (record { known = known_pair T c.self.invariant.0.well_formed c.args.message c.args.who arrives.in_flight.exists arrives.receiver; version = tt; few_steps = few })
 
 pub append-requires-clause-change : goal.append-requires-clause-change
 append-requires-clause-change g c =

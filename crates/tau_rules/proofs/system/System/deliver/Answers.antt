@@ -1,5 +1,5 @@
 use Rattle.std.proofs.Common.{◌<◌, ℕ, Some, sym, subst}
-use Rattle.tau_trace.specs.declared.step.Step.TheVariants.{Drop, Fall, Void}
+use Rattle.tau_trace.specs.declared.step.Step.TheVariants.{Drop, Fall}
 use Rattle.tau_trace.specs.Run.{Run, len}
 use Rattle.tau_trace.specs.Numbering.{sent, Receives, InFlight}
 use Rattle.tau_trace.specs.Known.{MayFollow}
@@ -29,16 +29,8 @@ returns-in-Some-open_turn-clause-err g c =
     subst (λ (k : Core). (x : ℕ) × Receives k.run c.args.message x × IsOpenTurn k.run x (len k.run) (Some c.in-Some-open_turn.turn) × InFlight k.run c.args.message (len k.run)) c.self.view_is
     (c.in-Some-target.who, c.in-Some-target.ensures, c.in-Some-open_turn.ensures, in_flight)
 
-pub append-requires-clause-known : goal.append-requires-clause-known
-append-requires-clause-known g c =
-    let T : Run = c.self.inside.trace.run in
-    let there : c.args.message < sent T (len T) = subst (λ (k : Core). c.args.message < sent k.run (len k.run)) (sym c.self.view_is) c.requires.exists in
-    let few : len T < 1000000 = subst (λ (k : Core). len k.run < 1000000) (sym c.self.view_is) c.requires.few in
-    subst (λ (k : Core). MayFollow k.run (Void c.in-Some-target.who c.args.message)) c.self.view_is
-    (record { known = known_pair T c.self.invariant.0.well_formed c.args.message c.in-Some-target.who there c.in-Some-target.ensures; few_steps = few })
-
-pub append-requires-clause-fits : goal.append-requires-clause-fits
-append-requires-clause-fits g c =
+pub receive_late-requires-clause-late : goal.receive_late-requires-clause-late
+receive_late-requires-clause-late g c =
     let T : Run = c.self.inside.trace.run in
     let there : c.args.message < sent T (len T) = subst (λ (k : Core). c.args.message < sent k.run (len k.run)) (sym c.self.view_is) c.requires.exists in
     subst (λ (k : Core). ArrivesLate k.run c.in-Some-target.who c.args.message (len k.run)) c.self.view_is
@@ -53,23 +45,23 @@ verdict-requires-clause-exists g c =
     let there : c.args.message < sent T (len T) = subst (λ (k : Core). c.args.message < sent k.run (len k.run)) (sym c.self.view_is) c.requires.exists in
     receiver_exists T c.self.invariant.0.well_formed c.args.message c.in-Some-target.who there c.in-Some-target.ensures
 
-pub begin_turn-requires-clause-arrives : goal.begin_turn-requires-clause-arrives
-begin_turn-requires-clause-arrives g c =
+pub receive_take-requires-clause-arrives : goal.receive_take-requires-clause-arrives
+receive_take-requires-clause-arrives g c =
     let T : Run = c.self.inside.trace.run in
     let there : c.args.message < sent T (len T) = subst (λ (k : Core). c.args.message < sent k.run (len k.run)) (sym c.self.view_is) c.requires.exists in
     subst (λ (k : Core). Arrives k.run c.in-Some-target.who c.args.message (len k.run)) c.self.view_is
     (arrives T c.in-Some-target.who c.args.message c.end_of.result there c.in_default.ensures c.in-Some-target.ensures c.if-is_some.ensures c.end_of.ensures c.in_default-open_turn.ensures)
 
-pub append-requires-in-Drop-clause-known : goal.append-requires-in-Drop-clause-known
-append-requires-in-Drop-clause-known g c =
+pub append-requires-clause-known : goal.append-requires-clause-known
+append-requires-clause-known g c =
     let T : Run = c.self.inside.trace.run in
     let there : c.args.message < sent T (len T) = subst (λ (k : Core). c.args.message < sent k.run (len k.run)) (sym c.self.view_is) c.requires.exists in
     let few : len T < 1000000 = subst (λ (k : Core). len k.run < 1000000) (sym c.self.view_is) c.requires.few in
     subst (λ (k : Core). MayFollow k.run (Drop c.in-Some-target.who c.args.message)) c.self.view_is
-    (record { known = known_pair T c.self.invariant.0.well_formed c.args.message c.in-Some-target.who there c.in-Some-target.ensures; few_steps = few })
+    (record { known = known_pair T c.self.invariant.0.well_formed c.args.message c.in-Some-target.who there c.in-Some-target.ensures; version = tt; few_steps = few })
 
-pub append-requires-in-Drop-clause-fits : goal.append-requires-in-Drop-clause-fits
-append-requires-in-Drop-clause-fits g c =
+pub append-requires-clause-fits : goal.append-requires-clause-fits
+append-requires-clause-fits g c =
     let T : Run = c.self.inside.trace.run in
     let who : ℕ = c.in-Some-target.who in
     let m : ℕ = c.args.message in
@@ -84,7 +76,7 @@ append-requires-in-Fall-clause-known g c =
     let there : c.args.message < sent T (len T) = subst (λ (k : Core). c.args.message < sent k.run (len k.run)) (sym c.self.view_is) c.requires.exists in
     let few : len T < 1000000 = subst (λ (k : Core). len k.run < 1000000) (sym c.self.view_is) c.requires.few in
     subst (λ (k : Core). MayFollow k.run (Fall c.in-Some-target.who c.args.message)) c.self.view_is
-    (record { known = known_pair T c.self.invariant.0.well_formed c.args.message c.in-Some-target.who there c.in-Some-target.ensures; few_steps = few })
+    (record { known = known_pair T c.self.invariant.0.well_formed c.args.message c.in-Some-target.who there c.in-Some-target.ensures; version = tt; few_steps = few })
 
 pub append-requires-in-Fall-clause-fits : goal.append-requires-in-Fall-clause-fits
 append-requires-in-Fall-clause-fits g c =
