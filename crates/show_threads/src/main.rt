@@ -1,7 +1,8 @@
 //! Runs of programs by workers, and turns of a seat. Standard input has sections: a line `# WAY NUMBER..`, then a program. For each
 //! number a line tells what came of it. With `seats` so many workers run the program on seats, as `run_workers` does it, and with `lock`
 //! on a book under a lock: whether the run ended, and whether it is told as complete. With `checked` they run it on seats, and the trace
-//! is checked: whether it is legal and complete. With `both` it is `checked`, then `lock`. With `turns` one seat takes so many turns.
+//! is checked: whether it is legal and complete. With `both` it is `checked`, then `lock`. With `turns` one seat takes so many turns. With
+//! `short` so many workers are short of memory behind one answer each, and one hand alone makes the steps that are left.
 #![tactic(auto)]
 
 ghost use Rattle.std.specs.Prelude.{◌≤◌, IfOk, IfSome};
@@ -9,9 +10,11 @@ ghost use Rattle.tau_value.specs.declared.limits.TheConstants.{STEP_LIMIT};
 ghost use Rattle.tau_tree.specs.Sound.{Sound};
 
 mod locked;
+mod short;
 mod turns;
 
 use crate::locked::add_locked;
+use crate::short::add_short;
 use crate::turns::add_turns;
 use std::alloc::{AllocError, Global};
 use std::process::ExitCode;
@@ -101,6 +104,7 @@ fn add_number<R: Threads + Wait + Sync>(
             add_checked(rt, alloc, text, program, settings)?;
             add_locked(rt, alloc, text, program, settings)
         }
+        "short" => add_short(rt, alloc, text, program, settings),
         "turns" => add_turns(rt, alloc, text, program, number),
         _ => text.push_str("no way\n"),
     }

@@ -8,17 +8,17 @@ use Rattle.tau_trace.specs.declared.step.Step.TheVariants as steps
 use Rattle.tau_trace.specs.Run.{Run, len}
 use Rattle.tau_trace.proofs.Indexing.{len-appended}
 use Rattle.tau_script.specs.Scripts.{NoneDue}
-use Rattle.tau_legal.specs.Traces.{Complete}
+use Rattle.tau_legal.specs.Traces.{Complete, Fitting}
 use Rattle.tau_eval.specs.Turn.{TurnSoFar}
 use Rattle.tau_rules.specs.System.{Core}
 use Rattle.tau_rules.specs.Answers.{IsDelivered}
 use Rattle.tau_rules.specs.declared.answers.Delivered.{Delivered}
-use Rattle.tau_rules.specs.declared.answers.Delivered.TheVariants.{Began, Dropped, Fell, Voided}
+use Rattle.tau_rules.specs.declared.answers.Delivered.TheVariants.{Began, Dropped, Fell, Voided, Echoed, Heeded}
 use Rattle.tau_scripted.specs.OpenTurns.{AreOpenTurns}
 use Rattle.tau_scripted.specs.Flight.{AreDeliverable}
 use Rattle.tau_scripted.specs.ScriptedRun.{ScriptedRun}
 use Rattle.tau_scripted.proofs.Members.{contains_nothing}
-use Rattle.tau_legal.proofs.ReceiverLemmas.{has_receiver}
+use Rattle.tau_legal.proofs.ReceiverLemmas.{receivers_of_fitting}
 use Rattle.tau_scripted.proofs.Homes.{at_place}
 use Rattle.tau_book.specs.Hands.{Held, IsNumbered}
 use Rattle.tau_book.specs.Books.{booked, GoesOn}
@@ -26,13 +26,13 @@ use Rattle.tau_book.specs.Offers.{Offer, jobs_with, store_without, options, numb
 use Rattle.tau_book.specs.Nexts.{IsIdle, IsHandedOut, IsReceived, begun_with}
 
 -- where nothing is deliverable and the run isn't complete, a turn is open
-pub some_open : (P : Program) (T : Run) (turns messages : List ℕ) → AreOpenTurns T turns → AreDeliverable T messages → messages ≡ [] → NoneDue P.script T (len T) → ¬ Complete P T → 1 ≤ length turns
-some_open P T (place ∷ turns) messages are deliverable none none_due incomplete = omega arith
-some_open P T [] messages are deliverable none none_due incomplete = absurd (incomplete (record {
+pub some_open : (P : Program) (T : Run) (turns messages : List ℕ) → Fitting P T → AreOpenTurns T turns → AreDeliverable T messages → messages ≡ [] → NoneDue P.script T (len T) → ¬ Complete P T → 1 ≤ length turns
+some_open P T (place ∷ turns) messages fitting are deliverable none none_due incomplete = omega arith
+some_open P T [] messages fitting are deliverable none none_due incomplete = absurd (incomplete (record {
   none_due = none_due;
   no_turn = λ t place m u. contains_nothing place ((are.each place).1 (record { who = t; message = m; turn = u }));
   none_in_flight = λ m f.
-      let r = has_receiver T m f.exists in
+      let r = receivers_of_fitting P T m fitting f.exists in
       contains_nothing m (subst (λ (ms : List ℕ). Contains ms m) none ((deliverable.each m).1 (record {
         receiver = r.0;
         receives = r.1;
@@ -47,6 +47,8 @@ delivered_one old new m (Began job) h = ap (λ (c : Core). len c.run) h.appended
 delivered_one old new m Dropped h = ap (λ (c : Core). len c.run) h.1 ∙ len-appended old.run (steps.Drop h.0 m)
 delivered_one old new m Fell h = ap (λ (c : Core). len c.run) h.1 ∙ len-appended old.run (steps.Fall h.0 m)
 delivered_one old new m Voided h = ap (λ (c : Core). len c.run) h.1 ∙ len-appended old.run (steps.Void h.0 m)
+delivered_one old new m Echoed h = ap (λ (c : Core). len c.run) h.1 ∙ len-appended old.run (steps.Echo h.0 m)
+delivered_one old new m Heeded h = ap (λ (c : Core). len c.run) h.1 ∙ len-appended old.run (steps.Heed h.0 m)
 
 -- the same list of no length
 pub none_of : {X : Type 0} (xs : List X) → length xs ≡ 0 → xs ≡ []
@@ -61,10 +63,10 @@ module _ (s : ScriptedRun) (limit : ℕ) (store : List TurnSoFar) (h : Held) (tu
   abbrev offered : Offer (booked s limit store) h
   offered = record { turns = s.turns; turns_are = turns_are; messages = s.messages; messages_are = messages_are }
 
-  pub is_idle : (kept : List TurnSoFar) (k : Held) (out : ℕ) → ¬ Complete s.system.program s.system.run → jobs_with s.turns h store ≡ [] → s.messages ≡ [] → out ≡ length s.turns
+  pub is_idle : (kept : List TurnSoFar) (k : Held) (out : ℕ) → Fitting s.system.program s.system.run → ¬ Complete s.system.program s.system.run → jobs_with s.turns h store ≡ [] → s.messages ≡ [] → out ≡ length s.turns
       → kept ≡ store_without s.turns h store → k ≡ record h { jobs = jobs_with s.turns h store } → IsIdle (booked s limit store) (booked s limit kept) h k out
-  is_idle kept k out incomplete no_job no_message out_is kept_is hand_is =
-      let some : 1 ≤ length s.turns = some_open s.system.program s.system.run s.turns s.messages turns_are messages_are no_message none_due incomplete in
+  is_idle kept k out fitting incomplete no_job no_message out_is kept_is hand_is =
+      let some : 1 ≤ length s.turns = some_open s.system.program s.system.run s.turns s.messages fitting turns_are messages_are no_message none_due incomplete in
       record {
         goes_on = going;
         offer = offered;

@@ -18,7 +18,8 @@ use Rattle.tau_scripted.proofs.Members.{contains_nothing, contains_here, contain
 use Rattle.tau_book.specs.Hands.{Held, is_earlier, is_of, IsNumbered}
 use Rattle.tau_book.specs.Offers.{open_jobs, without, taken_up, jobs_with, store_without, options}
 use Rattle.tau_book.specs.SerialRun.{Choosable, turn, message}
-use Rattle.tau_book.specs.Inner.Working.{HasJobFrom, AreJobs}
+use Rattle.tau_book.specs.Adopted.{HasJobFrom}
+use Rattle.tau_book.specs.Inner.Working.{AreJobs}
 use Rattle.tau_book.proofs.Counts.{AreDistinct, count_none, count_map, count_all, same_counts, place_of, ascending_distinct}
 
 -- elements of two lists in a row

@@ -18,7 +18,8 @@ use Rattle.tau_check.proofs.Once.{same_taker}
 use Rattle.tau_check.proofs.Turns.{BeginsNone, earlier, ended}
 use Rattle.tau_check.proofs.JobLemmas.{job_kept}
 use Rattle.tau_scripted.specs.OpenTurns.{IsOpenFrom}
-use Rattle.tau_book.specs.Inner.Working.{HasJobFrom, AreJobs, AreOtherJobs}
+use Rattle.tau_book.specs.Adopted.{HasJobFrom}
+use Rattle.tau_book.specs.Inner.Working.{AreJobs, AreOtherJobs}
 
 -- one job more
 pub with_more : (js : List jobs.TurnSoFar) (job : jobs.TurnSoFar) (place : ℕ) → HasJobFrom js place → HasJobFrom (js ++ job ∷ []) place

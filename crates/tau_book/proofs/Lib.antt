@@ -7,3 +7,4 @@ pub mod JobLists
 pub mod StoreLemmas
 pub mod Choices
 pub mod HandsLeft
+pub mod AdoptLemmas

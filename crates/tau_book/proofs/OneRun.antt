@@ -21,7 +21,7 @@ use Rattle.tau_check.proofs.Once.{same_taker}
 use Rattle.tau_check.proofs.TurnSteps.{acts_in_turn}
 use Rattle.tau_scripted.proofs.Members.{contains_nothing, contains_here, contains_there, contains_cases}
 use Rattle.tau_book.specs.Laws.{SerialRunIsUnique}
-use Rattle.tau_book.specs.SerialRun.{IsSerialRun, ComesAbout, begins, due, chooses, Choosable, turn, message, AreOptions, IsReceipt, take, drop, fall, void, IsStepOf, of_turn, of_message}
+use Rattle.tau_book.specs.SerialRun.{IsSerialRun, ComesAbout, begins, due, chooses, Choosable, turn, message, AreOptions, IsReceipt, take, drop, fall, void, echo, heed, IsStepOf, of_turn, of_message}
 use Rattle.tau_book.proofs.Chosen.{options_of}
 use Rattle.tau_book.proofs.Counts.{AreAscending}
 
@@ -80,6 +80,8 @@ received t m s take = refl
 received t m s drop = refl
 received t m s fall = refl
 received t m s void = refl
+received t m s echo = refl
+received t m s heed = refl
 
 same_step : (P : Program) (T : Run) (c : Choosable) (s r : Step) → T.opening ≡ program_opening P → IsStepOf P T c s → IsStepOf P T c r → s ≡ r
 same_step P T (turn place) s r opens (of_turn {t = t} {m = m} u h) (of_turn {t = w} {m = n} v k) =

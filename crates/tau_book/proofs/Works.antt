@@ -16,7 +16,7 @@ use Rattle.tau_trace.specs.Turns.{Turn, IsOpenTurn}
 use Rattle.tau_trace.proofs.Indexing.{len-appended}
 use Rattle.tau_trace.proofs.Lists.{same_some}
 use Rattle.tau_script.specs.Openings.{program_opening}
-use Rattle.tau_script.specs.Scripts.{HasObject, fails, loses}
+use Rattle.tau_script.specs.Scripts.{HasObject, fails, loses, repeats}
 use Rattle.tau_script.proofs.Determined.{one_step}
 use Rattle.tau_script.proofs.Passing.{object}
 use Rattle.tau_legal.specs.Fits.{Fits}
@@ -25,7 +25,7 @@ use Rattle.tau_eval.specs.Turn as jobs
 use Rattle.tau_rules.specs.System.{Core, with_step}
 use Rattle.tau_rules.specs.Answers.{IsOpenJob, IsStepped, IsDelivered}
 use Rattle.tau_rules.specs.declared.answers.Delivered.{Delivered}
-use Rattle.tau_rules.specs.declared.answers.Delivered.TheVariants.{Began, Dropped, Fell, Voided}
+use Rattle.tau_rules.specs.declared.answers.Delivered.TheVariants.{Began, Dropped, Fell, Voided, Echoed, Heeded}
 use Rattle.tau_check.proofs.Turns.{BeginsNone, of_turn_begins_none, earlier, ended}
 use Rattle.tau_check.proofs.Endings.{legal_fits, last_fits}
 use Rattle.tau_check.proofs.Receipts.{IsByIdle, by_idle}
@@ -36,8 +36,9 @@ use Rattle.tau_book.specs.Books.{Booked, IsBook, IsAtLimit, IsComplete}
 use Rattle.tau_book.specs.Offers.{Offer, open_jobs, jobs_with, store_without, options, number_drawn, generator_after}
 use Rattle.tau_book.specs.Nexts.{IsDueMade, IsIdle, IsHandedOut, IsReceived, begun_with}
 use Rattle.tau_book.specs.Tolds.{IsTurnStep as IsTurnMade, goes_on, is_over, IsStale, IsRedoneWith, IsFinished}
-use Rattle.tau_book.specs.SerialRun.{IsSerialRun, ComesAbout, begins, due, chooses, turn, message, AreOptions, IsReceipt, take, drop, fall, void, of_turn, of_message}
-use Rattle.tau_book.specs.Inner.Working.{HasJobFrom, AreJobs, AreOtherJobs, IsAtWork, HasChosen, IsSameWork}
+use Rattle.tau_book.specs.SerialRun.{IsSerialRun, ComesAbout, begins, due, chooses, turn, message, AreOptions, IsReceipt, take, drop, fall, void, echo, heed, of_turn, of_message}
+use Rattle.tau_book.specs.Adopted.{HasJobFrom}
+use Rattle.tau_book.specs.Inner.Working.{AreJobs, AreOtherJobs, IsAtWork, HasChosen, IsSameWork}
 use Rattle.tau_book.proofs.Chosen.{AreApart, apart_front, apart_back, apart_others, others_in, with_none, store_none, open_apart, are_open, job_from, lengths, numbered, options_of, turn_chosen, message_chosen}
 use Rattle.tau_book.proofs.Kept.{jobs_stay, jobs_begun, jobs_ended, jobs_going}
 
@@ -45,10 +46,12 @@ use Rattle.tau_book.proofs.Kept.{jobs_stay, jobs_begun, jobs_ended, jobs_going}
 due_begins_none : (T : Run) (k : ℕ) (s : Step) → HasObject T k s → BeginsNone s
 due_begins_none T k s (fails lt living) t m e = cc
 due_begins_none T k s (loses f) t m e = cc
+due_begins_none T k s (repeats f) t m e = cc
 
 due_none : (T : Run) (s : Step) → HasObject T (len T) s → (t place m : ℕ) → actor s ≡ Some t → ¬ Turn (appended T s) t (len (appended T s)) place m
 due_none T s (fails {t = u} lt living) t place m by u2 = ended T (steps.Fail u) t place m by refl u2
 due_none T s (loses f) t place m by u = cc
+due_none T s (repeats f) t place m by u = cc
 
 module _ (seed : ℕ) (old new : Booked) (h k : Held) (was : IsBook old) (is : IsBook new) (w : IsAtWork seed old h) where
   abbrev T : Run
@@ -200,6 +203,8 @@ module _ (seed : ℕ) (old new : Booked) (h k : Held) (was : IsBook old) (is : I
     by_answer Dropped d = made d.0 (steps.Drop d.0 r.message) (ks r.offer) drop d.1 (stays (steps.Drop d.0 r.message) refl (λ t m e. cc) d.1)
     by_answer Fell d = made d.0 (steps.Fall d.0 r.message) (ks r.offer) fall d.1 (stays (steps.Fall d.0 r.message) refl (λ t m e. cc) d.1)
     by_answer Voided d = made d.0 (steps.Void d.0 r.message) (ks r.offer) void d.1 (stays (steps.Void d.0 r.message) refl (λ t m e. cc) d.1)
+    by_answer Echoed d = made d.0 (steps.Echo d.0 r.message) (ks r.offer) echo d.1 (stays (steps.Echo d.0 r.message) refl (λ t m e. cc) d.1)
+    by_answer Heeded d = made d.0 (steps.Heed d.0 r.message) (ks r.offer) heed d.1 (stays (steps.Heed d.0 r.message) refl (λ t m e. cc) d.1)
 
     pub works_received : IsAtWork seed new k
     works_received = subst (λ (x : Held). IsAtWork seed new x) (sym (r.hand_is ∙ ap (λ xs. record { generator = generator_after h.generator; size = h.size; jobs = begun_with xs r.answer }) (with_ks r.offer))) (by_answer r.answer r.delivered)

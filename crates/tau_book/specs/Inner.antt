@@ -2,3 +2,4 @@
 pub mod Working
 pub mod Jobs
 pub mod Returns
+pub mod Choosing

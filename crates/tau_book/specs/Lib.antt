@@ -1,10 +1,11 @@
 pub mod SerialRun
-pub mod Laws
 pub mod Hands
 pub mod Books
 pub mod Offers
 pub mod Nexts
 pub mod Tolds
+pub mod Adopted
+pub mod Laws
 pub mod Places
 pub mod Lefts
 pub mod Inner

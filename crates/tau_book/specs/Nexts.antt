@@ -6,7 +6,7 @@ use Rattle.tau_script.specs.Scripts.{DueStep, NoneDue}
 use Rattle.tau_eval.specs.Turn.{TurnSoFar}
 use Rattle.tau_rules.specs.Answers.{IsDelivered}
 use Rattle.tau_rules.specs.declared.answers.Delivered.{Delivered}
-use Rattle.tau_rules.specs.declared.answers.Delivered.TheVariants.{Began, Dropped, Fell, Voided}
+use Rattle.tau_rules.specs.declared.answers.Delivered.TheVariants.{Began, Dropped, Fell, Voided, Echoed, Heeded}
 use Rattle.tau_book.specs.declared.answers.Next.{Next}
 use Rattle.tau_book.specs.declared.answers.Next.TheVariants as nexts
 use Rattle.tau_book.specs.Hands.{Held, IsNumbered}
@@ -52,6 +52,8 @@ begun_with jobs (Began job) = jobs ++ job ∷ []
 begun_with jobs Dropped = jobs
 begun_with jobs Fell = jobs
 begun_with jobs Voided = jobs
+begun_with jobs Echoed = jobs
+begun_with jobs Heeded = jobs
 
 -- the word chose a message, which was delivered
 pub record IsReceived (old new : Booked) (h k : Held) : Type 0 where

@@ -5,7 +5,7 @@ use Rattle.rand_pcg.specs.Lcg.{Lcg}
 use Rattle.rand_pcg.specs.Pcg.{pcg32, pcg32_of_seed}
 use Rattle.tau_tree.specs.declared.programs.Program.{Program}
 use Rattle.tau_trace.specs.declared.step.Step.{Step}
-use Rattle.tau_trace.specs.declared.step.Step.TheVariants.{Take, Drop, Fall, Void}
+use Rattle.tau_trace.specs.declared.step.Step.TheVariants.{Take, Drop, Fall, Void, Echo, Heed}
 use Rattle.tau_trace.specs.Run.{Run, len, appended}
 use Rattle.tau_trace.specs.Turns.{Turn}
 use Rattle.tau_script.specs.Openings.{program_opening}
@@ -35,6 +35,8 @@ pub data IsReceipt (t m : ℕ) : Step → Type 0 where
   drop : IsReceipt t m (Drop t m)
   fall : IsReceipt t m (Fall t m)
   void : IsReceipt t m (Void t m)
+  echo : IsReceipt t m (Echo t m)
+  heed : IsReceipt t m (Heed t m)
 
 -- the fitting step of an open turn, or of a message
 pub data IsStepOf (P : Program) (T : Run) : Choosable → Step → Type 0 where

@@ -32,6 +32,7 @@ pub struct Book<'p, K: Knowledge + Drop> {
     pub(crate) scripted: Scripted<'p, K>,
     pub(crate) limit: u32,
     pub(crate) store: Vec<Job<'p>>,
+    pub(crate) alloc: Global,
 }
 
 impl<'p, K: Knowledge + Drop> Model for Book<'p, K> {
@@ -65,6 +66,7 @@ impl<'p, K: Knowledge + Drop> Book<'p, K> {
             scripted: Scripted::open(alloc, program)?,
             limit,
             store: Vec::new(alloc),
+            alloc,
         })
     }
 

@@ -1,16 +1,13 @@
 //! The choice of a worker, where the run goes on and no step of the script is due.
 ghost use Rattle.std.specs.Prelude.{◌≡◌, ◌<◌, ◌≤◌, ◌+◌, ◌%◌, ℕ, suc, [], nat_lt, if◌then◌else◌, IfOk, OnOk, OnErr, length};
 ghost use Rattle.std.specs.Vec.{vec_capacity};
-ghost use Rattle.tau_value.specs.declared.limits.TheConstants.{STEP_LIMIT};
 ghost use Rattle.tau_trace.specs.Run.{len};
-ghost use Rattle.tau_script.specs.Scripts.{NoneDue};
 ghost use Rattle.tau_legal.specs.Traces.{Complete};
-ghost use Rattle.tau_scripted.specs.OpenTurns.{AreOpenTurns};
-ghost use Rattle.tau_scripted.specs.Flight.{AreDeliverable};
-ghost use Rattle.tau_book.specs.Books.{AreOfDifferentTurns, booked};
+ghost use Rattle.tau_book.specs.Books.{booked};
 ghost use Rattle.tau_book.specs.Offers.{jobs_with, options, number_drawn, generator_after};
 ghost use Rattle.tau_book.specs.Nexts.{IsNext, IsIdle, IsHandedOut, IsReceived};
 ghost use Rattle.tau_book.specs.Places.{LeavesRoom};
+ghost use Rattle.tau_book.specs.Inner.Choosing.{CanChoose, IsChosen};
 
 use crate::tidying::{count_jobs, tidy};
 use crate::{Hand, Next};
@@ -26,22 +23,14 @@ pub(crate) fn choose<'p, K: Knowledge + Drop>(
     store: &mut Vec<Job<'p>>,
     hand: &mut Hand<'p>,
 ) -> Result<Next<'p>, AllocError>
-    requires few { len scripted.old.system.run < STEP_LIMIT }
-    requires messages { AreDeliverable scripted.old.system.run scripted.old.messages }
-    requires none_due { NoneDue scripted.old.system.program.script scripted.old.system.run (len scripted.old.system.run) }
+    requires can { CanChoose scripted.old store.old.items (vec_capacity store.old) }
     requires incomplete { ¬ Complete scripted.old.system.program scripted.old.system.run }
-    requires differ { AreOfDifferentTurns store.old.items }
-    requires places { length scripted.old.turns ≤ vec_capacity store.old }
     ensures ok { (limit : ℕ) → len scripted.old.system.run < limit
         → IfOk result (IsNext (booked scripted.old limit store.old.items) (booked scripted.new limit store.new.items) hand.old hand.new) }
     ensures room { IfOk result (LeavesRoom hand.new) }
-    ensures size { hand.new.size ≡ hand.old.size }
     ensures one { len scripted.new.system.run ≤ suc (len scripted.old.system.run) }
-    ensures differ { AreOfDifferentTurns store.new.items }
-    ensures places { length scripted.new.turns ≤ vec_capacity store.new }
-    ensures scripted_on_err { OnErr result (scripted.new ≡ scripted.old) }
-    ensures store_on_err { OnErr result (store.new.items ≡ store.old.items) }
-    ensures hand_on_err { OnErr result (hand.new ≡ hand.old) }
+    ensures chosen { IsChosen scripted.new store.new.items (vec_capacity store.new) hand.old hand.new }
+    ensures err { OnErr result ((scripted.new ≡ scripted.old) × (store.new.items ≡ store.old.items) × (hand.new ≡ hand.old)) }
 {
     let jobs = count_jobs(scripted.turns(), hand, store);
     let messages = count_messages(scripted, hand, jobs);
@@ -91,16 +80,13 @@ fn idle<'p, K: Knowledge + Drop>(
     store: &mut Vec<Job<'p>>,
     hand: &mut Hand<'p>,
 ) -> u32
-    requires messages { AreDeliverable scripted.now.system.run scripted.now.messages }
-    requires none_due { NoneDue scripted.now.system.program.script scripted.now.system.run (len scripted.now.system.run) }
+    requires can { CanChoose scripted.now store.old.items (vec_capacity store.old) }
     requires incomplete { ¬ Complete scripted.now.system.program scripted.now.system.run }
-    requires differ { AreOfDifferentTurns store.old.items }
     requires no_job { jobs_with scripted.now.turns hand.old store.old.items ≡ [] }
     requires no_message { scripted.now.messages ≡ [] }
     ensures idle { (limit : ℕ) → len scripted.now.system.run < limit
         → IsIdle (booked scripted.now limit store.old.items) (booked scripted.now limit store.new.items) hand.old hand.new result }
-    ensures differ { AreOfDifferentTurns store.new.items }
-    ensures places { vec_capacity store.new ≡ vec_capacity store.old }
+    ensures chosen { IsChosen scripted.now store.new.items (vec_capacity store.new) hand.old hand.new }
 {
     tidy(scripted.turns(), hand, store);
     scripted.open_turns()
@@ -114,9 +100,7 @@ fn hand_out<'p, K: Knowledge + Drop>(
     number: usize,
     generator: Pcg32,
 ) -> Job<'p>
-    requires messages { AreDeliverable scripted.now.system.run scripted.now.messages }
-    requires none_due { NoneDue scripted.now.system.program.script scripted.now.system.run (len scripted.now.system.run) }
-    requires differ { AreOfDifferentTurns store.old.items }
+    requires can { CanChoose scripted.now store.old.items (vec_capacity store.old) }
     requires number { number < length (jobs_with scripted.now.turns hand.old store.old.items) }
     requires within { length (jobs_with scripted.now.turns hand.old store.old.items) ≤ hand.old.size }
     requires drawn { number ≡ number_drawn hand.old.generator (options hand.old.size (jobs_with scripted.now.turns hand.old store.old.items) scripted.now.messages) }
@@ -124,9 +108,7 @@ fn hand_out<'p, K: Knowledge + Drop>(
     ensures job { (limit : ℕ) → len scripted.now.system.run < limit
         → IsHandedOut (booked scripted.now limit store.old.items) (booked scripted.now limit store.new.items) hand.old hand.new result }
     ensures room { length hand.new.jobs < hand.new.size }
-    ensures size { hand.new.size ≡ hand.old.size }
-    ensures differ { AreOfDifferentTurns store.new.items }
-    ensures places { vec_capacity store.new ≡ vec_capacity store.old }
+    ensures chosen { IsChosen scripted.now store.new.items (vec_capacity store.new) hand.old hand.new }
 {
     tidy(scripted.turns(), hand, store);
     hand.hand_out(number, generator)
@@ -140,25 +122,16 @@ fn receive<'p, K: Knowledge + Drop>(
     number: usize,
     generator: Pcg32,
 ) -> Result<(), AllocError>
-    requires few { len scripted.old.system.run < STEP_LIMIT }
-    requires turns { AreOpenTurns scripted.old.system.run scripted.old.turns }
-    requires messages { AreDeliverable scripted.old.system.run scripted.old.messages }
-    requires none_due { NoneDue scripted.old.system.program.script scripted.old.system.run (len scripted.old.system.run) }
-    requires differ { AreOfDifferentTurns store.old.items }
-    requires places { length scripted.old.turns ≤ vec_capacity store.old }
+    requires can { CanChoose scripted.old store.old.items (vec_capacity store.old) }
     requires number { number < length scripted.old.messages }
     requires room { length (jobs_with scripted.old.turns hand.old store.old.items) < hand.old.size }
     requires drawn { number_drawn hand.old.generator (options hand.old.size (jobs_with scripted.old.turns hand.old store.old.items) scripted.old.messages) ≡ length (jobs_with scripted.old.turns hand.old store.old.items) + number }
     requires generator { generator ≡ generator_after hand.old.generator }
     ensures ok { (limit : ℕ) → len scripted.old.system.run < limit
         → OnOk result (IsReceived (booked scripted.old limit store.old.items) (booked scripted.new limit store.new.items) hand.old hand.new) }
-    ensures size { hand.new.size ≡ hand.old.size }
     ensures one { len scripted.new.system.run ≤ suc (len scripted.old.system.run) }
-    ensures differ { AreOfDifferentTurns store.new.items }
-    ensures places { length scripted.new.turns ≤ vec_capacity store.new }
-    ensures scripted_on_err { OnErr result (scripted.new ≡ scripted.old) }
-    ensures store_on_err { OnErr result (store.new.items ≡ store.old.items) }
-    ensures hand_on_err { OnErr result (hand.new ≡ hand.old) }
+    ensures chosen { IsChosen scripted.new store.new.items (vec_capacity store.new) hand.old hand.new }
+    ensures err { OnErr result ((scripted.new ≡ scripted.old) × (store.new.items ≡ store.old.items) × (hand.new ≡ hand.old)) }
 {
     let turns = scripted.open_turns() as usize;
     // A place for a job of the turn that begins, before the first change.

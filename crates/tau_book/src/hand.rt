@@ -3,6 +3,7 @@ ghost use Rattle.std.specs.Prelude.{◌≡◌, ◌<◌, ◌≤◌, ◌-◌, [], 
 ghost use Rattle.std.specs.Vec.{vec_capacity};
 ghost use Rattle.rand_core.specs.Pcg32Seed.{pcg32_seed};
 ghost use Rattle.rand_pcg.specs.Pcg.{pcg32, pcg32_of_seed};
+ghost use Rattle.tau_book.specs.declared.limits.TheConstants.{JOB_LIMIT};
 ghost use Rattle.tau_book.specs.Hands.{joined, IsNumbered};
 ghost use Rattle.tau_book.specs.Books.{AreOfDifferentTurns};
 ghost use Rattle.tau_book.specs.Offers.{open_jobs, stored};
@@ -31,6 +32,7 @@ pub struct Hand<'p> {
 impl<'p> Model for Hand<'p> {
     ghost use Rattle.std.specs.Prelude.{◌≤◌, vec_len};
     ghost use Rattle.std.specs.Vec.{vec_capacity};
+    ghost use Rattle.tau_book.specs.declared.limits.TheConstants.{JOB_LIMIT};
     ghost use Rattle.tau_book.specs.Hands.{Held, held_code};
 
     ghost Value = { Held };
@@ -39,14 +41,15 @@ impl<'p> Model for Hand<'p> {
 
     ghost view = { λ h. record { generator = h.generator; size = h.size; jobs = h.jobs.items } };
 
-    ghost invariant = { λ h. (vec_len h.jobs ≤ h.size) × (h.size ≤ vec_capacity h.jobs) × (1 ≤ h.size) × (h.size ≤ 16) };
+    ghost invariant = { λ h. (vec_len h.jobs ≤ h.size) × (h.size ≤ vec_capacity h.jobs) × (1 ≤ h.size) × (h.size ≤ JOB_LIMIT) };
 }
 
 impl<'p> Hand<'p> {
-    /// An empty hand, whose generator is `Pcg32` seeded with a number, with room for 1 to 16 jobs. The error is want of memory.
+    /// An empty hand, whose generator is `Pcg32` seeded with a number, with room for 1 to `JOB_LIMIT` jobs. The error is want
+    /// of memory.
     pub fn new(alloc: Global, seed: u64, jobs: u32) -> Result<Hand<'p>, AllocError>
         requires some { 1 ≤ jobs }
-        requires few { jobs ≤ 16 }
+        requires few { jobs ≤ JOB_LIMIT }
         ensures generator { IfOk result (λ h. h.generator ≡ pcg32_of_seed (pcg32_seed 16 seed)) }
         ensures size { IfOk result (λ h. h.size ≡ jobs) }
         ensures jobs { IfOk result (λ h. h.jobs ≡ []) }
@@ -93,7 +96,7 @@ impl<'p> Hand<'p> {
     pub(crate) fn count_open(&self, turns: &[u32]) -> usize
         ensures count { result ≡ length (open_jobs turns.now self.now.jobs) }
         ensures within { result ≤ self.now.size }
-        ensures few { self.now.size ≤ 16 }
+        ensures few { self.now.size ≤ JOB_LIMIT }
     {
         count_open(turns, &self.jobs)
     }
@@ -126,7 +129,11 @@ impl<'p> Hand<'p> {
         self.generator = generator;
         match delivered {
             Delivered::Began(job) => self.jobs.push_reserved(job),
-            Delivered::Dropped | Delivered::Fell | Delivered::Voided => {}
+            Delivered::Dropped
+            | Delivered::Fell
+            | Delivered::Voided
+            | Delivered::Echoed
+            | Delivered::Heeded => {}
         }
     }
 

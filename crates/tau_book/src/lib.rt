@@ -1,12 +1,14 @@
 //! The step book: a legal run to which workers append steps, and what each of them does next.
 #![tactic(auto)]
 
+mod adopting;
 mod answers;
 mod book;
 mod choosing;
 mod hand;
 mod jobs;
 mod laws;
+mod limits;
 mod place;
 mod ran;
 mod returns;
@@ -16,7 +18,8 @@ mod tidying;
 pub use answers::{Next, Told};
 pub use book::Book;
 pub use hand::Hand;
-pub use laws::serial_run_is_unique;
+pub use laws::{adopted_is_not_idle, serial_run_is_unique};
+pub use limits::JOB_LIMIT;
 pub use place::StepPlace;
 pub use ran::Ran;
 pub use serial::run_serially;

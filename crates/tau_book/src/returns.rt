@@ -45,7 +45,7 @@ fn give_one<'p>(turns: &[u32], job: Job<'p>, store: &mut Vec<Job<'p>>)
 }
 
 /// Whether one of the jobs is of this turn.
-fn has_of(jobs: &[Job<'_>], turn: u32) -> bool
+pub(crate) fn has_of(jobs: &[Job<'_>], turn: u32) -> bool
     ensures { result ≡ list_any (is_of turn) jobs.now }
 {
     jobs.iter().any(|job| job.turn() == turn)

@@ -4,6 +4,7 @@ ghost use Rattle.tau_value.specs.declared.limits.TheConstants.{STEP_LIMIT};
 ghost use Rattle.tau_tree.specs.Sound.{Sound};
 ghost use Rattle.tau_trace.specs.Run.{len};
 ghost use Rattle.tau_legal.specs.Ends.{EndsAt};
+ghost use Rattle.tau_book.specs.declared.limits.TheConstants.{JOB_LIMIT};
 ghost use Rattle.tau_book.specs.Books.{IsComplete, IsAtLimit};
 ghost use Rattle.tau_book.specs.SerialRun.{IsSerialRun};
 ghost use Rattle.tau_book.specs.Inner.Working.{IsAtWork, HasChosen, Works, WorksOn, IsSameWork};
@@ -14,8 +15,8 @@ use tau_clean::MarkedHearing;
 use tau_eval::Job;
 use tau_tree::Program;
 
-/// The serial run of a program (docs/definitions.md, "Serial run") by one worker with room for 1 to 16 jobs, whose words are those of
-/// `Pcg32` seeded with `seed`, up to `limit` steps. The error is want of memory.
+/// The serial run of a program (docs/definitions.md, "Serial run") by one worker with room for 1 to `JOB_LIMIT` jobs, whose
+/// words are those of `Pcg32` seeded with `seed`, up to `limit` steps. The error is want of memory.
 pub fn run_serially(
     alloc: Global,
     program: &Program,
@@ -25,7 +26,7 @@ pub fn run_serially(
 ) -> Result<Ran, AllocError>
     requires sound { Sound program.now }
     requires some { 1 ≤ jobs }
-    requires few { jobs ≤ 16 }
+    requires few { jobs ≤ JOB_LIMIT }
     requires limit { limit ≤ STEP_LIMIT }
     ensures serial { IfOk result (λ r. IsSerialRun program.now jobs seed limit r.trace.run) }
     ensures ends { IfOk result (λ r. EndsAt limit program.now r.trace.run r.is_complete) }

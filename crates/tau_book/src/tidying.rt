@@ -2,6 +2,7 @@
 ghost use Rattle.std.specs.Prelude.{◌≡◌, ◌<◌, ◌≤◌, ◌++◌, length};
 ghost use Rattle.std.specs.Option.{option_to_list};
 ghost use Rattle.std.specs.Vec.{vec_capacity};
+ghost use Rattle.tau_book.specs.declared.limits.TheConstants.{JOB_LIMIT};
 ghost use Rattle.tau_book.specs.Books.{AreOfDifferentTurns};
 ghost use Rattle.tau_book.specs.Offers.{jobs_with, store_without, earliest, without};
 
@@ -13,7 +14,7 @@ use tau_eval::Job;
 pub(crate) fn count_jobs(turns: &[u32], hand: &Hand<'_>, store: &[Job<'_>]) -> usize
     ensures count { result ≡ length (jobs_with turns.now hand.now store.now) }
     ensures within { result ≤ hand.now.size }
-    ensures few { hand.now.size ≤ 16 }
+    ensures few { hand.now.size ≤ JOB_LIMIT }
 {
     let own = hand.count_open(turns);
     if own < hand.size() && count_open(turns, store) > 0 {

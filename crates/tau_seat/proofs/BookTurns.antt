@@ -4,11 +4,11 @@ use Rattle.std.specs.Prelude.{Result, Ok, Err, IfOk, OnErr}
 use Rattle.tau_tree.specs.declared.programs.Program.{Program}
 use Rattle.tau_trace.specs.declared.step.Step.{Step}
 use Rattle.tau_trace.specs.Run.{Run}
-use Rattle.tau_trace.specs.declared.step.Step.TheVariants.{Take, Drop, Fall, Void}
+use Rattle.tau_trace.specs.declared.step.Step.TheVariants.{Take, Drop, Fall, Void, Echo, Heed}
 use Rattle.tau_rules.specs.System.{Core, with_step}
 use Rattle.tau_rules.specs.Answers.{IsDelivered}
 use Rattle.tau_rules.specs.declared.answers.Delivered.{Delivered}
-use Rattle.tau_rules.specs.declared.answers.Delivered.TheVariants.{Began, Dropped, Fell, Voided}
+use Rattle.tau_rules.specs.declared.answers.Delivered.TheVariants.{Began, Dropped, Fell, Voided, Echoed, Heeded}
 use Rattle.tau_book.specs.declared.answers.Next.{Next}
 use Rattle.tau_book.specs.declared.answers.Next.TheVariants as nexts
 use Rattle.tau_book.specs.declared.answers.Told.{Told}
@@ -31,6 +31,8 @@ delivered_step o n m (Began job) d = (Take job.who m, d.appended)
 delivered_step o n m Dropped d = (Drop d.0 m, d.1)
 delivered_step o n m Fell d = (Fall d.0 m, d.1)
 delivered_step o n m Voided d = (Void d.0 m, d.1)
+delivered_step o n m Echoed d = (Echo d.0 m, d.1)
+delivered_step o n m Heeded d = (Heed d.0 m, d.1)
 
 next_appends : (b c : Booked) (h k : Held) (a : Next) → IsNext b c h k a → Appends (appends a) b c
 next_appends b c h k nexts.Complete n = (ap (λ x. x.system) n.1, ap (λ x. x.limit) n.1)

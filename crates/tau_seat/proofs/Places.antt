@@ -1,13 +1,15 @@
 -- Places on seats, and the end that they were told.
-use Rattle.std.proofs.Common.{◌≡◌, ◌≤◌, ◌<◌, ℕ, Bool, true, false, List, [], ◌∷◌, ◌++◌, length, Option, Some, None, append-nil, append_assoc, refl, sym, ap, ◌∙◌, subst}
+use Rattle.std.proofs.Common.{◌≡◌, ◌≤◌, ◌<◌, ℕ, Bool, true, false, true≢false, List, [], ◌∷◌, ◌++◌, length, Option, Some, None, append-nil, append_assoc, refl, sym, ap, ◌∙◌, subst}
+use Rattle.std.specs.Prelude.{Result, Ok, Err, IsErr}
 use Rattle.tau_tree.specs.declared.programs.Program.{Program}
 use Rattle.tau_trace.specs.declared.step.Step.{Step}
 use Rattle.tau_legal.specs.Traces.{Complete}
 use Rattle.tau_book.specs.declared.answers.Next.{Next}
 use Rattle.tau_book.specs.declared.answers.Next.TheVariants as nexts
-use Rattle.tau_seat.specs.Lists.{bare, Begins}
+use Rattle.tau_seat.specs.Lists.{times, bare, Begins}
 use Rattle.tau_seat.specs.Keys.{run_of}
-use Rattle.tau_seat.specs.Seated.{Seated, Stays, EndsWith}
+use Rattle.tau_seat.specs.Seated.{Seated, mine_of, Stays, Watches, Makes, Grows, EndsWith}
+use Rattle.tau_seat.specs.Answers.{appends, has_stepped}
 use Rattle.tau_seat.specs.SeatPlaces.{HasEnded, completeness_told}
 
 pub stays_itself : (s : Seated) → Stays s s
@@ -38,3 +40,33 @@ told_end s nexts.Stopped h = (s.seen, ([], sym (append-nil s.seen)), h.0, h.1)
 told_end s (nexts.Idle out) h = tt
 told_end s (nexts.Work job) h = tt
 told_end s nexts.Stepped h = tt
+
+pub watches_itself : (s : Seated) → Watches s s
+watches_itself s = record { others = []; seen_is = sym (append-nil s.seen); mine_is = refl }
+
+-- what a seat makes after it has watched, it makes in all
+pub grows_longer : (g : Bool) (a b c : Seated) → b.numbers ≡ a.numbers → Watches a b → Grows g b c → Grows g a c
+grows_longer true a b c same w m =
+    let seen : b.seen ++ m.others ≡ a.seen ++ (w.others ++ m.others) = ap (λ l. l ++ m.others) w.seen_is ∙ append_assoc a.seen w.others m.others in
+    record {
+      others = w.others ++ m.others;
+      step = m.step;
+      owner = m.owner;
+      seen_is = m.seen_is ∙ ap (λ l. l ++ (m.step, m.owner) ∷ []) seen;
+      owner_is = subst (λ (ns : List ℕ). 0 < times m.owner ns) same m.owner_is;
+      mine_is = m.mine_is ∙ ap (λ l. l ++ length (b.seen ++ m.others) ∷ []) w.mine_is ∙ ap (λ l. mine_of a ++ length l ∷ []) seen;
+    }
+grows_longer false a b c same w v = record {
+  others = w.others ++ v.others;
+  seen_is = v.seen_is ∙ ap (λ l. l ++ v.others) w.seen_is ∙ append_assoc a.seen w.others v.others;
+  mine_is = v.mine_is ∙ w.mine_is;
+}
+
+-- a seat that is told Idle has made nothing
+pub idle_watches : (a b c : Seated) (answer : Next) (out : ℕ) → b.numbers ≡ a.numbers → answer ≡ nexts.Idle out → Watches a b → Grows (appends answer) b c → Watches a c
+idle_watches a b c answer out same is w g = grows_longer false a b c same w (subst (λ (n : Next). Grows (appends n) b c) is g)
+
+-- an error tells no step
+pub err_watches : {E : Type 0} (r : Result Next E) (old new : Seated) → IsErr r → Watches old new → Grows (has_stepped r) old new
+err_watches (Ok a) old new h w = absurd (true≢false (sym h))
+err_watches (Err e) old new h w = w

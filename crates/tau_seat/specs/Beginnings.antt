@@ -41,7 +41,7 @@ module _ (k : Key) (xs ys : List Step) (h : IsSound k (xs ++ ys)) where
   shorter = omega (arith, length-append xs ys)
 
   well_formed : WellFormed front
-  well_formed = record { opening = h.well_formed.opening; known = known; few_steps = (let a = shorter in let b = h.well_formed.few_steps in omega (arith, a, b)) }
+  well_formed = record { opening = h.well_formed.opening; known = known; versions = λ j s e. h.well_formed.versions j s (there j s e); few_steps = (let a = shorter in let b = h.well_formed.few_steps in omega (arith, a, b)) }
 
   legal : (j : ℕ) (s : Step) → step_at front j ≡ Some s → IsLegal k.program front j s
   legal j s e = let t = there j s e in legal_same k.program whole front j s h.well_formed well_formed (agree_at j s e) (h.well_formed.known j s t) (h.legal.steps j s t)

@@ -1,10 +1,11 @@
 //! A seat as the place of a worker.
-ghost use Rattle.std.specs.Prelude.{◌≡◌, None, IfOk, OnErr};
-ghost use Rattle.tau_book.specs.Places.{IsNotIdle, LeavesRoom};
+ghost use Rattle.std.specs.Prelude.{◌≡◌, ◌<◌, [], None, IsSome, IfOk, IfErr, OnErr, length};
+ghost use Rattle.tau_book.specs.Places.{EndsBy, IsNotIdle, LeavesRoom, ComesBack};
 ghost use Rattle.tau_book.specs.Lefts.{IsLeftOf};
 ghost use Rattle.tau_seat.specs.Lists.{Begins};
-ghost use Rattle.tau_seat.specs.Seated.{Stays, EndsWith};
-ghost use Rattle.tau_seat.specs.SeatPlaces.{HasEnded, IsSeenOver, completeness_told};
+ghost use Rattle.tau_seat.specs.Seated.{Stays, Watches, Grows, EndsWith};
+ghost use Rattle.tau_seat.specs.SeatPlaces.{HasEnded, IsSeenOver, completeness_told, key_of_place, end_of};
+ghost use Rattle.tau_seat.specs.Answers.{has_stepped, has_made};
 
 use crate::seat_book::{BookSeat, SeatBook};
 use std::alloc::AllocError;
@@ -77,7 +78,17 @@ impl<'a, 'p, K: Knowledge + Drop> StepPlace<'p> for SeatPlace<'a, 'p, K> {
 
     ghost sees_over = { λ p q job. IsSeenOver p.seat q.seat job };
 
-    fn next<R: Wait>(&mut self, rt: &R, hand: &mut Hand<'p>) -> Result<Next<'p>, AllocError> {
+    // As of each place, and the seat has made a step where the answer tells one, and none where it doesn't.
+    fn next<R: Wait>(&mut self, rt: &R, hand: &mut Hand<'p>) -> Result<Next<'p>, AllocError>
+        ensures key { key_of_place self.new ≡ key_of_place self.old }
+        ensures end { IfOk result (EndsBy (end_of self.new.is_complete)) }
+        ensures stays { IsSome (end_of self.old.is_complete) → end_of self.new.is_complete ≡ end_of self.old.is_complete }
+        ensures never_idle { IfOk result IsNotIdle }
+        ensures room { IfOk result (LeavesRoom hand.new) }
+        ensures hand_on_err { OnErr result (IsLeftOf (IsSeenOver self.old.seat self.new.seat) hand.old hand.new) }
+        ensures size { hand.new.size ≡ hand.old.size }
+        ensures step { Grows (has_stepped result) self.old.seat self.new.seat }
+    {
         match self.is_complete {
             Some(true) => return Ok(Next::Complete),
             Some(false) => return Ok(Next::Stopped),
@@ -93,11 +104,26 @@ impl<'a, 'p, K: Knowledge + Drop> StepPlace<'p> for SeatPlace<'a, 'p, K> {
         rt: &R,
         hand: &mut Hand<'p>,
         pending: Pending<'p>,
-    ) -> Result<Told<'p>, (Pending<'p>, AllocError)> {
+    ) -> Result<Told<'p>, (Pending<'p>, AllocError)>
+        requires room { length hand.old.jobs < hand.old.size }
+        ensures key { key_of_place self.new ≡ key_of_place self.old }
+        ensures stays { IsSome (end_of self.old.is_complete) → end_of self.new.is_complete ≡ end_of self.old.is_complete }
+        ensures later { IfOk result (ComesBack hand.old hand.new pending.entry) }
+        ensures pending_on_err { IfErr result (λ e. e.0 ≡ pending.entry) }
+        ensures hand_on_err { OnErr result (hand.new ≡ hand.old) }
+        ensures size { hand.new.size ≡ hand.old.size }
+        ensures step { Grows (has_made result) self.old.seat self.new.seat }
+    {
         self.table.act(rt, &mut self.seat, hand, pending)
     }
 
-    fn give_back<R: Wait>(&mut self, rt: &R, hand: &mut Hand<'p>) {
+    fn give_back<R: Wait>(&mut self, rt: &R, hand: &mut Hand<'p>)
+        ensures key { key_of_place self.new ≡ key_of_place self.old }
+        ensures stays { IsSome (end_of self.old.is_complete) → end_of self.new.is_complete ≡ end_of self.old.is_complete }
+        ensures empty { hand.new.jobs ≡ [] }
+        ensures size { hand.new.size ≡ hand.old.size }
+        ensures step { Watches self.old.seat self.new.seat }
+    {
         self.table.give_back(rt, &mut self.seat, hand);
     }
 }
@@ -112,6 +138,7 @@ fn ask<'p, K: Knowledge + Drop, R: Wait>(
     requires table { seat.old.table ≡ table.now.table }
     ensures stays { Stays seat.old seat.new }
     ensures prefix { Begins seat.old.seen seat.new.seen }
+    ensures step { Grows (has_stepped result) seat.old seat.new }
     ensures end { IfOk result (EndsWith seat.new) }
     ensures never_idle { IfOk result IsNotIdle }
     ensures room { IfOk result (LeavesRoom hand.new) }

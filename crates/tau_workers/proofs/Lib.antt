@@ -1,3 +1,4 @@
 pub mod Sends
 pub mod Joins
 pub mod SeatSends
+pub mod Going

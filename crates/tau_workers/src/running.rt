@@ -1,9 +1,11 @@
 //! The run that several workers make of a program.
-ghost use Rattle.std.specs.Prelude.{◌≤◌, IfOk, IfSome};
+ghost use Rattle.std.specs.Prelude.{◌≤◌, IfOk};
 ghost use Rattle.tau_value.specs.declared.limits.TheConstants.{STEP_LIMIT};
 ghost use Rattle.tau_tree.specs.Sound.{Sound};
 ghost use Rattle.tau_legal.specs.Ends.{EndsAt};
+ghost use Rattle.tau_book.specs.declared.limits.TheConstants.{JOB_LIMIT};
 
+use crate::alone::finish;
 use crate::gates::Gate;
 use crate::seats::work;
 use std::alloc::{AllocError, Global};
@@ -23,13 +25,13 @@ pub struct Settings {
     pub limit: u32,
 }
 
-/// A run of a program by at least one worker, each with room for 1 to 16 jobs, up to `limit` steps (docs/rules.md, "Workers"). Worker
-/// `w`, counted from 0, chooses by the words of `Pcg32` seeded with `seed + w`, wrapping around. Which legal trace comes of it isn't
-/// said. The error is want of memory.
+/// A run of a program by at least one worker, each with room for 1 to `JOB_LIMIT` jobs, up to `limit` steps (docs/rules.md,
+/// "Workers"). Worker `w`, counted from 0, chooses by the words of `Pcg32` seeded with `seed + w`, wrapping around. Which legal
+/// trace comes of it isn't said. The error is want of memory.
 ///
 /// Each worker has a seat with one number at the book (docs/rules.md, "Seats"). The seats are joined, and the book that comes back is of
 /// this program and this limit. Where it is finished, it is the answer, also where a worker was short of memory, since others have then
-/// finished the run. Where it isn't, every worker was short.
+/// finished the run. Where it isn't, every worker was short, and the caller goes on alone, as [`finish`] does.
 pub fn run_workers<R: Threads + Wait + Sync, G: Gate + Sync>(
     rt: &R,
     alloc: Global,
@@ -40,7 +42,7 @@ pub fn run_workers<R: Threads + Wait + Sync, G: Gate + Sync>(
     requires sound { Sound program.now }
     requires some { 1 ≤ settings.workers }
     requires jobs { 1 ≤ settings.jobs }
-    requires few { settings.jobs ≤ 16 }
+    requires few { settings.jobs ≤ JOB_LIMIT }
     requires limit { settings.limit ≤ STEP_LIMIT }
     ensures ends { IfOk result (λ r. EndsAt settings.limit program.now r.trace.run r.is_complete) }
 {
@@ -49,19 +51,5 @@ pub fn run_workers<R: Threads + Wait + Sync, G: Gate + Sync>(
         return Err(AllocError);
     };
     let seat = work(rt, alloc, &table, seat, settings, gate)?;
-    match made(table.close(seat)) {
-        Some(ran) => Ok(ran),
-        None => Err(AllocError),
-    }
-}
-
-/// What was made, where the book is finished.
-fn made(book: Book<'_, MarkedHearing>) -> Option<Ran>
-    ensures ends { IfSome result (λ r. EndsAt book.entry.limit book.entry.system.program r.trace.run r.is_complete) }
-{
-    // What holds of the book.
-    let _system = book.system();
-    let is_complete = book.finished()?;
-    let trace = book.into_trace();
-    Some(Ran { trace, is_complete })
+    finish(alloc, table.close(seat), settings.seed, settings.jobs)
 }

@@ -1,5 +1,6 @@
 //! Workers that each have a seat at a book.
 ghost use Rattle.std.specs.Prelude.{◌≡◌, ◌≤◌, ◌<◌, IfOk, All, map, length};
+ghost use Rattle.tau_book.specs.declared.limits.TheConstants.{JOB_LIMIT};
 ghost use Rattle.tau_workers.specs.Inner.Hands.{opening_hand, opening_hands};
 ghost use Rattle.tau_workers.specs.Inner.Seats.{IsSeatOf, HasOne};
 
@@ -26,7 +27,7 @@ pub fn work<'b, 'p, R: Threads + Wait + Sync, G: Gate + Sync>(
     requires numbers { length seat.numbers ≡ settings.workers }
     requires some { 1 ≤ settings.workers }
     requires jobs { 1 ≤ settings.jobs }
-    requires few { settings.jobs ≤ 16 }
+    requires few { settings.jobs ≤ JOB_LIMIT }
     ensures seat { IfOk result (IsSeatOf table.entry.now) }
     ensures numbers { IfOk result (λ s. length s.numbers ≡ settings.workers) }
 {
@@ -46,7 +47,7 @@ fn make_workers<'b, 'p>(
     requires numbers { length seat.numbers ≡ settings.workers }
     requires some { 1 ≤ settings.workers }
     requires jobs { 1 ≤ settings.jobs }
-    requires few { settings.jobs ≤ 16 }
+    requires few { settings.jobs ≤ JOB_LIMIT }
     ensures hands { IfOk result (λ ws. map (λ w. w.hand) ws.items ≡ opening_hands settings.seed settings.jobs settings.workers) }
     ensures many { IfOk result (λ ws. length ws.items ≡ settings.workers) }
     ensures ones { IfOk result (λ ws. All (λ w. HasOne table.entry.now w.place) ws.items) }
@@ -73,7 +74,7 @@ fn make_worker<'b, 'p>(
 ) -> Result<Worker<'p, SeatPlace<'b, 'p, MarkedHearing>>, AllocError>
     requires seat { IsSeatOf table.now seat }
     requires jobs { 1 ≤ settings.jobs }
-    requires few { settings.jobs ≤ 16 }
+    requires few { settings.jobs ≤ JOB_LIMIT }
     ensures hand { IfOk result (λ w. w.hand ≡ opening_hand settings.seed settings.jobs number) }
     ensures seat { IfOk result (λ w. w.place.seat ≡ seat.entry) }
 {
@@ -89,7 +90,7 @@ fn make_worker<'b, 'p>(
 /// The hand of a worker before its first step.
 fn make_hand<'p>(alloc: Global, settings: Settings, number: u32) -> Result<Hand<'p>, AllocError>
     requires jobs { 1 ≤ settings.jobs }
-    requires few { settings.jobs ≤ 16 }
+    requires few { settings.jobs ≤ JOB_LIMIT }
     ensures { IfOk result (λ h. h ≡ opening_hand settings.seed settings.jobs number) }
 {
     Hand::new(

@@ -10,13 +10,8 @@ use Rattle.tau_rules.specs.Answers.{IsOpenJob}
 use Rattle.tau_scripted.specs.OpenTurns.{IsOpenFrom}
 use Rattle.tau_book.specs.Hands.{Held}
 use Rattle.tau_book.specs.Books.{Booked, GoesOn}
+use Rattle.tau_book.specs.Adopted.{HasJobFrom}
 use Rattle.tau_book.specs.SerialRun.{Choosable, turn, AreOptions, ComesAbout}
-
--- a job of the turn from a place is among the jobs
-pub record HasJobFrom (js : List jobs.TurnSoFar) (place : ℕ) : Type 0 where
-  pub job : jobs.TurnSoFar
-  pub among : Contains js job
-  pub from : job.place ≡ place
 
 -- the jobs are of different turns, those of open turns are their records, and each open turn has one
 pub record AreJobs (P : Program) (T : Run) (js : List jobs.TurnSoFar) : Type 0 where

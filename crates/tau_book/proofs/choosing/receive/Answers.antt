@@ -12,7 +12,7 @@ returns-clause-ok g c = λ limit below.
     let h : Held = c.args.hand.now in
     let turns : List ℕ = take c.open_turns-turns.result c.turns.result.now in
     let same : turns ≡ s.turns = (λ i. take (c.open_turns-turns.ensures i) (c.turns.ensures.value i)) ∙ c.in_ok-delivered.ensures.turns in
-    is_received s limit c.args.store.now.items h c.requires.turns c.requires.messages c.requires.none_due below c.deliver.new.self turns c.reserve.new.self.items c.tidy.new.store.items c.tidy.new.hand
+    is_received s limit c.args.store.now.items h c.requires.can.turns_are c.requires.can.messages_are c.requires.can.none_due below c.deliver.new.self turns c.reserve.new.self.items c.tidy.new.store.items c.tidy.new.hand
     c.take_in.new.self c.args.number c.args.generator c.in_ok-delivered.delivered same c.in_ok-reserve.ensures.items c.requires.number c.requires.drawn c.requires.generator c.in_ok-delivered.ensures.ok
     c.tidy.ensures.store c.tidy.ensures.hand c.take_in.ensures
 

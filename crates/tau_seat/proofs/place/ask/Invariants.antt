@@ -1,7 +1,7 @@
 use Rattle.std.proofs.Common.{◌≡◌}
 use Rattle.tau_book.specs.Lefts.{IsLeftOf}
 use Rattle.tau_seat.specs.Lists.{Begins}
-use Rattle.tau_seat.specs.Seated.{Stays}
+use Rattle.tau_seat.specs.Seated.{Stays, Watches}
 use Rattle.tau_seat.specs.SeatPlaces.{IsSeenOver}
 use Rattle.tau_seat.proofs.place.ask.Given as goal
 
@@ -11,6 +11,7 @@ invariant-loop g l = record {
   is_finite : (goal.iterator-loop g).is_finite l.iterator';
   stays : Stays l.fn.seat l.seat;
   prefix : Begins l.fn.seat.seen l.seat.seen;
+  watches : Watches l.fn.seat l.seat;
   size : l.hand.size ≡ l.fn.hand.size;
   left : IsLeftOf (IsSeenOver l.fn.seat l.seat) l.fn.hand l.hand;
 }

@@ -1,0 +1,5 @@
+use Rattle.tau_workers.specs.Alone.{GoesOnFrom}
+use Rattle.tau_workers.proofs.alone.go_on.Given as goal
+
+abbrev pub invariant-loop : goal.invariant-loop
+invariant-loop l = GoesOnFrom l.fn.book l.book
