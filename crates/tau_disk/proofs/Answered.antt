@@ -1,9 +1,9 @@
 -- What follows from the answer of a call of a disk in memory, whatever it is.
-use Rattle.std.proofs.Common.{◌≡◌, ℕ, List, [], ◌∷◌, ◌++◌, length, take, refl, sym, ◌∙◌, ap, subst}
+use Rattle.std.proofs.Common.{◌≡◌, ℕ, List, length, sym, ◌∙◌, ap, subst}
 use Rattle.std.specs.Prelude.{Some, Result, Ok, Err, OnOk, IsErrOf}
 use Rattle.tau_disk.specs.Bytes.{overwritten, Torn, Follows}
 use Rattle.tau_disk.specs.Moments.{Elapses}
-use Rattle.tau_disk.specs.Calls.{held, TornFrom, IsImage, WasImage, AreWithin}
+use Rattle.tau_disk.specs.Calls.{held, TornFrom, IsImage, WasImage}
 use Rattle.tau_disk.specs.Inner.{torn_same}
 use Rattle.tau_disk.specs.Memory.{DiskState, Calls}
 use Rattle.tau_disk.specs.declared.disks.DiskError.{DiskError}

@@ -1,3 +1,4 @@
 pub mod Answered
 pub mod Moments
 pub mod Pushed
+pub mod Stopped

@@ -1,15 +1,12 @@
 -- One call more of a disk in memory.
-use Rattle.std.proofs.Common.{◌≡◌, ◌⊎◌, inl, inr, ⊎_elim, ℕ, ◌+◌, ◌≤◌, ◌<◌, List, [], ◌∷◌, ◌++◌, length, take, refl, sym, ◌∙◌, ap, subst, arith, length-append}
-use Rattle.std.specs.Prelude.{true, Result, Ok, Err}
+use Rattle.std.proofs.Common.{◌≡◌, inl, inr, ⊎_elim, ℕ, List, [], ◌∷◌, ◌++◌, length, refl, sym, ◌∙◌, ap, subst, arith, length-append}
+use Rattle.std.specs.Prelude.{true}
 use Rattle.std.proofs.lemmas.List.{take-append-le, take_all}
 use Rattle.std.proofs.lemmas.Bool.{cases_lt}
-use Rattle.tau_disk.specs.Bytes.{overwritten, Torn}
+use Rattle.tau_disk.specs.Bytes.{overwritten}
 use Rattle.tau_disk.specs.Moments.{Elapses}
 use Rattle.tau_disk.specs.Calls.{held, TornFrom, Left, IsImage, WasImage, AreWithin}
-use Rattle.tau_disk.specs.Inner.{is_quiet, IsWithin, reads_as_held}
-use Rattle.tau_disk.specs.Memory.{DiskState, Calls}
-use Rattle.tau_disk.specs.declared.disks.DiskError.{DiskError}
-use Rattle.tau_disk.specs.declared.disks.DiskError.TheVariants.{Failed, NoMemory}
+use Rattle.tau_disk.specs.Inner.{is_quiet, IsWithin}
 use Rattle.tau_disk.specs.declared.memory_disk.Call.{Call}
 use Rattle.tau_disk.specs.declared.memory_disk.Call.TheVariants.{Looked, Wrote, Tore, Synced}
 

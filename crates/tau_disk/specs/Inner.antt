@@ -1,9 +1,8 @@
 -- What contracts of inner functions say, and the three laws that the trait of disks wants of a disk in memory.
 use Rattle.std.proofs.Common.{◌≡◌, ℕ, ◌+◌, ◌≤◌, List, [], ◌∷◌, ◌++◌, length, take, drop, refl, sym, ap, ◌∙◌, subst, arith, append_assoc, length-append, length-take, length-drop}
-use Rattle.std.specs.Prelude.{max, Option, Some, None, Bool, true, false, ⊤}
+use Rattle.std.specs.Prelude.{Option, Some, None, Bool, true, false, ⊤}
 use Rattle.std.specs.Coded.{×_prop, Unit-prop, le_prop}
 use Rattle.std.proofs.lemmas.List.{take_all, take_at, drop_at}
-use Rattle.tau_io.specs.Faults.{one_more}
 use Rattle.tau_disk.specs.Bytes.{overwritten, Torn}
 use Rattle.tau_disk.specs.Calls.{held, TornFrom, Left, IsImage, WasImage, AreWithin}
 use Rattle.tau_disk.specs.declared.memory_disk.Call.{Call}

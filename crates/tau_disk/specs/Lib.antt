@@ -4,3 +4,4 @@ pub mod Inner
 pub mod Memory
 pub mod Moments
 pub mod Noted
+pub mod Stops

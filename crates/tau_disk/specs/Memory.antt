@@ -1,12 +1,10 @@
 -- What a contract sees of a disk in memory.
-use Rattle.std.specs.Prelude.{◌≡◌, ℕ, ◌≤◌, List, [], ◌∷◌, ◌++◌, length, take, Contains, Option, Some, None, Result, Ok, Err}
+use Rattle.std.specs.Prelude.{◌≡◌, ℕ, List, [], ◌∷◌, ◌++◌, length, Contains, Result, Ok, Err}
 use Rattle.tau_io.specs.Faults.{one_more}
-use Rattle.tau_disk.specs.Bytes.{overwritten}
-use Rattle.tau_disk.specs.Calls.{held, IsImage, WasImage}
+use Rattle.tau_disk.specs.Calls.{held}
 use Rattle.tau_disk.specs.declared.disks.DiskError.{DiskError}
 use Rattle.tau_disk.specs.declared.disks.DiskError.TheVariants.{Failed, NoMemory}
 use Rattle.tau_disk.specs.declared.memory_disk.Call.{Call}
-use Rattle.tau_disk.specs.declared.memory_disk.Call.TheVariants.{Looked, Wrote, Tore, Synced}
 use Rattle.tau_disk.specs.declared.memory_disk.MemoryDisk.{MemoryDisk}
 
 -- the bytes at first, the calls so far, the numbers of the calls that fail, and the count of faults
@@ -29,19 +27,3 @@ abbrev pub Calls : {X : Type 0} → DiskState → Result X DiskError → Call �
 Calls old (Ok x) done torn new = (¬ Contains old.fails (length old.calls)) × (new ≡ record old { calls = old.calls ++ done ∷ [] })
 Calls old (Err Failed) done torn new = Contains old.fails (length old.calls) × (new ≡ record old { calls = old.calls ++ torn ∷ []; faults = one_more old.faults })
 Calls old (Err NoMemory) done torn new = new ≡ old
-
--- the call was a write of at least so many bytes
-abbrev pub IsWrite : ℕ → Option Call → Type 0
-IsWrite kept (Some (Wrote at bytes)) = kept ≤ length bytes
-IsWrite kept (Some (Tore at bytes)) = kept ≤ length bytes
-IsWrite kept (Some Looked) = ⊥
-IsWrite kept (Some Synced) = ⊥
-IsWrite kept None = ⊥
-
--- the bytes with so many of the call's written over them, where it was a write
-abbrev pub stopped_by : ℕ → Option Call → List ℕ → List ℕ
-stopped_by kept (Some (Wrote at bytes)) b = overwritten b at (take kept bytes)
-stopped_by kept (Some (Tore at bytes)) b = overwritten b at (take kept bytes)
-stopped_by kept (Some Looked) b = b
-stopped_by kept (Some Synced) b = b
-stopped_by kept None b = b

@@ -101,6 +101,7 @@ impl<'r, R: Files<File = File>> Place<'r, R> {
     fn read(&mut self, at: u64, into: &mut [u8]) -> io::Result<()> {
         match self.opened()? {
             Some(file) => file.read_exact_at(into, at),
+            None if into.is_empty() => Ok(()),
             None => Err(io::Error::from(ErrorKind::UnexpectedEof)),
         }
     }

@@ -1,9 +1,10 @@
 //! A disk in memory, which tells everything and fails at chosen calls.
-ghost use Rattle.std.specs.Prelude.{◌≡◌, ◌≤◌, ◌↔◌, ℕ, List, [], ◌++◌, ◌+◌, IsTrue, true, Contains, IfOk, IfSome, OnOk, OnErr, IsErrOf, length, take, slice_get, option_map};
+ghost use Rattle.std.specs.Prelude.{◌≡◌, ◌≤◌, ◌↔◌, ℕ, List, [], ◌++◌, ◌∷◌, ◌+◌, Some, IsTrue, true, Contains, IfOk, IfSome, OnOk, OnErr, IsErrOf, length, take, slice_get, option_map};
 ghost use Rattle.tau_io.specs.Faults.{HasRisen, one_more};
 ghost use Rattle.tau_disk.specs.Bytes.{overwritten, Writes, Reads, Torn, Follows, Only};
 ghost use Rattle.tau_disk.specs.Calls.{held, IsImage, WasImage, AreWithin};
 ghost use Rattle.tau_disk.specs.Inner.{present_or, is_quiet, IsWithin, AreWithin-prop, reads_as_held, counts_now_in, only_now_in};
+ghost use Rattle.tau_disk.specs.Stops.{IsWrite, write_length, stopped_by};
 ghost use Rattle.tau_disk.specs.Moments.{Elapses};
 
 use crate::disks::{Disk, DiskError};
@@ -177,8 +178,84 @@ impl MemoryDisk {
     }
 }
 
+impl MemoryDisk {
+    ghost use Rattle.tau_disk.specs.Memory.{state_of};
+
+    /// How many bytes call `call` wrote, or would have written where it failed; `None` where it was no write, or wasn't made.
+    pub fn write_len(&self, call: u32) -> Option<usize>
+        ensures length { result ≡ write_length (slice_get (state_of self.now).calls call) }
+        ensures at_most { IfSome result (λ n. (kept : ℕ) → kept ≤ n → IsWrite kept (slice_get (state_of self.now).calls call)) }
+    {
+        match self.calls.get(call as usize)? {
+            Call::Wrote { bytes, .. } => Some(bytes.bytes.len()),
+            Call::Tore { bytes, .. } => Some(bytes.bytes.len()),
+            Call::Looked => None,
+            Call::Synced => None,
+        }
+    }
+
+    /// The disk that a stop within call `call` leaves, which was a write, where the first `kept` of its bytes were written:
+    /// all writes before it that succeeded, and these bytes. None of its calls fails. Its bytes are one of the images after
+    /// that call (`docs/rules.md`, "Disks"). The error is want of memory.
+    pub fn stopped(&self, call: u32, kept: usize) -> Result<MemoryDisk, AllocError>
+        requires { IsWrite kept (slice_get (state_of self.now).calls call) }
+        ensures stopped { IfOk result (λ d. state_of d ≡ record {
+          first = stopped_by kept (slice_get (state_of self.now).calls call) (held (state_of self.now).first (take call (state_of self.now).calls));
+          calls = [];
+          fails = [];
+          faults = 0;
+        }) }
+        ensures image { IfOk result (λ d. IsImage (state_of self.now).first (take (call + 1) (state_of self.now).calls) (state_of d).first) }
+    {
+        let before = self.held_before(call as usize)?;
+        let first = written_by(self.alloc, &self.calls[call as usize], &before, kept)?;
+        Ok(MemoryDisk::new(self.alloc, first, Vec::new(self.alloc)))
+    }
+
+    /// The bytes that a read gave before call `count`.
+    fn held_before(&self, count: usize) -> Result<Vec<u8>, AllocError>
+        requires { count ≤ length self.now.calls.items }
+        ensures { IfOk result (λ v. v.items ≡ held self.now.first.items (take count self.now.calls.items)) }
+    {
+        let mut bytes = self.first.as_slice().to_vec(self.alloc)?;
+        for call in &self.calls[..count] {
+            bytes = held_then(self.alloc, call, bytes)?;
+        }
+        Ok(bytes)
+    }
+}
+
+/// The bytes that a read gives after one call more.
+fn held_then(alloc: Global, call: &Call, bytes: Vec<u8>) -> Result<Vec<u8>, AllocError>
+    requires { IsWithin call.now bytes.items }
+    ensures { IfOk result (λ v. v.items ≡ held bytes.items (call.now ∷ [])) }
+{
+    match call {
+        Call::Wrote { at, bytes: piece } => written_over(alloc, &bytes, *at as usize, &piece.bytes),
+        _ => Ok(bytes),
+    }
+}
+
+/// The bytes with the first `kept` of a write written over them.
+fn written_by(alloc: Global, call: &Call, bytes: &[u8], kept: usize) -> Result<Vec<u8>, AllocError>
+    requires write { IsWrite kept (Some call.now) }
+    requires within { IsWithin call.now bytes.now }
+    ensures { IfOk result (λ v. v.items ≡ stopped_by kept (Some call.now) bytes.now) }
+{
+    match call {
+        Call::Wrote { at, bytes: piece } => {
+            written_over(alloc, bytes, *at as usize, &piece.bytes[..kept])
+        }
+        Call::Tore { at, bytes: piece } => {
+            written_over(alloc, bytes, *at as usize, &piece.bytes[..kept])
+        }
+        Call::Looked => unreachable!(),
+        Call::Synced => unreachable!(),
+    }
+}
+
 impl Disk for MemoryDisk {
-    ghost use Rattle.std.specs.Prelude.{Some, length};
+    ghost use Rattle.std.specs.Prelude.{length};
     ghost use Rattle.tau_disk.specs.Memory.{state_of, Calls};
 
     ghost bytes = { λ m. Some (held m.first.items m.calls.items) };

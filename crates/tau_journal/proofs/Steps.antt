@@ -1,12 +1,11 @@
 -- What a crash leaves in each of the two steps by which a record is appended.
-use Rattle.std.proofs.Common.{◌≡◌, ◌≢◌, ◌⊎◌, inl, inr, ℕ, ◌+◌, ◌≤◌, ◌<◌, List, [], ◌∷◌, ◌++◌, length, get_or, take, drop, All, refl, sym, ◌∙◌, ap, subst, arith, append_assoc, length-append, length-drop, take-append-drop}
+use Rattle.std.proofs.Common.{◌≡◌, ◌≢◌, inl, inr, ℕ, ◌+◌, ◌<◌, List, [], ◌∷◌, ◌++◌, length, get_or, take, drop, All, sym, ◌∙◌, ap, subst, arith, append_assoc, length-append, take-append-drop}
 use Rattle.std.specs.Prelude.{◌^◌}
 use Rattle.std.proofs.lemmas.Bool.{cases_eq}
 use Rattle.std.proofs.lemmas.List.{take_at, drop_at, drop_more, drop-drop}
-use Rattle.std.specs.Int.{w32, to_le_bytes}
 use Rattle.tau_disk.specs.Bytes.{overwritten, Torn}
 use Rattle.tau_journal.specs.Records.{written, HasRecords, AreRecords, IsBeforeOrAfter}
-use Rattle.tau_journal.proofs.Written.{body, length-body, closed_ends, one_more_record}
+use Rattle.tau_journal.proofs.Written.{body, closed_ends, one_more_record}
 
 -- the file with a record behind the closed gate
 abbrev pub staged : List (List ℕ) → ℕ → List ℕ → List ℕ → List ℕ

@@ -1,7 +1,7 @@
 -- Laws of records.
 use Rattle.std.specs.Prelude.{◌≡◌, ℕ, List}
 use Rattle.tau_journal.specs.Records.{HasRecords}
-use Rattle.tau_journal.specs.Damage.{IsDamaged}
+use Rattle.tau_journal.specs.Found.{IsDamaged}
 
 -- a file has one list of records at most
 pub record RecordsAreUnique : Type 0 where

@@ -1,6 +1,7 @@
 pub mod Errors
-pub mod Damage
+pub mod Found
 pub mod Gates
 pub mod Laws
+pub mod Places
 pub mod Records
 pub mod Room

@@ -1,5 +1,5 @@
 -- Records on a disk.
-use Rattle.std.specs.Prelude.{◌≡◌, ◌≢◌, ◌⊎◌, ℕ, ◌+◌, ◌<◌, ◌^◌, List, [], ◌∷◌, ◌++◌, length, All, Option, Some, None, ⊤}
+use Rattle.std.specs.Prelude.{◌≡◌, ◌≢◌, ◌⊎◌, ℕ, ◌<◌, ◌^◌, List, [], ◌∷◌, ◌++◌, length, All, Option, Some, None, ⊤, codes}
 use Rattle.std.specs.Int.{w32, to_le_bytes}
 use Rattle.tau_disk.specs.Bytes.{Only}
 
@@ -35,3 +35,7 @@ AreRecords rs file = (gate : ℕ) × HasRecords rs gate file
 -- the file has these records, with one more or without it
 abbrev pub IsBeforeOrAfter : List (List ℕ) → List ℕ → List ℕ → Type 0
 IsBeforeOrAfter rs r file = AreRecords rs file ⊎ AreRecords (rs ++ r ∷ []) file
+
+-- the record that tells of going on after a stop
+abbrev pub going_on : List ℕ
+going_on = codes "(resumed)" ++ 10 ∷ []

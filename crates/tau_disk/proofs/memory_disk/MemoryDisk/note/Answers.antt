@@ -1,5 +1,4 @@
-use Rattle.std.proofs.Common.{◌≡◌, ◌∙◌, ap, sym, List, ◌++◌, ◌∷◌, [], refl, rules}
-use Rattle.tau_disk.specs.Calls.{held}
+use Rattle.std.proofs.Common.{◌≡◌, ◌∙◌, ◌++◌, ◌∷◌, [], refl, rules}
 use Rattle.tau_disk.proofs.Pushed.{bytes_noted, within_noted, quiet_stays}
 use Rattle.tau_disk.proofs.memory_disk.MemoryDisk.note.Goals as goal
 

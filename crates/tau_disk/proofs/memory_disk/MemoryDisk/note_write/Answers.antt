@@ -1,5 +1,4 @@
-use Rattle.std.proofs.Common.{◌≡◌, ◌∙◌, ap, sym, List, ◌++◌, ◌∷◌, [], refl, rules}
-use Rattle.tau_disk.specs.Calls.{held}
+use Rattle.std.proofs.Common.{◌≡◌, ◌∙◌, sym, ◌++◌, ◌∷◌, [], refl, rules}
 use Rattle.tau_disk.specs.declared.memory_disk.Call.TheVariants.{Wrote}
 use Rattle.tau_disk.proofs.Pushed.{bytes_noted, within_noted}
 use Rattle.tau_disk.proofs.memory_disk.MemoryDisk.note_write.Goals as goal

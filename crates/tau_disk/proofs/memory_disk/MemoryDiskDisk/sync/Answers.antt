@@ -1,8 +1,8 @@
-use Rattle.std.proofs.Common.{◌≡◌, ◌∙◌, ap, ap₂, sym, List, ℕ, ◌++◌, ◌∷◌, [], Option, Some, refl, subst, rules, arith, length, take, drop}
-use Rattle.tau_disk.specs.Calls.{held, IsImage}
-use Rattle.tau_disk.specs.Inner.{reads_as_held, torn_same}
+use Rattle.std.proofs.Common.{ap, sym, Some, refl, subst}
+use Rattle.tau_disk.specs.Calls.{IsImage}
+use Rattle.tau_disk.specs.Inner.{reads_as_held}
 use Rattle.tau_disk.specs.Memory.{state_of}
-use Rattle.tau_disk.specs.declared.memory_disk.Call.TheVariants.{Looked, Wrote, Tore, Synced}
+use Rattle.tau_disk.specs.declared.memory_disk.Call.TheVariants.{Looked, Synced}
 use Rattle.tau_disk.proofs.Answered.{time_goes, bytes_stay, images_stay, durable_after}
 use Rattle.tau_disk.proofs.memory_disk.MemoryDiskDisk.sync.Goals as goal
 

@@ -1,4 +1,4 @@
-use Rattle.std.proofs.Common.{◌≡◌, ap, List, ℕ, Some, subst, sym}
+use Rattle.std.proofs.Common.{ap, Some, subst}
 use Rattle.tau_disk.specs.Calls.{held, IsImage}
 use Rattle.tau_disk.specs.Memory.{DiskState, state_of}
 use Rattle.tau_disk.specs.declared.memory_disk.Call.TheVariants.{Wrote, Tore}

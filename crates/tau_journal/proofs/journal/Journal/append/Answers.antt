@@ -1,8 +1,7 @@
-use Rattle.std.proofs.Common.{◌≡◌, ◌≤◌, ℕ, List, length, ◌++◌, [], ◌∷◌, Option, IfSome, sym, subst, ap, ◌∙◌, rules}
+use Rattle.std.proofs.Common.{ℕ, List, Option, sym, subst}
 use Rattle.tau_disk.proofs.Moments.{joined}
-use Rattle.tau_journal.specs.Records.{TellsRecords, IsAtRest, IsBeforeOrAfter}
-use Rattle.tau_journal.proofs.Appending.{looked, at_rest_still, no_fault_told, room_told, is_no_fault}
-use Rattle.tau_journal.specs.Room.{most_bytes}
+use Rattle.tau_journal.specs.Records.{TellsRecords, IsBeforeOrAfter}
+use Rattle.tau_journal.proofs.Appending.{looked, no_fault_told, room_told, is_no_fault}
 use Rattle.tau_journal.proofs.journal.Journal.append.Goals as goal
 
 pub returns-in_err-test_room-clause-any_moment : goal.returns-in_err-test_room-clause-any_moment

@@ -1,9 +1,7 @@
-use Rattle.std.proofs.Common.{◌≡◌, ◌+◌, ◌≤◌, ◌<◌, ℕ, List, [], ◌∷◌, ◌++◌, Option, Some, None, IfSome, length, refl, sym, ◌∙◌, ap, subst, rules, arith, length-append}
+use Rattle.std.proofs.Common.{◌+◌, ◌<◌, ℕ, List, [], ◌∷◌, ◌++◌, Option, length, refl, sym, ◌∙◌, subst, arith}
 use Rattle.std.specs.Prelude.{◌^◌}
 use Rattle.tau_disk.specs.Bytes.{Writes, Only}
-use Rattle.tau_journal.specs.Records.{TellsRecords, IsAtRest}
-use Rattle.tau_journal.proofs.Written.{body}
-use Rattle.tau_journal.proofs.Appending.{begun, behind, after_sync, staged_is, opened, has_one_more, gate_fits, at_rest_after, at_first}
+use Rattle.tau_journal.proofs.Appending.{begun, behind, after_sync, staged_is, opened, has_one_more, gate_fits, at_rest_after}
 use Rattle.tau_journal.proofs.journal.Journal.write_record.Goals as goal
 
 pub returns-in_err-body-clause-any_moment : goal.returns-in_err-body-clause-any_moment

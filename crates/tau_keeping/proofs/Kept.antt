@@ -1,0 +1,55 @@
+-- What stands on a disk once a step was kept, and in between.
+use Rattle.std.proofs.Common.{◌≡◌, inl, inr, ℕ, List, [], ◌∷◌, ◌++◌, Option, refl, sym, ◌∙◌, subst}
+use Rattle.std.specs.Prelude.{Result, Ok, Err, IfOk}
+use Rattle.tau_tree.specs.declared.programs.Program.{Program}
+use Rattle.tau_trace.specs.declared.step.Step.{Step}
+use Rattle.tau_trace.specs.Run.{Run, appended}
+use Rattle.tau_disk.specs.Moments.{LeavesOnly}
+use Rattle.tau_disk.proofs.Moments.{started, weaker}
+use Rattle.tau_journal.specs.Records.{IsAtRest, TellsRecords, IsBeforeOrAfter, going_on}
+use Rattle.tau_journal.proofs.Appending.{at_first}
+use Rattle.tau_revival.specs.Revival.{IsRevival}
+use Rattle.tau_keeping.specs.Standing.{IsStepText, StandsFor, stepped, resumed, StandsAt, StandsForEither}
+
+-- one record more, and what it makes of program and run
+module _ (P Q : Program) (T U : Run) (r : List ℕ) (more : (rs : List (List ℕ)) → StandsFor rs P T → StandsFor (rs ++ r ∷ []) Q U) where
+  pub stands_then : (old new : Option (List ℕ)) (gate next : ℕ) → ((rs : List (List ℕ)) → TellsRecords old rs gate → TellsRecords new (rs ++ r ∷ []) next) → StandsAt old gate P T → StandsAt new next Q U
+  stands_then old new gate next appends at = record {
+    records = at.records ++ r ∷ [];
+    told = appends at.records at.told;
+    stand = more at.records at.stand;
+  }
+
+  either : (rs : List (List ℕ)) → StandsFor rs P T → (c : List ℕ) → IsBeforeOrAfter rs r c → StandsForEither P T Q U c
+  either rs stand c (inl old) = inl (record { records = rs; are = old; stand = stand })
+  either rs stand c (inr new) = inr (record { records = rs ++ r ∷ []; are = new; stand = more rs stand })
+
+  pub leaves_either : {D : Type 0} (moment : D → ℕ) (left_since : D → ℕ → List ℕ → Type 0) (old new : D) (bytes : Option (List ℕ)) (gate : ℕ)
+      → ((rs : List (List ℕ)) → TellsRecords bytes rs gate → LeavesOnly moment left_since old new (IsBeforeOrAfter rs r)) → StandsAt bytes gate P T
+      → LeavesOnly moment left_since old new (StandsForEither P T Q U)
+  leaves_either moment left_since old new bytes gate leaves at =
+      weaker moment left_since old new (IsBeforeOrAfter at.records r) (StandsForEither P T Q U) (either at.records at.stand) (leaves at.records at.told)
+
+-- a step's text
+pub with_step : (P : Program) (T U : Run) (s : Step) (r : List ℕ) → U ≡ appended T s → IsStepText T s r → (rs : List (List ℕ)) → StandsFor rs P T → StandsFor (rs ++ r ∷ []) P U
+with_step P T U s r last text rs stand = subst (λ (R : Run). StandsFor (rs ++ r ∷ []) P R) (sym last) (stepped stand text)
+
+-- a mark
+pub with_mark : (P Q : Program) (T : Run) → IsRevival P T Q → (rs : List (List ℕ)) → StandsFor rs P T → StandsFor (rs ++ going_on ∷ []) Q T
+with_mark P Q T revival rs stand = resumed stand refl revival
+
+-- a step has one text
+pub one_text : (T : Run) (s : Step) (q r : List ℕ) → IsStepText T s q → IsStepText T s r → q ≡ r
+one_text T s q r one two = one.is ∙ sym two.is
+
+-- before the first call
+pub leaves_at_first : {D : Type 0} (images : D → List ℕ → Type 0) (moment : D → ℕ) (left_since : D → ℕ → List ℕ → Type 0) (only_now : (d : D) (c : List ℕ) → left_since d (moment d) c → images d c)
+    (P Q : Program) (T U : Run) (d : D) (bytes : Option (List ℕ)) (gate : ℕ) → StandsAt bytes gate P T → IsAtRest bytes (images d) gate → LeavesOnly moment left_since d d (StandsForEither P T Q U)
+leaves_at_first images moment left_since only_now P Q T U d bytes gate at rest =
+    started moment left_since d (StandsForEither P T Q U)
+    (λ c left. inl (record { records = at.records; are = at_first bytes (images d) gate at.records at.told rest c (only_now d c left); stand = at.stand }))
+
+-- an answer that is Ok with more said of it
+pub if_ok_then : {X E : Type 0} (A B : X → Type 0) (r : Result X E) → ((x : X) → A x → B x) → IfOk r A → IfOk r B
+if_ok_then A B (Ok x) more is = more x is
+if_ok_then A B (Err e) more is = tt

@@ -1,0 +1,24 @@
+use Rattle.std.proofs.Common.{◌≡◌, ◌+◌, List, ℕ, length, ◌∙◌, subst}
+use Rattle.std.specs.Prelude.{IfSome}
+use Rattle.tau_sexpr.specs.Printing.{printed}
+use Rattle.tau_forms.specs.Printed as forms
+use Rattle.tau_journal.specs.Found.{IsCreateFault}
+use Rattle.tau_journal.specs.Room.{IsFaultOrFailure}
+use Rattle.tau_journal.proofs.Blank.{making_looked}
+use Rattle.tau_journal.proofs.Reading.{nothing_yet}
+use Rattle.tau_keeping.proofs.making.create.Goals as goal
+
+pub returns-in_err-text-clause-any_moment : goal.returns-in_err-text-clause-any_moment
+returns-in_err-text-clause-any_moment g c =
+    making_looked g.D.Disk.images g.D.Disk.moment g.D.Disk.left_since (printed (forms.printed c.args.program.now)) c.args.disk.now (g.D.Disk.bytes c.args.disk.now) c.args.disk.now
+    (nothing_yet g.D.Disk.images g.D.Disk.moment g.D.Disk.left_since g.met.D.Disk.only_now c.args.disk.now)
+
+pub returns-clause-fault : goal.returns-clause-fault
+returns-clause-fault g c fault at is =
+    let same : c.deref.result.now ≡ printed (forms.printed c.args.program.now) = c.deref.ensures.value ∙ c.in_ok-text.ensures.text in
+    subst (λ (l : List ℕ). IfSome (g.D.Disk.bytes c.args.disk.now) (λ file. IsCreateFault (6 + length l) file fault at)) same (c.create.ensures.fault fault at is)
+
+pub returns-clause-faulty : goal.returns-clause-faulty
+returns-clause-faulty g c =
+    let same : c.deref.result.now ≡ printed (forms.printed c.args.program.now) = c.deref.ensures.value ∙ c.in_ok-text.ensures.text in
+    subst (λ (l : List ℕ). IfSome (g.D.Disk.bytes c.args.disk.now) (λ file. (fault at : ℕ) → IsCreateFault (6 + length l) file fault at → IsFaultOrFailure fault at c.create.result)) same c.create.ensures.faulty

@@ -1,0 +1,30 @@
+-- Laws of revival, each the contract of a function of the crate.
+use Rattle.std.specs.Prelude.{◌↔◌, ℕ, ◌<◌, List, Option}
+use Rattle.tau_tree.specs.declared.entries.Entry.{Entry}
+use Rattle.tau_trace.specs.declared.step.Step.{Step}
+use Rattle.tau_tree.specs.declared.programs.Program.{Program}
+use Rattle.tau_tree.specs.Sound.{Sound}
+use Rattle.tau_trace.specs.Run.{Run, Agree, len}
+use Rattle.tau_script.specs.declared.cursor.Cursor.{Cursor}
+use Rattle.tau_script.specs.Cursors.{PassesTo, CursorAt}
+use Rattle.tau_script.specs.Scripts.{IsDue}
+use Rattle.tau_legal.specs.Traces.{IsLegal, Legal}
+use Rattle.tau_revival.specs.Revival.{IsRevival, revived}
+
+-- the revived script makes the same due at each place before the end of the run, and from the old cursor at the end it
+-- comes to its own by passing over entries
+pub record KeepsDue (S : List Entry) (T : Run) (nodes : ℕ) (c : Cursor) : Type 0 where
+  pub due : (k : ℕ) (s : Option Step) → k < len T → IsDue S T k s ↔ IsDue (revived S nodes (len T) c.entry) T k s
+  pub goes_on : (d : Cursor) → PassesTo (revived S nodes (len T) c.entry) T (len T) c d → CursorAt (revived S nodes (len T) c.entry) T (len T) d
+
+-- so it is for every run, legal or not
+abbrev pub RevivalKeepsDue : Type 0
+RevivalKeepsDue = (S : List Entry) (T : Run) (nodes : ℕ) (c : Cursor) → 0 < nodes → CursorAt S T (len T) c → KeepsDue S T nodes c
+
+-- a sound program and its revival have the same legal steps of a run that agrees, so far, with the one by which it was revived
+abbrev pub RevivalKeepsSteps : Type 0
+RevivalKeepsSteps = (P Q : Program) (T U : Run) (k : ℕ) (s : Step) → Sound P → IsRevival P T Q → Agree T U (len T) → k < len T → IsLegal P U k s ↔ IsLegal Q U k s
+
+-- so that run is legal for both or for none
+abbrev pub RevivalKeepsLegality : Type 0
+RevivalKeepsLegality = (P Q : Program) (T : Run) → Sound P → IsRevival P T Q → Legal P T ↔ Legal Q T
