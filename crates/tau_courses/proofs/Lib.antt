@@ -1,0 +1,5 @@
+pub mod Beginnings
+pub mod Currents
+pub mod Passing
+pub mod Following
+pub mod Lanes

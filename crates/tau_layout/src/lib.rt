@@ -1,0 +1,11 @@
+//! Where the parts of a picture of a run stand (docs/formats.md, "Pictures").
+#![tactic(auto)]
+
+mod columns;
+mod groups;
+mod lanes;
+mod layout;
+
+pub use columns::Column;
+pub use lanes::{Lane, lane_at};
+pub use layout::{Layout, layout_of};

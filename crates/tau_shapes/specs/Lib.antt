@@ -1,0 +1,5 @@
+pub mod Windows
+pub mod Grids
+pub mod Shapes
+pub mod Fixed
+pub mod Each
