@@ -1,11 +1,12 @@
 #!/usr/bin/env python3
-"""Measures `tau run`, `tau check`, `tau audit`, `tau report`, `tau why` and `tau cut` on runs of up to 200,000 steps: seconds
-of the processor, and the peak of the memory.
+"""Measures `tau run` and the commands that read a run text on runs of up to 200,000 steps: seconds of the processor, and the peak of the
+memory.
 
 The runs are those of `tau run` with one worker. It builds the program by bin/tau where it isn't built, and prints a table; each
 command is run several times, and the median is shown. The aims are, for `check`, 0.3 seconds for a ring of 64, and one second and
 150 MB for the ring of 2,000; 0.1 seconds for `run` of the chain; for `why` of the last Hold, and for `cut` of 40,000 checkpoints,
-all In or all Out, twice the time of `report`; and two seconds for each.
+all In or all Out, twice the time of `report`; for `migrate` the time of `check` and `print` together; for a message that is repeated a
+time by how often; and two seconds for each.
 """
 
 import os
@@ -34,6 +35,15 @@ def behind(count, source):
     return "\n".join(lines + ["(post t0 1)"]) + "\n"
 
 
+def repeated(count, copies):
+    """A chain of transactors, each created by the one before, of which the last sends to a sink, in version 2: the script repeats that
+    message so many times. What it carries depends on the states of all."""
+    body = "(seq (set msg) (if (< 1 msg) (send (new c 0 0) (- msg 1)) (send (name sink) 0)))"
+    place = 5 * count - 2
+    program = f"(version 2)\n(nodes 1)\n(behaviour c {body})\n(behaviour s unit)\n(start t c 0 0)\n(start sink s 0 0)\n(post t {count})\n"
+    return program + f"(at {place} (repeat {count}))\n" * copies
+
+
 PROGRAMS = [
     ("one that sends to itself", ring(1, "(send NEXT msg)")),
     ("one that sends to itself and checkpoints", ring(1, SAVE)),
@@ -44,8 +54,10 @@ PROGRAMS = [
     ("a ring of 63 whose checkpoints are Out", behind(63, "(set msg) (stabilize)")),
     ("a ring of 2,000 created, each sets", created_ring(2_000)),
     ("a chain of 1,000 created", chain(1_000)),
+    ("a chain of 1,000, a message repeated 512 times", repeated(1_000, 512)),
+    ("a chain of 1,000, repeated 4,096 times", repeated(1_000, 4_096)),
 ]
-COMMANDS = ["run", "check", "audit", "report", "why", "cut"]
+COMMANDS = ["run", "check", "audit", "report", "print", "migrate", "why", "cut"]
 
 
 def words_of(command, text):
@@ -82,7 +94,7 @@ def main():
         measure(sys.argv[1], sys.argv[2], sys.argv[3:])
         return
     programs.prove()
-    print(f"{'program':44} {'command':8} {'processor':>9} {'MB':>6} {'status':>6}  last line")
+    print(f"{'program':46} {'command':8} {'processor':>9} {'MB':>6} {'status':>6}  last line")
     with tempfile.TemporaryDirectory() as folder:
         program, text, answer = (os.path.join(folder, name) for name in ("program", "text", "answer"))
         for name, spelled in PROGRAMS:
@@ -97,7 +109,7 @@ def main():
                 with open(taken, "rb") as file:
                     last = file.read().decode().strip().split("\n")[-1]
                 seconds, memory = statistics.median(run[0] for run in runs), max(run[1] for run in runs)
-                print(f"{name:44} {command:8} {seconds:9.3f} {memory:6.0f} {runs[0][2]:6}  {last[:40]}", flush=True)
+                print(f"{name:46} {command:8} {seconds:9.3f} {memory:6.0f} {runs[0][2]:6}  {last[:40]}", flush=True)
 
 
 if __name__ == "__main__":

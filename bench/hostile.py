@@ -75,6 +75,7 @@ COMMANDS = [
     (["audit"], RUN_TEXT, b"safe\n"),
     (["report"], RUN_TEXT, SAVED),
     (["print"], RUN_TEXT, COPY),
+    (["migrate"], RUN_TEXT, b"(version 2)\n" + RUN_TEXT),
     (["why", "8"], HELD, CHAIN),
     (["cut"], RUN_TEXT, b"(state a 1 0)\n"),
     (["gen", "1"], b"", None),

@@ -5,7 +5,7 @@ how much a step costs in the long run against the short one.
 It has the program show_system built, behind `bin/tau prove`, and prints a table. The median of several runs is shown, less what the
 program takes without a step; the peak is at least that of the measuring process. The aims are 1,500,000 steps a second for a
 transactor that sends to itself, 600,000 for a ring of 64, 0.1 seconds for the chain, and a growth of 1.2 at most; two seconds for the turn
-of 30,000 Gets.
+of 30,000 Gets; and, with 2,000 notices, as many steps a second as the same program makes in version 1.
 """
 
 import os
@@ -46,6 +46,12 @@ def beside(text, count, body):
     return "\n".join(lines + ["(post r 1)"] * count) + "\n"
 
 
+def ended(count):
+    """A start that creates so many, one a turn, and writes to each twice: each ends in its first turn, and the second message comes then."""
+    turn = "(let c (new q 0 0) (seq (send c 1) (send c 2) (send self (- msg 1))))"
+    return f"(nodes 1)\n(behaviour p (if (< 0 msg) {turn} unit))\n(behaviour q (rollback))\n(start p p 0 0)\n(post p {count})\n"
+
+
 ROLLBACK = "(rollback)"
 SENT_AND_LOST = "(seq (send (name t0) 1) (rollback))"
 
@@ -70,6 +76,8 @@ PROGRAMS = [
     ("a ring of 250", ring(250, SET), (20_000, 200_000)),
     ("the ring of 250, 4,000 sends rolled back", beside(ring(250, SET), 4_000, SENT_AND_LOST), (20_000, 200_000)),
     ("a chain of 1,000 created", chain(1_000), (200_000,)),
+    ("2,000 created that end, written to once more", ended(2_000), (200_000,)),
+    ("the same in version 2, which makes 2,000 notices", "(version 2)\n" + ended(2_000), (200_000,)),
     ("a turn of 30,000 Gets, message of 60,001 parts", GETS, (200_000,)),
     ("a turn that makes 2,047 transactors", NEWS, (200_000,)),
 ]
@@ -94,7 +102,7 @@ def seconds_of(runs):
 
 def main():
     programs.prove("show_system")
-    print(f"{'program':48} {'steps':>7} {'seconds':>8} {'steps/s':>9} {'MB':>6} {'growth':>7}")
+    print(f"{'program':50} {'steps':>7} {'seconds':>8} {'steps/s':>9} {'MB':>6} {'growth':>7}")
     for name, text, lengths in PROGRAMS:
         nothing = seconds_of([measured(text, 0) for _ in range(RUNS)])
         first = None
@@ -104,7 +112,7 @@ def main():
             memory, steps = max(run[1] for run in runs), runs[0][2]
             first = first or seconds / steps
             growth = seconds / steps / first
-            print(f"{name:48} {steps:7} {seconds:8.3f} {steps / seconds:9.0f} {memory:6.0f} {growth:7.2f}", flush=True)
+            print(f"{name:50} {steps:7} {seconds:8.3f} {steps / seconds:9.0f} {memory:6.0f} {growth:7.2f}", flush=True)
 
 
 if __name__ == "__main__":

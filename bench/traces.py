@@ -81,6 +81,33 @@ def chain(count, steps):
     return program, [*forms[: steps - 1], "(checkpoint 1)"]
 
 
+def many(count, steps, are_copies):
+    """A message of a source that set its state, to a sink that sets its state by it, and so many more of them, as copies or as Sends; then
+    one that sends to itself. At the end the sink has a Checkpoint that isn't legal, so that an audit looks at its past."""
+    program = [
+        "(version 2)",
+        "(nodes 1)",
+        "(behaviour src (seq (set msg) (send (name k) msg)))",
+        "(behaviour sink (set msg))",
+        "(behaviour round (send self 0))",
+        "(start s src 0 0)",
+        "(start k sink 0 0)",
+        "(start f round 0 0)",
+        "(post s 1)",
+        "(post f 0)",
+    ]
+    forms = ["(take s 0)", "(set s 1)", "(send s 2 k 1)"]
+    forms += [f"(repeat {message} 2)" if are_copies else f"(send s {message} k 1)" for message in range(3, count + 3)]
+    forms.append("(done s)")
+    for message in range(2, count + 3):
+        forms += [f"(take k {message})", "(set k 1)", "(done k)"]
+    last, message = 1, count + 3
+    while len(forms) < steps:
+        forms += [f"(take f {last})", f"(send f {message} f 0)", "(done f)"]
+        last, message = message, message + 1
+    return program, [*forms[: steps - 1], "(checkpoint k)"]
+
+
 def traces(steps):
     """Each trace with the questions that are asked of it."""
     yield "one that sets and sends to itself", ring(1, SET, setting, steps), ["copied", "audit", "check", "report"]
@@ -88,6 +115,8 @@ def traces(steps):
     yield "a ring of 64 that saves", ring(64, SAVE, saving, steps), ["audit", "check", "report"]
     yield "a ring of 1,000 that saves", ring(1000, SAVE, saving, steps), ["audit", "report"]
     yield f"a message through {CHAIN:,} again and again", chain(CHAIN, steps), ["audit", "report", "past 1 0 0"]
+    yield "4,096 copies of a message, each set by", many(4_096, steps, True), ["audit", "report"]
+    yield "the same with Sends in place of copies", many(4_096, steps, False), ["audit", "report"]
     # Each of them keeps a view with all dependences among those before it.
     short = steps // 400
     yield f"a message through {short:,} once", chain(short, 6 * short + 5), ["audit", "check", "report", "past 1 0 0"]

@@ -2,8 +2,8 @@
 # shellcheck shell=bash
 
 _tau() {
-    local word=${COMP_WORDS[COMP_CWORD]} before=${COMP_WORDS[COMP_CWORD-1]} commands="run check audit report print gen drill why cut" options="" command="" number="" at
-    local numbered=" gen drill why " reading=" run check audit report print why cut "
+    local word=${COMP_WORDS[COMP_CWORD]} before=${COMP_WORDS[COMP_CWORD-1]} commands="run check audit report print gen drill migrate why cut" options="" command="" number="" at
+    local numbered=" gen drill why " reading=" run check audit report print migrate why cut "
     COMPREPLY=()
     if [[ $COMP_CWORD -eq 1 ]]; then
         mapfile -t COMPREPLY < <(compgen -W "$commands help version prove" -- "$word")
