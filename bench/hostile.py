@@ -4,7 +4,7 @@
 It has `bin/tau prove` build the program. For each row it prints the status, the line on standard error, seconds of the processor and
 the peak of the memory, and it ends with 1 where a row isn't what docs/manual.md says, or takes more than 5 seconds or 1.2 GB. The rows are
 
-- the cases of crates/show_commands and crates/show_hostile, each by a process of its own, of which those are printed that take longest;
+- the cases of crates/show_commands, each by a process of its own, of which those are printed that take longest;
 - texts of 16 MiB, and what is one past a limit and no case;
 - standard input, output and error that are closed, full, at their end, no file, or not ready yet;
 - limits on memory, threads, the stack and the size of a file.
@@ -28,7 +28,7 @@ import time
 import programs
 
 PROGRAM = programs.place("tau")
-CASES = ["show_commands", "show_hostile"]
+CASES = ["show_commands"]
 LIMIT = 16 * 1024 * 1024
 
 # The most that a row may take, and the seconds after which its process is killed.
@@ -228,7 +228,7 @@ def found_of_cases(rows, crate):
     for (line, section), (_, wanted) in zip(sections_of(crate, "stdin"), sections_of(crate, "stdout"), strict=True):
         command, _, title = line.decode().partition(" ; ")
         shows, *words = command.split(" ")
-        if shows == "!":
+        if shows in ("!", "?"):
             continue
         title = title or section.split(b"\n", 1)[0].decode(errors="replace").lstrip("; ")
         if words[:1] == ["run"] and not any(word.startswith("--workers") for word in words):

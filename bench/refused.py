@@ -6,8 +6,8 @@ memory, and refuses those with the numbers N to N + K - 1. Each case is run once
 makes fewer than N requests; of a run of more than 3,000 requests the first 1,000 are tried, and then every 97th, or fewer, so that no
 more than about 2,000 are tried. With several workers it is a fifth of these numbers, since each run is checked.
 
-- Each case by the command that it names, `run` with one worker, and K = 1. A run ends with status 7, nothing on standard output and the
-  line of that status, or as the run without a refusal.
+- Each case whose text is shown, with an input of at most 65,536 bytes, by the command that it names, `run` with one worker, and K = 1. A
+  run ends with status 7, nothing on standard output and the line of that status, or as the run without a refusal.
 - The programs of the cases of `run`, with 2 and with 4 workers, with K = 1 and with K the number of workers, which can make all of them
   short of memory. A run that doesn't end with status 7 writes a run text of the same program, which `check` calls legal, and complete
   exactly with status 0, and which `audit` calls safe.
@@ -44,6 +44,9 @@ PATIENCE = 10
 # Of a run of more than 3 * FIRST requests, the first FIRST numbers are tried, and then every STEP-th, or so many fewer that they are
 # FIRST; with several workers with a FIRST of its own.
 FIRST, FIRST_TOGETHER, STEP = 1_000, 200, 97
+
+# Cases whose input has more bytes are left out.
+LARGE = 65_536
 
 # How many wrong runs of a row are told.
 TOLD = 3
@@ -265,16 +268,19 @@ def tried(refuser, judge, name, words, given, many, workers=0):
 
 
 def cases():
-    """The name, the words and the input of each case whose reads and writes don't fail. `run` without a number of workers has one."""
+    """The name, the words and the input of each case whose text is shown, but for large inputs. `run` without a number of workers has
+    one."""
     for line, section in sections_of(CASES, "stdin"):
         command, _, title = line.decode().partition(" ; ")
         shows, *words = command.split(" ")
-        if shows == "!":
+        if shows not in ("", "#"):
             continue
         words = [word for word in words if word]
         if words[:1] == ["run"] and not any(word.startswith("--workers") for word in words):
             words += ["--workers", "1"]
         given = spelled(section)
+        if len(given) > LARGE:
+            continue
         title = title or given.split(b"\n", 1)[0].decode(errors="replace").lstrip("; ")
         yield f"{' '.join(words)}: {title}", words, given
 

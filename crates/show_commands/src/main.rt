@@ -1,16 +1,32 @@
-//! Inputs with what `tau` writes for them. Standard input has sections: a line `# WORDS`, and then an input. For each
-//! section the line is written, then what the command of these words writes for the input on one thread, and on a line `; N LINE`
-//! the number of its status and the status's line on standard error. Where the words start one worker, a further line says whether the
-//! call that starts threads does the same. After a line `## WORDS` a run text is shown by the number of its steps and the last two
-//! alone, and then by what `check` writes for it.
+//! Commands with what `tau` writes for them: worked rows, hostile texts, limits at their last value and one past it, and reads and
+//! writes that fail. Standard input has sections: a line `# WORDS` or `# WORDS ; TITLE`, and then an input (`inputs.rt`). For each
+//! section the line is written, then what the command of these words writes for the input on one thread, and on a line `; N LINE` the
+//! number of its status and the status's line on standard error. What stands at once behind the `#` tells more:
+//!
+//! - nothing: where the words start one worker, a further line says whether the call that starts threads does the same;
+//! - `#`: as nothing, but the run text is shown by the number of its steps and the last two alone, and then by what `check` writes for it;
+//! - a number: the number of lines that the command writes stands in place of them, and behind it so many of the last ones;
+//! - `!`: what comes where a read or a write fails (`failing.rt`);
+//! - `?`: what comes where the read behind the last byte that an input may have fails.
+//!
+//! The last line is that of a want of memory.
 #![tactic(auto)]
 
+mod answers;
+mod failing;
+mod inputs;
+mod words;
+
+use crate::answers::{add_check, add_last_lines, add_last_steps, add_status};
+use crate::failing::{Tried, add_failures, add_late_failure};
+use crate::inputs::{input_of, line_of};
+use crate::words::{starts_one_worker, words_of};
 use std::alloc::{AllocError, Global};
 use std::process::ExitCode;
 use std::sync::Wait;
 use std::thread::Threads;
-use tau_cli::{Command, Line, OpenGate, Status, Words, number, read_words, tau, tau_still};
-use tau_io::{ReadError, StdSink, StdSource, SteadySink, SteadySource, read_all, write_all_of};
+use tau_cli::{OpenGate, Status, Words, tau, tau_still};
+use tau_io::{StdSink, StdSource, SteadySink, SteadySource, read_all, write_all_of};
 
 fn main(rt: HostRuntime) -> ExitCode {
     let alloc = rt.alloc();
@@ -37,20 +53,15 @@ fn text_of<R: Threads + Wait + Sync>(
     let mut text = Vec::new(alloc);
     let mut rest = bytes;
     for _ in 0..bytes.len() {
-        let Some((words, after)) = line_of(rest) else {
+        let Some((line, after)) = line_of(rest) else {
             break;
         };
         let (section, next) = section_of(after);
-        add_section(rt, alloc, &mut text, words, section)?;
+        add_section(rt, alloc, &mut text, line, section)?;
         rest = next;
     }
+    add_status(alloc, &mut text, Status::NoMemory)?;
     Ok(text)
-}
-
-/// The first line, without its line feed, and what follows it.
-fn line_of(bytes: &[u8]) -> Option<(&[u8], &[u8])> {
-    let end = bytes.iter().position(|byte| *byte == b'\n')?;
-    Some((&bytes[..end], &bytes[end + 1..]))
 }
 
 /// What stands before the first line that begins with `#`, and from there on.
@@ -65,7 +76,7 @@ fn section_of(bytes: &[u8]) -> (&[u8], &[u8]) {
     (bytes, &bytes[bytes.len()..])
 }
 
-/// Adds the line of a section, what its words write for its input, and the status.
+/// Adds the line of a section, and what its command does.
 fn add_section<R: Threads + Wait + Sync>(
     rt: &R,
     alloc: Global,
@@ -73,24 +84,45 @@ fn add_section<R: Threads + Wait + Sync>(
     line: &[u8],
     section: &[u8],
 ) -> Result<(), AllocError> {
-    let words = words_of(alloc, line)?;
-    let mut input = SteadySource::new(Vec::from_slice(alloc, section)?);
-    let mut output = SteadySink::new(alloc);
-    let status = tau_still(alloc, &words, &mut input, &mut output);
-    let is_long = line.starts_with(b"##");
     text.extend_from_slice(line)?;
     text.push(b'\n')?;
+    let line = str::from_utf8(line).unwrap_or("");
+    let (command, _title) = line.split_once(" ; ").unwrap_or((line, ""));
+    let (mark, words) = command.split_once(" ").unwrap_or((command, ""));
+    let words = words_of(alloc, words)?;
+    let input = input_of(alloc, section)?;
+    match mark {
+        "#!" => add_failures(alloc, text, Tried::new(&words, &input)),
+        "#?" => {
+            let status = add_late_failure(alloc, text, &words)?;
+            add_status(alloc, text, status)
+        }
+        "#" | "##" => add_whole(rt, alloc, text, mark, &words, &input),
+        _ => add_end(alloc, text, mark, &words, input),
+    }
+}
+
+/// Adds what words write for an input, the status, and for one worker whether the call that starts threads does the same.
+fn add_whole<R: Threads + Wait + Sync>(
+    rt: &R,
+    alloc: Global,
+    text: &mut Vec<u8>,
+    mark: &str,
+    words: &Words,
+    input: &[u8],
+) -> Result<(), AllocError> {
+    let mut source = SteadySource::new(Vec::from_slice(alloc, input)?);
+    let mut output = SteadySink::new(alloc);
+    let status = tau_still(alloc, words, &mut source, &mut output);
+    let is_long = mark == "##";
     if is_long {
         add_last_steps(alloc, text, output.bytes())?;
     } else {
         text.extend_from_slice(output.bytes())?;
     }
     add_status(alloc, text, status)?;
-    if starts_one_worker(alloc, &words) {
-        let mut input = SteadySource::new(Vec::from_slice(alloc, section)?);
-        let mut other = SteadySink::new(alloc);
-        let end = tau(rt, alloc, &words, &mut input, &mut other, &OpenGate);
-        let is_same = end == status && other.bytes() == output.bytes();
+    if starts_one_worker(alloc, words) {
+        let is_same = is_same_with_threads(rt, alloc, words, input, status, output.bytes())?;
         let line = if is_same { "the same" } else { "another text" };
         text.extend_from_slice(b"; with threads ")?;
         text.extend_from_slice(line.as_bytes())?;
@@ -102,60 +134,36 @@ fn add_section<R: Threads + Wait + Sync>(
     Ok(())
 }
 
-/// Adds how many steps a run text has, and the last two.
-fn add_last_steps(alloc: Global, text: &mut Vec<u8>, run: &[u8]) -> Result<(), AllocError> {
-    let run = str::from_utf8(run).unwrap_or("");
-    let (_, steps) = run.split_once("(trace)\n").unwrap_or((run, ""));
-    let (steps, _) = steps.split_once("(report)\n").unwrap_or((steps, ""));
-    let mut shown = String::new(alloc);
-    let count = steps.lines().count();
-    writeln!(shown, "; {count} steps, and the last two are")?;
-    for step in steps.lines().skip(count.saturating_sub(2)) {
-        writeln!(shown, "{step}")?;
-    }
-    text.extend_from_slice(shown.as_bytes())
-}
-
-/// Adds the number of the status of `check` on a run text, and what it writes.
-fn add_check(alloc: Global, text: &mut Vec<u8>, run: &[u8]) -> Result<(), AllocError> {
-    let words = words_of(alloc, b"# check")?;
-    let mut input = SteadySource::new(Vec::from_slice(alloc, run)?);
+/// Whether the call that starts threads ends with this status and writes these bytes.
+fn is_same_with_threads<R: Threads + Wait + Sync>(
+    rt: &R,
+    alloc: Global,
+    words: &Words,
+    input: &[u8],
+    status: Status,
+    written: &[u8],
+) -> Result<bool, AllocError> {
+    let mut source = SteadySource::new(Vec::from_slice(alloc, input)?);
     let mut output = SteadySink::new(alloc);
-    let status = tau_still(alloc, &words, &mut input, &mut output);
-    text.extend_from_slice(b"; check ")?;
-    text.extend_from_slice(number(&status).to_string(alloc)?.as_bytes())?;
-    text.push(b'\n')?;
-    text.extend_from_slice(output.bytes())
+    let end = tau(rt, alloc, words, &mut source, &mut output, &OpenGate);
+    Ok(end == status && output.bytes() == written)
 }
 
-/// Whether the words are those of `run` with one worker.
-fn starts_one_worker(alloc: Global, words: &Words) -> bool {
-    matches!(
-        read_words(alloc, words),
-        Ok(Command::Run { workers: 1, .. })
-    )
-}
-
-/// Adds a line with the number of a status, and the line that the program prints for it.
-fn add_status(alloc: Global, text: &mut Vec<u8>, status: Status) -> Result<(), AllocError> {
-    text.extend_from_slice(b"; ")?;
-    text.extend_from_slice(number(&status).to_string(alloc)?.as_bytes())?;
-    if status != Status::Done {
-        text.push(b' ')?;
-        text.extend_from_slice(status.to_string(alloc)?.as_bytes())?;
-    }
-    text.push(b'\n')?;
-    Ok(())
-}
-
-/// The words of a line, without the `#` before them.
-fn words_of(alloc: Global, line: &[u8]) -> Result<Words, AllocError> {
-    let mut words = Words::new(alloc);
-    let text = str::from_utf8(line).unwrap_or("");
-    for word in text.split_whitespace().skip(1) {
-        if let Err((_line, error)) = words.push(Line::of(alloc, word)?) {
-            return Err(error);
-        }
-    }
-    Ok(words)
+/// Adds the end of what words write for an input, as the number behind the `#` says, and the status.
+fn add_end(
+    alloc: Global,
+    text: &mut Vec<u8>,
+    mark: &str,
+    words: &Words,
+    input: Vec<u8>,
+) -> Result<(), AllocError> {
+    let mut source = SteadySource::new(input);
+    let mut output = SteadySink::new(alloc);
+    let status = tau_still(alloc, words, &mut source, &mut output);
+    let last = mark
+        .strip_prefix("#")
+        .and_then(|number| number.parse().ok())
+        .unwrap_or(0);
+    add_last_lines(alloc, text, output.bytes(), last)?;
+    add_status(alloc, text, status)
 }

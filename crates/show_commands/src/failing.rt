@@ -119,6 +119,21 @@ fn taken_before(call: u32) -> usize {
     16usize.saturating_mul(call as usize)
 }
 
+/// Adds the status of `run` where the read behind the last byte that an input may have fails, with its line.
+pub(crate) fn add_late_failure(
+    alloc: Global,
+    text: &mut Vec<u8>,
+    words: &Words,
+) -> Result<Status, AllocError> {
+    let blanks = vec![in alloc; b' '; 16_777_217]?;
+    // Reads 0 to 255 give 65,536 bytes each.
+    let mut source = MemorySource::new(blanks, 65_536, only(alloc, 256)?);
+    let mut sink = SteadySink::new(alloc);
+    let status = tau_still(alloc, words, &mut source, &mut sink);
+    text.extend_from_slice(sink.bytes())?;
+    Ok(status)
+}
+
 /// The list of this one number.
 fn only(alloc: Global, number: u32) -> Result<Vec<u32>, AllocError> {
     let mut numbers = Vec::new(alloc);
