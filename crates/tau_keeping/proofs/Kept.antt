@@ -1,6 +1,5 @@
 -- What stands on a disk once a step was kept, and in between.
-use Rattle.std.proofs.Common.{◌≡◌, inl, inr, ℕ, List, [], ◌∷◌, ◌++◌, Option, refl, sym, ◌∙◌, subst}
-use Rattle.std.specs.Prelude.{Result, Ok, Err, IfOk}
+use Rattle.std.proofs.Common.{◌≡◌, inl, inr, ℕ, List, [], ◌∷◌, ◌++◌, Option, Some, None, IfSome, refl, sym, ◌∙◌, subst}
 use Rattle.tau_tree.specs.declared.programs.Program.{Program}
 use Rattle.tau_trace.specs.declared.step.Step.{Step}
 use Rattle.tau_trace.specs.Run.{Run, appended}
@@ -9,7 +8,7 @@ use Rattle.tau_disk.proofs.Moments.{started, weaker}
 use Rattle.tau_journal.specs.Records.{IsAtRest, TellsRecords, IsBeforeOrAfter, going_on}
 use Rattle.tau_journal.proofs.Appending.{at_first}
 use Rattle.tau_revival.specs.Revival.{IsRevival}
-use Rattle.tau_keeping.specs.Standing.{IsStepText, StandsFor, stepped, resumed, StandsAt, StandsForEither}
+use Rattle.tau_keeping.specs.Standing.{IsProgramText, IsStepText, opened, StandsFor, begins, stepped, resumed, StandsAt, StandsForEither}
 
 -- one record more, and what it makes of program and run
 module _ (P Q : Program) (T U : Run) (r : List ℕ) (more : (rs : List (List ℕ)) → StandsFor rs P T → StandsFor (rs ++ r ∷ []) Q U) where
@@ -38,10 +37,6 @@ with_step P T U s r last text rs stand = subst (λ (R : Run). StandsFor (rs ++ r
 pub with_mark : (P Q : Program) (T : Run) → IsRevival P T Q → (rs : List (List ℕ)) → StandsFor rs P T → StandsFor (rs ++ going_on ∷ []) Q T
 with_mark P Q T revival rs stand = resumed stand refl revival
 
--- a step has one text
-pub one_text : (T : Run) (s : Step) (q r : List ℕ) → IsStepText T s q → IsStepText T s r → q ≡ r
-one_text T s q r one two = one.is ∙ sym two.is
-
 -- before the first call
 pub leaves_at_first : {D : Type 0} (images : D → List ℕ → Type 0) (moment : D → ℕ) (left_since : D → ℕ → List ℕ → Type 0) (only_now : (d : D) (c : List ℕ) → left_since d (moment d) c → images d c)
     (P Q : Program) (T U : Run) (d : D) (bytes : Option (List ℕ)) (gate : ℕ) → StandsAt bytes gate P T → IsAtRest bytes (images d) gate → LeavesOnly moment left_since d d (StandsForEither P T Q U)
@@ -49,7 +44,7 @@ leaves_at_first images moment left_since only_now P Q T U d bytes gate at rest =
     started moment left_since d (StandsForEither P T Q U)
     (λ c left. inl (record { records = at.records; are = at_first bytes (images d) gate at.records at.told rest c (only_now d c left); stand = at.stand }))
 
--- an answer that is Ok with more said of it
-pub if_ok_then : {X E : Type 0} (A B : X → Type 0) (r : Result X E) → ((x : X) → A x → B x) → IfOk r A → IfOk r B
-if_ok_then A B (Ok x) more is = more x is
-if_ok_then A B (Err e) more is = tt
+-- a program's text, as the one record
+pub program_stands : (told new : Option (List ℕ)) (gate : ℕ) (P : Program) (text : List ℕ) → IsProgramText P text → IfSome told (λ _. TellsRecords new (text ∷ []) gate) → IfSome told (λ _. StandsAt new gate P (opened P))
+program_stands None new gate P text is made = tt
+program_stands (Some file) new gate P text is made = record { records = text ∷ []; told = made; stand = begins is }

@@ -1,3 +1,11 @@
+pub mod Answered
+pub mod Finds
+pub mod ItemForms
 pub mod Kept
+pub mod Longest
+pub mod Once
 pub mod Runs
-pub mod Texts
+pub mod Standings
+pub mod StepTexts
+pub mod Steps
+pub mod Unique

@@ -30,7 +30,7 @@ revived_of P Q T is of = record {
 }
 
 pub run_of : (rs : List (List ℕ)) (P : Program) (T : Run) → StandsFor rs P T → IsRunOf P T
-run_of rs P T (begins sound is) = record { sound = sound; opening = refl; well_formed = well_formed_opened P sound }
+run_of rs P T (begins text) = record { sound = text.sound; opening = refl; well_formed = well_formed_opened P text.sound }
 run_of rs P T (stepped {T = U} {s = s} before text) =
     let of = run_of _ P U before in
     record { sound = of.sound; opening = of.opening; well_formed = well_formed_appended U s of.well_formed text.may }

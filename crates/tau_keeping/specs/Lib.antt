@@ -1,2 +1,4 @@
 pub mod Laws
 pub mod Standing
+pub mod Reading
+pub mod Inner

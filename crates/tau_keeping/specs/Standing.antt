@@ -2,6 +2,7 @@
 use Rattle.std.specs.Prelude.{◌≡◌, ℕ, List, [], ◌∷◌, ◌++◌, ◌⊎◌, Option}
 use Rattle.tau_sexpr.specs.Tree.{Tree}
 use Rattle.tau_sexpr.specs.Printing.{printed}
+use Rattle.tau_sexpr.specs.Spelling.{IsSpelling}
 use Rattle.tau_tree.specs.declared.programs.Program.{Program}
 use Rattle.tau_tree.specs.Sound.{Sound}
 use Rattle.tau_forms.specs.Printed as forms
@@ -12,6 +13,7 @@ use Rattle.tau_trace.specs.Known.{MayFollow}
 use Rattle.tau_script.specs.Openings.{program_opening}
 use Rattle.tau_steps.specs.Meaning.{MeansStep}
 use Rattle.tau_steps.specs.StepForms.{step_form}
+use Rattle.tau_text.specs.Meaning.{IsProgram}
 use Rattle.tau_journal.specs.Records.{AreRecords, TellsRecords, going_on}
 use Rattle.tau_revival.specs.Revival.{IsRevival}
 
@@ -19,10 +21,18 @@ use Rattle.tau_revival.specs.Revival.{IsRevival}
 abbrev pub form_behind : Run → Step → Tree
 form_behind T s = step_form T.opening (number_made s (born T (len T)) (sent T (len T))) s
 
--- the record is the text of step s behind the run T: its form as it is printed, with a line feed, which means s there
+-- the record is the text of a sound program: its forms as they are printed, which are read back as it
+pub record IsProgramText (P : Program) (r : List ℕ) : Type 0 where
+  pub sound : Sound P
+  pub is : r ≡ printed (forms.printed P)
+  pub read_back : IsProgram r P
+
+-- the record is the text of step s behind the run T: its form as it is printed, with a line feed, which is read back as
+-- that form and means s there
 pub record IsStepText (T : Run) (s : Step) (r : List ℕ) : Type 0 where
   pub may : MayFollow T s
   pub is : r ≡ printed (form_behind T s ∷ [])
+  pub spelled : IsSpelling r (form_behind T s ∷ [])
   pub means : MeansStep T.opening (born T (len T)) (sent T (len T)) (form_behind T s) s
 
 -- the run of a program before its first step
@@ -32,7 +42,7 @@ opened P = record { opening = program_opening P; steps = [] }
 -- records stand for a program and a run: the first is the program's text, and then each is the text of the next step, or
 -- says that the run went on after a stop, by the revival of the program
 pub data StandsFor : List (List ℕ) → Program → Run → Type 0 where
-  begins : {P : Program} {r : List ℕ} → Sound P → r ≡ printed (forms.printed P) → StandsFor (r ∷ []) P (opened P)
+  begins : {P : Program} {r : List ℕ} → IsProgramText P r → StandsFor (r ∷ []) P (opened P)
   stepped : {rs : List (List ℕ)} {P : Program} {T : Run} {s : Step} {r : List ℕ} → StandsFor rs P T → IsStepText T s r → StandsFor (rs ++ r ∷ []) P (appended T s)
   resumed : {rs : List (List ℕ)} {P Q : Program} {T : Run} {r : List ℕ} → StandsFor rs P T → r ≡ going_on → IsRevival P T Q → StandsFor (rs ++ r ∷ []) Q T
 

@@ -11,12 +11,10 @@ ghost use Rattle.tau_journal.specs.Gates.{gate_of};
 ghost use Rattle.tau_revival.specs.Revival.{IsRevival};
 ghost use Rattle.tau_keeping.specs.Standing.{IsStepText, StandsAt, StandsForEither};
 
+use crate::texts::text_at;
 use std::alloc::{AllocError, Global};
 use tau_disk::Disk;
 use tau_journal::{Journal, JournalError};
-use tau_sexpr::{Forms, print_forms};
-use tau_steps::form_of_step;
-use tau_steps::laws::printed_steps_mean_themselves;
 use tau_trace::Trace;
 
 /// Appends the last step of a trace to a journal that stands for the trace without it (docs/journal.md, "Calls").
@@ -83,9 +81,5 @@ fn last_text(alloc: Global, trace: &Trace) -> Result<Vec<u8>, AllocError>
     requires { 0 < len trace.now.run }
     ensures { IfOk result (λ v. (T : Run) (s : Step) → trace.now.run ≡ appended T s → IsStepText T s v.items) }
 {
-    printed_steps_mean_themselves();
-    let form = form_of_step(alloc, trace, trace.len() - 1)?;
-    let mut forms = Forms::new(alloc);
-    forms.add(form)?;
-    print_forms(alloc, &forms)
+    text_at(alloc, trace, trace.len() - 1)
 }

@@ -10,6 +10,7 @@ ghost use Rattle.tau_journal.specs.Records.{IsAtRest, TellsRecords};
 ghost use Rattle.tau_journal.specs.Found.{IsBlank, IsBlankOrHas, IsCreateFault};
 ghost use Rattle.tau_journal.specs.Room.{most_bytes, IsFaultOrFailure};
 ghost use Rattle.tau_journal.specs.Gates.{gate_of};
+ghost use Rattle.tau_keeping.specs.Standing.{opened, StandsAt};
 
 use std::alloc::Global;
 use tau_disk::Disk;
@@ -27,9 +28,10 @@ pub fn create<D: Disk>(
 ) -> Result<Journal, JournalError>
     requires { Sound program.now }
 
-    // The program's text is the one record.
+    // The program's text is the one record, and the disk stands for the program and a run without steps.
     ensures rest { IfOk result (λ j. IsAtRest (D.bytes disk.new) (D.images disk.new) (gate_of j)) }
     ensures created { IfOk result (λ j. IfSome (D.bytes disk.old) (λ _. TellsRecords (D.bytes disk.new) (printed (forms.printed program.now) ∷ []) (gate_of j))) }
+    ensures stands { IfOk result (λ j. IfSome (D.bytes disk.old) (λ _. StandsAt (D.bytes disk.new) (gate_of j) program.now (opened program.now))) }
     ensures within { OnOk result (IfSome (D.bytes disk.new) (λ file. length file ≤ most_bytes)) }
 
     // Where nothing is pending on a blank disk, a crash at any moment leaves a blank disk or that record.

@@ -1,6 +1,7 @@
 use Rattle.tau_journal.specs.Records.{going_on}
 use Rattle.tau_journal.specs.Gates.{gate_of}
-use Rattle.tau_keeping.proofs.Kept.{if_ok_then, stands_then, leaves_either, with_mark}
+use Rattle.tau_keeping.proofs.Answered.{if_ok_then}
+use Rattle.tau_keeping.proofs.Kept.{stands_then, leaves_either, with_mark}
 use Rattle.tau_keeping.proofs.keeping.keep_mark.Goals as goal
 
 pub returns-clause-stands : goal.returns-clause-stands

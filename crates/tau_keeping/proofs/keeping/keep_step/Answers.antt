@@ -5,7 +5,9 @@ use Rattle.tau_journal.specs.Room.{IsTooLarge, IsUnlessSmall}
 use Rattle.tau_journal.specs.Gates.{gate_of}
 use Rattle.tau_journal.specs.declared.errors.JournalError.TheVariants.{Fault}
 use Rattle.tau_disk.specs.Moments.{LeavesOnly}
-use Rattle.tau_keeping.proofs.Kept.{if_ok_then, stands_then, leaves_either, leaves_at_first, with_step, one_text}
+use Rattle.tau_keeping.proofs.Answered.{if_ok_then}
+use Rattle.tau_keeping.proofs.Kept.{stands_then, leaves_either, leaves_at_first, with_step}
+use Rattle.tau_keeping.proofs.StepTexts.{one_text}
 use Rattle.tau_keeping.proofs.keeping.keep_step.Goals as goal
 
 pub returns-in_err-text-clause-any_moment : goal.returns-in_err-text-clause-any_moment
