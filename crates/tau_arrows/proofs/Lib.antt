@@ -1,0 +1,4 @@
+pub mod BearerLemmas
+pub mod MeetingLemmas
+pub mod LineLemmas
+pub mod Once

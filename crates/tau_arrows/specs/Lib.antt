@@ -1,0 +1,4 @@
+pub mod Titles
+pub mod Arrows
+pub mod Messages
+pub mod Inner

@@ -1,0 +1,13 @@
+//! The lines of messages in a picture of a run (docs/formats.md, "Pictures").
+#![tactic(auto)]
+
+mod bearers;
+mod lines;
+mod meetings;
+mod messages;
+mod news;
+mod receipts;
+mod sends;
+mod titles;
+
+pub use messages::put_messages;

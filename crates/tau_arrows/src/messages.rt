@@ -1,0 +1,136 @@
+//! The message lines of a picture.
+ghost use Rattle.std.specs.Prelude.{◌≡◌, ◌<◌, Some, OnOk};
+ghost use Rattle.tau_script.specs.Openings.{program_opening};
+ghost use Rattle.tau_trace.specs.Run.{len, step_at};
+ghost use Rattle.tau_trace.specs.Numbering.{sent};
+ghost use Rattle.tau_trace.specs.Known.{WellFormed};
+ghost use Rattle.tau_shapes.specs.Each.{Writes};
+ghost use Rattle.tau_layout.specs.Plans.{IsPlan};
+ghost use Rattle.tau_layout.specs.Inner.Marking.{AreMarks};
+ghost use Rattle.tau_trace.specs.Stored.{IsMadeAt};
+ghost use Rattle.tau_spots.specs.Senders.{met_by};
+ghost use Rattle.tau_arrows.specs.Messages.{IsMet, IsLineTo, IsLineOf, IsMessageLine, AreMessageLines};
+ghost use Rattle.tau_arrows.specs.Inner.Bearers.{AreBearers};
+
+use crate::bearers::{Bearer, bearers_of};
+use crate::meetings::meetings_in;
+use crate::news::put_new;
+use crate::receipts::put_receipt;
+use crate::sends::put_sent;
+use std::alloc::{AllocError, Global};
+use tau_layout::Layout;
+use tau_spots::met;
+use tau_trace::{Step, Trace};
+use tau_tree::Program;
+
+/// The line of a step at a place by the message that it receives or loses, if it does.
+fn put_line_to(
+    alloc: Global,
+    out: &mut Vec<u8>,
+    program: &Program,
+    trace: &Trace,
+    layout: &Layout,
+    bearers: &[Bearer],
+    step: &Step,
+    place: u32,
+) -> Result<(), AllocError>
+    requires opening { trace.now.run.opening ≡ program_opening program.now }
+    requires plan { IsPlan trace.now.run layout.now.window layout.now }
+    requires well_formed { WellFormed trace.now.run }
+    requires bearers { AreBearers trace.now.run (len trace.now.run) bearers.now }
+    requires stands { step_at trace.now.run place ≡ Some step.now }
+    ensures { OnOk result (Writes (IsLineTo program.now trace.now.run layout.now place step.now (met_by step.now)) out.old.items out.new.items) }
+{
+    match met(step) {
+        Some(message) => put_receipt(
+            alloc, out, program, trace, layout, bearers, step, place, message,
+        ),
+        None => Ok(()),
+    }
+}
+
+/// The line of a step at a place, which made a number, if it made one.
+fn put_line_of(
+    alloc: Global,
+    out: &mut Vec<u8>,
+    program: &Program,
+    trace: &Trace,
+    layout: &Layout,
+    bearers: &[Bearer],
+    met: &[bool],
+    step: &Step,
+    place: u32,
+    made: u32,
+) -> Result<(), AllocError>
+    requires opening { trace.now.run.opening ≡ program_opening program.now }
+    requires plan { IsPlan trace.now.run layout.now.window layout.now }
+    requires well_formed { WellFormed trace.now.run }
+    requires bearers { AreBearers trace.now.run (len trace.now.run) bearers.now }
+    requires met { AreMarks (IsMet trace.now.run layout.now.window) (sent trace.now.run (len trace.now.run)) met.now }
+    requires stands { step_at trace.now.run place ≡ Some step.now }
+    requires made { IsMadeAt trace.now.run place made }
+    ensures { OnOk result (Writes (IsLineOf program.now trace.now.run layout.now place step.now) out.old.items out.new.items) }
+{
+    match step {
+        Step::Send { .. } => put_sent(
+            alloc, out, program, trace, layout, bearers, met, step, place, made,
+        ),
+        Step::Repeat { .. } => put_sent(
+            alloc, out, program, trace, layout, bearers, met, step, place, made,
+        ),
+        Step::New { who, .. } => put_new(alloc, out, trace, layout, place, *who, made),
+        _ => put_line_to(alloc, out, program, trace, layout, bearers, step, place),
+    }
+}
+
+/// The message line of the step at a place, or none.
+fn put_line_at(
+    alloc: Global,
+    out: &mut Vec<u8>,
+    program: &Program,
+    trace: &Trace,
+    layout: &Layout,
+    bearers: &[Bearer],
+    met: &[bool],
+    place: u32,
+) -> Result<(), AllocError>
+    requires opening { trace.now.run.opening ≡ program_opening program.now }
+    requires plan { IsPlan trace.now.run layout.now.window layout.now }
+    requires well_formed { WellFormed trace.now.run }
+    requires bearers { AreBearers trace.now.run (len trace.now.run) bearers.now }
+    requires met { AreMarks (IsMet trace.now.run layout.now.window) (sent trace.now.run (len trace.now.run)) met.now }
+    ensures { OnOk result (Writes (IsMessageLine program.now trace.now.run layout.now place) out.old.items out.new.items) }
+{
+    let Some(step) = trace.step(place) else {
+        return Ok(());
+    };
+    let Some(made) = trace.made_at(place) else {
+        return Ok(());
+    };
+    put_line_of(
+        alloc, out, program, trace, layout, bearers, met, step, place, made,
+    )?;
+    Ok(())
+}
+
+/// The message lines, at most one for each step that is drawn (docs/formats.md, "Pictures"). It passes over the trace once. The error is
+/// want of memory.
+pub fn put_messages(
+    alloc: Global,
+    out: &mut Vec<u8>,
+    program: &Program,
+    trace: &Trace,
+    layout: &Layout,
+) -> Result<(), AllocError>
+    requires opening { trace.now.run.opening ≡ program_opening program.now }
+    requires plan { IsPlan trace.now.run layout.now.window layout.now }
+    ensures { OnOk result (Writes (AreMessageLines program.now trace.now.run layout.now) out.old.items out.new.items) }
+{
+    let window = layout.window();
+    let bearers = bearers_of(alloc, trace)?;
+    let met = meetings_in(alloc, trace, window)?;
+    for place in window.from..window.to {
+        put_line_at(alloc, out, program, trace, layout, &bearers, &met, place)?;
+    }
+    Ok(())
+}

@@ -1,0 +1,4 @@
+pub mod Lists
+pub mod StateLemmas
+pub mod StripLemmas
+pub mod EndLemmas

@@ -1,0 +1,35 @@
+use Rattle.std.proofs.Common.{◌∙◌, get_or, ap, arith}
+use Rattle.std.specs.List.{flat_map}
+use Rattle.tau_markup.specs.Lines.{with_lines}
+use Rattle.tau_trace.specs.declared.opening.Opening.{Opening}
+use Rattle.tau_shapes.proofs.Writing.{places_first}
+use Rattle.tau_layout.specs.declared.columns.Column.{Column}
+use Rattle.tau_lanes.proofs.ColumnLanes.{left, right}
+use Rattle.tau_bands.specs.Names.{seen_at}
+use Rattle.tau_bands.specs.StateLines.{state_lines, AreStatesAt}
+use Rattle.tau_bands.proofs.StateLemmas.{states_next}
+use Rattle.tau_bands.proofs.states.put_states.Goals as goal
+
+pub loop-rank-init : goal.loop-rank-init
+loop-rank-init c = places_first (AreStatesAt c.args.trace.now.run c.args.layout.now c.args.looks.now) 0 c.args.out.now.items
+
+pub put_all-requires-clause-left : goal.put_all-requires-clause-left
+put_all-requires-clause-left c =
+    left c.args.layout.now c.columns-columns.result.now c.columns-columns.ensures.lanes c.columns-columns.ensures.columns c.loop-rank.rank (record { who = 0; node = 0; x = 0 }) (omega (arith, c.loop-rank-test.true))
+
+pub put_all-requires-clause-right : goal.put_all-requires-clause-right
+put_all-requires-clause-right c =
+    right c.args.layout.now c.columns-columns.result.now c.columns-columns.ensures.lanes c.columns-columns.ensures.columns c.loop-rank.rank (record { who = 0; node = 0; x = 0 }) (omega (arith, c.loop-rank-test.true))
+
+pub loop-rank-preserved : goal.loop-rank-preserved
+loop-rank-preserved c =
+    let plan = c.args.layout.now in
+    let columns = c.columns-columns.result.now in
+    let k = c.loop-rank.rank in
+    let d : Column = record { who = 0; node = 0; x = 0 } in
+    let x = (get_or columns k d).x in
+    let out = c.loop-rank.out.items in
+    states_next c.args.trace.now.run plan c.args.looks.now columns k d c.args.out.now.items out c.put_all.new.out.items
+    c.columns-columns.ensures.lanes c.columns-columns.ensures.columns (omega (arith, c.loop-rank-test.true)) c.loop-rank.invariant
+    (c.in_ok-put_all.ensures ∙ ap (λ xs. with_lines out (flat_map (state_lines plan c.opening.result.now.names x) xs)) c.seen_at.ensures
+    ∙ ap (λ (o : Opening). with_lines out (flat_map (state_lines plan o.names x) (seen_at c.args.looks.now k))) c.opening.ensures.value)

@@ -1,0 +1,4 @@
+pub mod Names
+pub mod StateLines
+pub mod StripLines
+pub mod EndLines

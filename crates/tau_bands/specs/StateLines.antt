@@ -1,0 +1,65 @@
+-- The states of lanes (docs/formats.md, "Pictures").
+use Rattle.std.specs.Prelude.{◌≡◌, ℕ, ◌+◌, ◌-◌, ◌/◌, List, [], ◌∷◌, ◌++◌, Option, Some, None, length, slice_get, nat_lt, nat_le, if◌then◌else◌, codes}
+use Rattle.std.specs.List.{flat_map}
+use Rattle.tau_markup.specs.Lines.{plain, number, said, Line, empty, titled}
+use Rattle.tau_trace.specs.Run.{Run}
+use Rattle.tau_shapes.specs.Each.{EachPlace}
+use Rattle.tau_shapes.specs.Shapes.{rect, rect_of, rounded, text_at}
+use Rattle.tau_layout.specs.declared.lanes.Lane.{Lane}
+use Rattle.tau_layout.specs.Plans.{Plan, grid, lane_x, row_y}
+use Rattle.tau_courses.specs.declared.states.State.{State}
+use Rattle.tau_words.specs.Texts.{state_title}
+use Rattle.tau_looks.specs.declared.looks.Seen.{Seen}
+use Rattle.tau_looks.specs.declared.looks.Looks.{Looks}
+use Rattle.tau_bands.specs.Names.{state_class, state_words, seen_at}
+
+-- where the box of a state begins and ends: below the step that began it, and above the one that ends it, as far as these are drawn
+abbrev pub state_top : Plan → State → ℕ
+state_top plan s = if nat_le s.begin plan.window.from then (grid plan).top - 12 else row_y plan s.begin - (grid plan).row / 2 + 1
+
+abbrev pub end_foot : Plan → Option ℕ → ℕ
+end_foot plan None = (grid plan).foot
+end_foot plan (Some k) = if nat_lt k plan.window.to then row_y plan k + (grid plan).row / 2 - 1 else (grid plan).foot
+
+abbrev pub state_foot : Plan → State → ℕ
+state_foot plan s = end_foot plan s.end
+
+-- the box of a state in the lane with this middle
+abbrev pub box_line : Plan → List (List ℕ) → ℕ → Seen → Line
+box_line plan names x s =
+    let top = state_top plan s.state in
+    rect (state_class s.look) (x - 5) top 10 (state_foot plan s.state - top) (rounded 3)
+    (titled (said (state_title names s.state.point s.state.begin s.state.end (state_words s.look)) ∷ []))
+
+-- its interval and its incarnation, where the lanes are wide
+abbrev pub point_lines : Plan → ℕ → State → List Line
+point_lines plan x s =
+    if (grid plan).is_wide
+    then text_at (codes "pt") (x + 11) (state_top plan s + 6) (number s.point.interval ∷ plain (codes " ") ∷ number s.point.incarnation ∷ []) ∷ []
+    else []
+
+-- where the part begins in which a state is stable, from its Stabilize at place k on
+abbrev pub stable_top : Plan → State → ℕ → ℕ
+stable_top plan s k = if nat_lt k plan.window.from then state_top plan s else row_y plan k
+
+-- that part, where the Stabilize stands before the end of the window
+abbrev pub stable_from : Plan → ℕ → Seen → Option ℕ → List Line
+stable_from plan x s None = []
+stable_from plan x s (Some k) =
+    if nat_lt k plan.window.to
+    then rect_of (state_class s.look) (codes "-s") (x - 2) (stable_top plan s.state k) 4 (state_foot plan s.state - stable_top plan s.state k) empty ∷ []
+    else []
+
+-- the lines of a state
+abbrev pub state_lines : Plan → List (List ℕ) → ℕ → Seen → List Line
+state_lines plan names x s = box_line plan names x s ∷ (point_lines plan x s.state ++ stable_from plan x s s.state.stable)
+
+-- the lines of the states that are seen of the lane with so many lanes before it
+pub record AreStatesAt (T : Run) (plan : Plan) (looks : Looks) (rank : ℕ) (lines : List Line) : Type 0 where
+  pub lane : Lane
+  pub at_rank : slice_get plan.lanes rank ≡ Some lane
+  pub are : lines ≡ flat_map (state_lines plan T.opening.names (lane_x plan rank lane)) (seen_at looks rank)
+
+-- for each lane, by rank, the lines of its states
+abbrev pub AreStateLines : Run → Plan → Looks → List Line → Type 0
+AreStateLines T plan looks lines = EachPlace (AreStatesAt T plan looks) 0 (length plan.lanes) lines

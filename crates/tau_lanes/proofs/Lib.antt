@@ -1,0 +1,3 @@
+pub mod BandLemmas
+pub mod ColumnLanes
+pub mod LaneLemmas

@@ -1,0 +1,4 @@
+pub mod Saving
+pub mod Noting
+pub mod Ranks
+pub mod KeptLemmas

@@ -1,0 +1,4 @@
+pub mod Notes
+pub mod Endings
+pub mod Looks
+pub mod Inner

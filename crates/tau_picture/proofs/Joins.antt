@@ -1,0 +1,142 @@
+-- Parts that are written one behind the other.
+use Rattle.std.proofs.Common.{◌≡◌, ℕ, ◌+◌, ◌<◌, List, [], ◌∷◌, ◌++◌, length, get_or, take, refl, sym, ap, ◌∙◌, subst}
+use Rattle.std.proofs.lemmas.List.{take_more}
+use Rattle.tau_markup.specs.Lines.{with_line, with_lines}
+use Rattle.tau_markup.proofs.LineLemmas.{lines_joined}
+use Rattle.tau_shapes.specs.declared.grid.Grid.{Grid}
+use Rattle.tau_shapes.specs.Shapes.{begin_line, title_line, paper_line}
+use Rattle.tau_shapes.specs.Fixed.{style_lines, symbol_lines}
+use Rattle.tau_markup.specs.Lines.{Line}
+use Rattle.tau_shapes.specs.Each.{EachItem, Writes}
+use Rattle.tau_shapes.proofs.Writing.{both, told_as, items_next}
+use Rattle.tau_tree.specs.declared.programs.Program.{Program}
+use Rattle.tau_trace.specs.Run.{Run, len}
+use Rattle.tau_layout.specs.Plans.{Plan, grid}
+use Rattle.tau_looks.specs.declared.looks.Looks.{Looks}
+use Rattle.tau_lanes.specs.Bands.{AreNodeBands}
+use Rattle.tau_lanes.specs.LaneLines.{AreLaneLines}
+use Rattle.tau_spots.specs.Guides.{AreGuides}
+use Rattle.tau_arrows.specs.Messages.{AreMessageLines}
+use Rattle.tau_marks.specs.Marks.{AreMarks}
+use Rattle.tau_marks.specs.Rows.{AreRows}
+use Rattle.tau_bands.specs.StripLines.{AreStripLines}
+use Rattle.tau_bands.specs.StateLines.{AreStateLines}
+use Rattle.tau_bands.specs.EndLines.{AreEndLines}
+use Rattle.tau_chains.specs.declared.chained.Chained.{Chained}
+use Rattle.tau_picture.specs.Chains.{FrameLines, LinkLines, RingLines, AreChainLines}
+use Rattle.tau_picture.specs.declared.asking.Asked.{Asked}
+use Rattle.tau_picture.specs.Pictures.{begin_lines, key_lines, AreCauseLines}
+use Rattle.tau_picture.specs.Inner.Asked.{place_asked, cause_asked}
+use Rattle.tau_picture.specs.Inner.Drawing.{AreMiddle, AreRest}
+
+-- lines that P tells, and behind them lines that Q tells
+record Then (P Q : List Line → Type 0) (lines : List Line) : Type 0 where
+  front : List Line
+  front_is : P front
+  rest : List Line
+  rest_is : Q rest
+  is : lines ≡ front ++ rest
+
+behind : (P Q : List Line → Type 0) (out middle new : List ℕ) → Writes P out middle → Writes Q middle new → Writes (Then P Q) out new
+behind P Q out middle new a b = both P Q (Then P Q) out middle new a b (λ ls ks p q. record { front = ls; front_is = p; rest = ks; rest_is = q; is = refl })
+
+pub middle_parts : (P : Program) (T : Run) (plan : Plan) (looks : Looks) (o0 o1 o2 o3 o4 o5 o6 o7 : List ℕ)
+    → Writes (AreStripLines T plan looks) o0 o1 → Writes (AreNodeBands T plan) o1 o2 → Writes (AreLaneLines T plan) o2 o3 → Writes (AreGuides T plan) o3 o4
+    → Writes (AreStateLines T plan looks) o4 o5 → Writes (AreMessageLines P T plan) o5 o6 → Writes (AreMarks T plan looks.steps.items) o6 o7
+    → Writes (AreMiddle P T plan looks) o0 o7
+middle_parts P T plan looks o0 o1 o2 o3 o4 o5 o6 o7 a b c d e f g =
+    let A = AreStripLines T plan looks in
+    let B = AreNodeBands T plan in
+    let C = AreLaneLines T plan in
+    let D = AreGuides T plan in
+    let E = AreStateLines T plan looks in
+    let F = AreMessageLines P T plan in
+    let G = AreMarks T plan looks.steps.items in
+    let f' = behind F G o5 o6 o7 f g in
+    let e' = behind E (Then F G) o4 o5 o7 e f' in
+    let d' = behind D (Then E (Then F G)) o3 o4 o7 d e' in
+    let c' = behind C (Then D (Then E (Then F G))) o2 o3 o7 c d' in
+    let b' = behind B (Then C (Then D (Then E (Then F G)))) o1 o2 o7 b c' in
+    let a' = behind A (Then B (Then C (Then D (Then E (Then F G))))) o0 o1 o7 a b' in
+    told_as (Then A (Then B (Then C (Then D (Then E (Then F G)))))) (AreMiddle P T plan looks) o0 o7
+    (λ ls t0. let t1 = t0.rest_is in let t2 = t1.rest_is in let t3 = t2.rest_is in let t4 = t3.rest_is in let t5 = t4.rest_is in
+    record {
+      strip = t0.front;
+      strip_is = t0.front_is;
+      nodes = t1.front;
+      nodes_are = t1.front_is;
+      lanes = t2.front;
+      lanes_are = t2.front_is;
+      guides = t3.front;
+      guides_are = t3.front_is;
+      states = t4.front;
+      states_are = t4.front_is;
+      messages = t5.front;
+      messages_are = t5.front_is;
+      marks = t5.rest;
+      marks_are = t5.rest_is;
+      is = t0.is ∙ ap (λ x. t0.front ++ x) (t1.is ∙ ap (λ x. t1.front ++ x) (t2.is ∙ ap (λ x. t2.front ++ x) (t3.is ∙ ap (λ x. t3.front ++ x) (t4.is ∙ ap (λ x. t4.front ++ x) t5.is))));
+    }) a'
+
+pub rest_parts : (T : Run) (plan : Plan) (looks : Looks) (a : Asked) (o0 o1 o2 o3 o4 : List ℕ)
+    → Writes (AreCauseLines T plan looks (place_asked a) (cause_asked a)) o0 o1 → Writes (AreRows T plan looks.steps.items) o1 o2 → Writes (AreEndLines plan looks) o2 o3 → Writes (λ ls. ls ≡ key_lines plan) o3 o4
+    → Writes (AreRest T plan looks a) o0 o4
+rest_parts T plan looks asked o0 o1 o2 o3 o4 a b c d =
+    let A = AreCauseLines T plan looks (place_asked asked) (cause_asked asked) in
+    let B = AreRows T plan looks.steps.items in
+    let C = AreEndLines plan looks in
+    let D : List Line → Type 0 = λ ls. ls ≡ key_lines plan in
+    let c' = behind C D o2 o3 o4 c d in
+    let b' = behind B (Then C D) o1 o2 o4 b c' in
+    let a' = behind A (Then B (Then C D)) o0 o1 o4 a b' in
+    told_as (Then A (Then B (Then C D))) (AreRest T plan looks asked) o0 o4
+    (λ ls t0. let t1 = t0.rest_is in let t2 = t1.rest_is in
+    record {
+      chain = t0.front;
+      chain_is = t0.front_is;
+      rows = t1.front;
+      rows_are = t1.front_is;
+      ends = t2.front;
+      ends_are = t2.front_is;
+      is = t0.is ∙ ap (λ x. t0.front ++ x) (t1.is ∙ ap (λ x. t1.front ++ x) (t2.is ∙ ap (λ x. t2.front ++ x) t2.rest_is));
+    }) a'
+
+pub chain_parts : (T : Run) (plan : Plan) (looks : Looks) (k : ℕ) (chain : List Chained) (o0 o1 o2 o3 : List ℕ)
+    → Writes (EachItem (FrameLines plan looks) chain) o0 o1 → Writes (EachItem (LinkLines T plan looks) chain) o1 o2 → Writes (RingLines T plan k) o2 o3
+    → Writes (AreChainLines T plan looks k chain) o0 o3
+chain_parts T plan looks k chain o0 o1 o2 o3 a b c =
+    let A = EachItem (FrameLines plan looks) chain in
+    let B = EachItem (LinkLines T plan looks) chain in
+    let C = RingLines T plan k in
+    let b' = behind B C o1 o2 o3 b c in
+    let a' = behind A (Then B C) o0 o1 o3 a b' in
+    told_as (Then A (Then B C)) (AreChainLines T plan looks k chain) o0 o3
+    (λ ls t0. let t1 = t0.rest_is in
+    record {
+      frames = t0.front;
+      frames_are = t0.front_is;
+      links = t1.front;
+      links_are = t1.front_is;
+      ring = t1.rest;
+      ring_is = t1.rest_is;
+      is = t0.is ∙ ap (λ x. t0.front ++ x) t1.is;
+    }) a'
+
+-- with the lines of one more item
+pub item_next : {A : Type 0} (P : A → List Line → Type 0) (xs : List A) (k : ℕ) (d : A) (out old new : List ℕ) → k < length xs → Writes (EachItem P (take k xs)) out old → Writes (P (get_or xs k d)) old new → Writes (EachItem P (take (k + 1) xs)) out new
+item_next {A = A} P xs k d out old new lt w one = subst (λ (l : List A). Writes (EachItem P l) out new) (sym (take_more xs k d lt)) (items_next P (take k xs) (get_or xs k d) out old new w one)
+
+pub begin_parts : (T : Run) (plan : Plan) (g : Grid) (n : ℕ) → g ≡ grid plan → n ≡ len T → (o0 o1 o2 o3 o4 o5 : List ℕ)
+    → o1 ≡ with_line o0 (begin_line g.width g.height) → o2 ≡ with_line o1 (title_line n) → o3 ≡ with_lines o2 style_lines → o4 ≡ with_lines o3 symbol_lines → o5 ≡ with_line o4 (paper_line g.width g.height)
+    → o5 ≡ with_lines o0 (begin_lines T plan)
+begin_parts T plan g n eg en o0 o1 o2 o3 o4 o5 a b c d e =
+    let paper = paper_line g.width g.height in
+    let front = with_line (with_line o0 (begin_line g.width g.height)) (title_line n) in
+    e ∙ ap (λ x. with_line x paper) (d ∙ ap (λ x. with_lines x symbol_lines) (c ∙ ap (λ x. with_lines x style_lines) (b ∙ ap (λ x. with_line x (title_line n)) a)))
+    ∙ sym (lines_joined (with_lines front style_lines) symbol_lines (paper ∷ []))
+    ∙ sym (lines_joined front style_lines (symbol_lines ++ paper ∷ []))
+    ∙ (λ i. with_lines o0 (begin_line (eg i).width (eg i).height ∷ title_line (en i) ∷ (style_lines ++ (symbol_lines ++ paper_line (eg i).width (eg i).height ∷ []))))
+
+pub three_parts : (a b c : List Line) (o0 o1 o2 o3 : List ℕ) → o1 ≡ with_lines o0 a → o2 ≡ with_lines o1 b → o3 ≡ with_lines o2 c → o3 ≡ with_lines o0 (a ++ (b ++ c))
+three_parts a b c o0 o1 o2 o3 ea eb ec =
+    ec ∙ ap (λ x. with_lines x c) (eb ∙ ap (λ x. with_lines x b) ea) ∙ sym (lines_joined (with_lines o0 a) b c) ∙ sym (lines_joined o0 a (b ++ c))

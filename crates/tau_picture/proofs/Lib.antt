@@ -1,0 +1,6 @@
+mod Asks
+mod Joins
+mod Whole
+mod Showing
+mod Counting
+mod PictureLaws

@@ -1,0 +1,7 @@
+use Rattle.std.proofs.Common.{take}
+use Rattle.tau_shapes.specs.Each.{EachItem, Writes}
+use Rattle.tau_picture.specs.Chains.{FrameLines}
+use Rattle.tau_picture.proofs.chain.put_frames.Given as goal
+
+abbrev pub invariant-loop-chained : goal.invariant-loop-chained
+invariant-loop-chained l = Writes (EachItem (FrameLines l.layout l.looks) (take l.chained-index l.chained-items)) l.fn.out.items l.out.items

@@ -1,0 +1,5 @@
+-- What contracts of inner functions say; no clause of a public call rests on these.
+pub mod Counting
+pub mod Showing
+pub mod Asked
+pub mod Drawing

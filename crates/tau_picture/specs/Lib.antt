@@ -1,0 +1,7 @@
+pub mod Headings
+pub mod Said
+pub mod Chains
+pub mod Asking
+pub mod Pictures
+pub mod Laws
+pub mod Inner
