@@ -4,7 +4,7 @@
 It has `bin/tau prove` build the program, and prints a table. Each run is repeated, the numbers of workers in turn, and
 the least time is shown, since other work on the machine only adds to it. The aims, on four processors: with heavy turns, of 90,000
 evaluations each, at most 0.55 of the time of one worker by two and 0.35 by four; with small turns at most twice the time of one.
-Then, with the program show_threads, the same programs by workers on seats and by workers on a book under a lock, the two in turn, with
+Then, with the program show_workers, the same programs by workers on seats and by workers on a book under a lock, the two in turn, with
 the aim that seats take at most a tenth more; what a turn of one seat takes, where nobody else waits, with the aim of a microsecond;
 and 1,000 runs by 32 workers on seats, each of which must end.
 
@@ -20,7 +20,7 @@ import time
 import programs
 
 PROGRAM = programs.place("tau")
-THREADS = programs.place("show_threads")
+SHOWN = programs.place("show_workers")
 RUNS = 15
 TURNS = 1_000_000
 ENDING = 1_000
@@ -55,13 +55,13 @@ PROGRAMS = [
 ]
 
 
-def threads_of(text):
-    """Seconds by the clock of show_threads on this input, and the lines that it writes."""
+def shown_of(text):
+    """Seconds by the clock of show_workers on this input, and the lines that it writes."""
     began = time.monotonic()
-    done = subprocess.run([THREADS], input=text.encode(), stdout=subprocess.PIPE, check=False)
+    done = subprocess.run([SHOWN], input=text.encode(), stdout=subprocess.PIPE, check=False)
     spent = time.monotonic() - began
     if done.returncode != 0:
-        sys.exit(f"show_threads ended with status {done.returncode}")
+        sys.exit(f"show_workers ended with status {done.returncode}")
     return spent, done.stdout.decode().splitlines()
 
 
@@ -70,7 +70,7 @@ def show_beside_the_lock():
     print(f"\n{'program':44} {'workers':>7} {'seats':>8} {'lock':>8} {'share':>7} {'aim':>5}")
     for name, text, aims in PROGRAMS:
         for workers in aims:
-            rounds = [[threads_of(f"# {way} {workers}\n{text}")[0] for way in ("seats", "lock")] for _ in range(RUNS)]
+            rounds = [[shown_of(f"# {way} {workers}\n{text}")[0] for way in ("seats", "lock")] for _ in range(RUNS)]
             seats, lock = (min(each[way] for each in rounds) for way in (0, 1))
             print(f"{name:44} {workers:7} {seats:8.3f} {lock:8.3f} {seats / lock:7.2f}  1.10", flush=True)
 
@@ -78,7 +78,7 @@ def show_beside_the_lock():
 def show_turns():
     """Prints what a turn of one seat takes."""
     idle = "(nodes 1)\n(behaviour a unit)\n(start a a 0 0)\n"
-    times = {turns: min(threads_of(f"# turns {turns}\n{idle}")[0] for _ in range(RUNS)) for turns in (1, TURNS)}
+    times = {turns: min(shown_of(f"# turns {turns}\n{idle}")[0] for _ in range(RUNS)) for turns in (1, TURNS)}
     each = (times[TURNS] - times[1]) / TURNS * 1e6
     print(f"\na turn of one seat, of {TURNS:,}: {each:.3f} microseconds, aim 1", flush=True)
 
@@ -86,7 +86,7 @@ def show_turns():
 def show_endings():
     """Prints how many of the runs by 32 workers ended with a legal and complete trace."""
     text = "# checked" + " 32" * ENDING + "\n" + small(16, 5, 2)
-    spent, lines = threads_of(text)
+    spent, lines = shown_of(text)
     well = lines.count("32 workers: ended, legal, complete: true, told so: true")
     print(f"\nruns by 32 workers: {well} of {ENDING} ended, legal and complete, in {spent:.1f} s", flush=True)
     return 0 if well == ENDING else 1
@@ -106,7 +106,7 @@ def seconds_of(command, path, workers):
 def main():
     command = sys.argv[1:] or [PROGRAM, "run", "--steps", "4000"]
     if not sys.argv[1:]:
-        programs.prove("show_threads")
+        programs.prove("show_workers")
     print(f"{'program':44} {'workers':>7} {'seconds':>8} {'of one':>7} {'aim':>5}")
     with tempfile.TemporaryDirectory() as folder:
         for name, text, aims in PROGRAMS:

@@ -1,4 +1,6 @@
-//! Gates that hold a turn until another has come so far.
+//! Gates that hold a turn until another has come so far. Turn 0 is the turn whose Take stands at place 0. In case A its first `enter` is
+//! held until the other turn has left three times. In case B its first `enter` is held until the other turn has entered, and the first
+//! `enter` of that one until turn 0 has left three times.
 use std::hint::spin_loop;
 use std::sync::atomic::{AtomicBool, AtomicU64, Ordering};
 use tau_workers::Gate;

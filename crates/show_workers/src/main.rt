@@ -1,72 +1,115 @@
-//! Two workers on one book, held by gates, so that one input gives two traces. Turn 0 is the turn whose Take stands at place 0. In case
-//! A its first `enter` is held until the other turn has left three times. In case B its first `enter` is held until the other turn has
-//! entered, and the first `enter` of that one until turn 0 has left three times. So it is done by a call of `run_workers`, and by the command
-//! `run`. What holds of each trace is written, one line for each fact. At the end stands what a book answers to two hands.
+//! Runs of programs by workers, and what a book answers to single hands and seats. Standard input has sections: a line `# WAY`, or
+//! `# WAY NUMBER..`, then a program. For each way, and for each of its numbers, lines tell what came of it:
+//!
+//! - `held`: two workers are held by gates, so that one input gives two traces, by `run_workers` and by the command `run`;
+//! - `hands`: a book answers two hands;
+//! - `dropped`: a hand leaves with the job of its turn, the book adopts another, and a new hand goes on;
+//! - `given-back`: the same, but the hand gives its job back and leaves without;
+//! - `asks`: a book answers two seats that ask once each;
+//! - `gates`: two hands at a book with two seats pass two gates in turn, in both orders;
+//! - `seats W..`: so many workers run the program on seats, as `run_workers` does it: whether the run ended, and whether it is told as
+//!   complete;
+//! - `checked W..`: the same, and the trace is checked: whether it is legal and complete;
+//! - `lock W..`: so many workers run it on a book under a lock: whether the run ended, and whether it is complete;
+//! - `both W..`: `checked`, then `lock`;
+//! - `short W..`: so many workers are short of memory behind one answer each, and one hand alone makes the steps that are left;
+//! - `turns N..`: one seat takes so many turns.
 #![tactic(auto)]
 
 ghost use Rattle.std.specs.Prelude.{IfSome};
 ghost use Rattle.tau_tree.specs.Sound.{Sound};
 
-mod commands;
+mod asks;
+mod cases;
 mod facts;
+mod gates;
 mod hands;
 mod holding;
+mod jobs;
+mod leaving;
+mod limited;
+mod locked;
+mod names;
+mod pair;
+mod runs;
+mod side;
+mod turns;
+mod ways;
 
-use crate::commands::add_command;
-use crate::facts::add_facts;
-use crate::hands::add_hands;
-use crate::holding::{Case, HoldingGate};
+use crate::ways::{add_number, add_way};
 use std::alloc::{AllocError, Global};
 use std::process::ExitCode;
 use std::sync::Wait;
 use std::thread::Threads;
 use tau_forms::program_of;
+use tau_io::{StdSink, StdSource, read_all, write_all_of};
 use tau_sexpr::read_forms;
 use tau_tree::Program;
-use tau_workers::{Settings, run_workers};
-
-/// The program: two transactors that copy a message.
-const TEXT: &str =
-    "(nodes 1)\n(behaviour copy (seq (get) (set msg)))\n(start a copy 0 0)\n(start b copy 0 0)\n(post a 5)\n(post b 5)\n";
-
-/// The program with one of them.
-const SINGLE: &str =
-    "(nodes 1)\n(behaviour copy (seq (get) (set msg)))\n(start a copy 0 0)\n(post a 5)\n";
-
-/// Two workers, each with one job.
-const SETTINGS: Settings = Settings {
-    workers: 2,
-    jobs: 1,
-    seed: 0,
-    limit: 1_000,
-};
 
 fn main(rt: HostRuntime) -> ExitCode {
-    let Ok(text) = text_of(&rt, rt.alloc()) else {
+    let alloc = rt.alloc();
+    let mut input = StdSource::new(rt.stdin());
+    let mut output = StdSink::new(rt.stdout());
+    let Ok(bytes) = read_all(alloc, &mut input, 16_777_216) else {
+        return ExitCode::from(5);
+    };
+    let Ok(text) = text_of(&rt, alloc, str::from_utf8(&bytes).unwrap_or("")) else {
         return ExitCode::from(7);
     };
-    match print!(rt; "{text}") {
+    match write_all_of(&mut output, text.as_bytes()) {
         Ok(()) => ExitCode::from(0),
         Err(_) => ExitCode::from(6),
     }
 }
 
-/// The text for both cases.
-fn text_of<R: Threads + Wait + Sync>(rt: &R, alloc: Global) -> Result<String, AllocError> {
+/// The text for all sections.
+fn text_of<R: Threads + Wait + Sync>(
+    rt: &R,
+    alloc: Global,
+    input: &str,
+) -> Result<String, AllocError> {
     let mut text = String::new(alloc);
-    let Some(program) = program_from(alloc, TEXT.as_bytes()) else {
-        text.push_str("no program\n")?;
-        return Ok(text);
-    };
-    add_case(rt, alloc, &mut text, &program, Case::A)?;
-    add_case(rt, alloc, &mut text, &program, Case::B)?;
-    add_command(rt, alloc, &mut text, TEXT, Case::A)?;
-    add_command(rt, alloc, &mut text, TEXT, Case::B)?;
-    if let Some(single) = program_from(alloc, SINGLE.as_bytes()) {
-        text.push_str("two hands on one book\n")?;
-        add_hands(alloc, &mut text, &single)?;
+    for section in input.split("# ").skip(1) {
+        add_section(rt, alloc, &mut text, section)?;
     }
     Ok(text)
+}
+
+/// Adds what came of a section.
+fn add_section<R: Threads + Wait + Sync>(
+    rt: &R,
+    alloc: Global,
+    text: &mut String,
+    section: &str,
+) -> Result<(), AllocError> {
+    let (line, spelled) = section.split_once("\n").unwrap_or((section, ""));
+    let Some(program) = program_from(alloc, spelled.as_bytes()) else {
+        return text.push_str("no program\n");
+    };
+    add_line(rt, alloc, text, line, &program, spelled)
+}
+
+/// Adds what came of the line above a program: of its way, or of each of its numbers.
+fn add_line<R: Threads + Wait + Sync>(
+    rt: &R,
+    alloc: Global,
+    text: &mut String,
+    line: &str,
+    program: &Program,
+    spelled: &str,
+) -> Result<(), AllocError>
+    requires { Sound program.now }
+{
+    let Some((way, numbers)) = line.split_once(" ") else {
+        return add_way(rt, alloc, text, line, program, spelled);
+    };
+    for word in numbers.split_whitespace() {
+        match word.parse() {
+            Ok(number) if number > 0 => add_number(rt, alloc, text, way, program, number)?,
+            _ => text.push_str("no number\n")?,
+        }
+    }
+    Ok(())
 }
 
 /// The program that bytes spell.
@@ -80,23 +123,4 @@ fn program_from(alloc: Global, bytes: &[u8]) -> Option<Program>
         Ok(program) => Some(program),
         Err(_) => None,
     }
-}
-
-/// Runs the program by two workers with the gate of a case, and adds what holds of the trace.
-fn add_case<R: Threads + Wait + Sync>(
-    rt: &R,
-    alloc: Global,
-    text: &mut String,
-    program: &Program,
-    case: Case,
-) -> Result<(), AllocError>
-    requires { Sound program.now }
-{
-    let gate = HoldingGate::new(case);
-    let ran = run_workers(rt, alloc, program, SETTINGS, &gate)?;
-    writeln!(text, "case {}", case.name())?;
-    let held = !gate.ran_out();
-    writeln!(text, "each hold ended before its limit of looks: {held}")?;
-    writeln!(text, "the run is told as complete: {}", ran.is_complete)?;
-    add_facts(alloc, text, case, program, &ran.trace)
 }

@@ -1,5 +1,0 @@
-use Rattle.show_seats.proofs.Seats.{stays_at}
-use Rattle.show_seats.proofs.side.act.Goals as goal
-
-pub returns : goal.returns
-returns g c = record { at = stays_at c.args.table.now c.args.seat.now c.act-told.new.seat c.requires.at c.act-told.ensures.stays }

@@ -1,0 +1,105 @@
+//! Runs by workers on a book under a lock.
+ghost use Rattle.std.specs.Prelude.{◌≤◌};
+ghost use Rattle.tau_value.specs.declared.limits.TheConstants.{STEP_LIMIT};
+ghost use Rattle.tau_tree.specs.Sound.{Sound};
+
+use crate::limited::LimitedPlace;
+use std::alloc::{AllocError, Global};
+use std::sync::Wait;
+use std::thread::Threads;
+use tau_book::{Book, Hand};
+use tau_clean::MarkedHearing;
+use tau_tree::Program;
+use tau_workers::{LockedBook, OpenGate, Settings, Worker, finish, run};
+
+/// More answers than a run asks for.
+const ALL: u64 = u64::MAX;
+
+/// Runs the program by workers on a book under a lock, and adds that the run ended, and whether it is complete.
+pub fn add_locked<R: Threads + Wait + Sync>(
+    rt: &R,
+    alloc: Global,
+    text: &mut String,
+    program: &Program,
+    settings: Settings,
+) -> Result<(), AllocError>
+    requires sound { Sound program.now }
+    requires jobs { 1 ≤ settings.jobs }
+    requires few { settings.jobs ≤ 16 }
+    requires limit { settings.limit ≤ STEP_LIMIT }
+{
+    let locked = LockedBook::new(Book::open(alloc, program, settings.limit)?);
+    work(rt, alloc, &locked, settings, ALL)?;
+    let is_complete = locked.into_book().finished() == Some(true);
+    let workers = settings.workers;
+    writeln!(
+        text,
+        "{workers} workers under a lock: ended, complete: {is_complete}"
+    )
+}
+
+/// Lets workers take one answer each from a book, of which they are then short of memory, and adds how many are short, and what one hand
+/// alone makes of the book.
+pub fn add_short<R: Threads + Wait + Sync>(
+    rt: &R,
+    alloc: Global,
+    text: &mut String,
+    program: &Program,
+    settings: Settings,
+) -> Result<(), AllocError>
+    requires sound { Sound program.now }
+    requires some { 1 ≤ settings.jobs }
+    requires few { settings.jobs ≤ 16 }
+    requires limit { settings.limit ≤ STEP_LIMIT }
+{
+    let locked = LockedBook::new(Book::open(alloc, program, settings.limit)?);
+    let short = work(rt, alloc, &locked, settings, 1)?;
+    let workers = settings.workers;
+    let ran = finish(alloc, locked.into_book(), settings.seed, settings.jobs)?;
+    writeln!(text, "{workers} workers under a lock: short: {short}")?;
+    let steps = ran.trace.len();
+    let is_complete = ran.is_complete;
+    writeln!(
+        text,
+        "one hand alone: ended, steps: {steps}, complete: {is_complete}"
+    )
+}
+
+/// Lets workers work on a book under a lock, each with so many answers, until it is finished or all are short of memory. How many are
+/// short then.
+fn work<'p, R: Threads + Wait + Sync>(
+    rt: &R,
+    alloc: Global,
+    locked: &LockedBook<'p, MarkedHearing>,
+    settings: Settings,
+    answers: u64,
+) -> Result<usize, AllocError>
+    requires some { 1 ≤ settings.jobs }
+    requires few { settings.jobs ≤ 16 }
+{
+    let mut workers = make_workers(alloc, locked, settings, answers)?;
+    run(rt, workers.as_mut_slice(), &OpenGate);
+    Ok(workers.iter().filter(|worker| worker.short).count())
+}
+
+/// The workers before their first step.
+fn make_workers<'b, 'p>(
+    alloc: Global,
+    locked: &'b LockedBook<'p, MarkedHearing>,
+    settings: Settings,
+    answers: u64,
+) -> Result<Vec<Worker<'p, LimitedPlace<'b, 'p>>>, AllocError>
+    requires some { 1 ≤ settings.jobs }
+    requires few { settings.jobs ≤ 16 }
+{
+    let mut workers = Vec::new(alloc);
+    for number in 0..settings.workers {
+        workers.push(Worker {
+            number,
+            place: LimitedPlace { locked, answers },
+            hand: Hand::new(alloc, u64::from(number), settings.jobs)?,
+            short: false,
+        })?;
+    }
+    Ok(workers)
+}
