@@ -6,6 +6,7 @@
 //! - nothing: where the words start one worker, a further line says whether the call that starts threads does the same;
 //! - `#`: as nothing, but the run text is shown by the number of its steps and the last two alone, and then by what `check` writes for it;
 //! - a number: the number of lines that the command writes stands in place of them, and behind it so many of the last ones;
+//! - `=`: for each line `;? TEXT` of the input, how many of the lines that the command writes hold the text stands in place of them;
 //! - `!`: what comes where a read or a write fails (`failing.rt`);
 //! - `?`: what comes where the read behind the last byte that an input may have fails.
 //!
@@ -13,11 +14,13 @@
 #![tactic(auto)]
 
 mod answers;
+mod counted;
 mod failing;
 mod inputs;
 mod words;
 
 use crate::answers::{add_check, add_last_lines, add_last_steps, add_status};
+use crate::counted::add_counts;
 use crate::failing::{Tried, add_failures, add_late_failure};
 use crate::inputs::{input_of, line_of};
 use crate::words::{starts_one_worker, words_of};
@@ -98,6 +101,7 @@ fn add_section<R: Threads + Wait + Sync>(
             add_status(alloc, text, status)
         }
         "#" | "##" => add_whole(rt, alloc, text, mark, &words, &input),
+        "#=" => add_counted(alloc, text, &words, &input),
         _ => add_end(alloc, text, mark, &words, input),
     }
 }
@@ -147,6 +151,20 @@ fn is_same_with_threads<R: Threads + Wait + Sync>(
     let mut output = SteadySink::new(alloc);
     let end = tau(rt, alloc, words, &mut source, &mut output, &OpenGate);
     Ok(end == status && output.bytes() == written)
+}
+
+/// Adds how many of the lines that words write for an input hold each text that it names, and the status.
+fn add_counted(
+    alloc: Global,
+    text: &mut Vec<u8>,
+    words: &Words,
+    input: &[u8],
+) -> Result<(), AllocError> {
+    let mut source = SteadySource::new(Vec::from_slice(alloc, input)?);
+    let mut output = SteadySink::new(alloc);
+    let status = tau_still(alloc, words, &mut source, &mut output);
+    add_counts(alloc, text, input, output.bytes())?;
+    add_status(alloc, text, status)
 }
 
 /// Adds the end of what words write for an input, as the number behind the `#` says, and the status.
