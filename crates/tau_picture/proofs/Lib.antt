@@ -4,3 +4,17 @@ mod Whole
 mod Showing
 mod Counting
 mod PictureLaws
+mod Ordered
+mod EachOnce
+mod OnePlan
+mod OneState
+mod OneCause
+mod AsShown
+mod OneNote
+mod OneBand
+mod OneChain
+pub mod OnePicture
+mod KeptLaws
+mod MarkLaws
+mod LaneLaws
+mod ArrowLaws

@@ -1,12 +1,14 @@
 -- The whole picture, from its parts.
-use Rattle.std.proofs.Common.{◌≡◌, ℕ, ◌≤◌, List, [], ◌++◌, refl, sym, ap, ◌∙◌, subst, append_assoc, arith}
+use Rattle.std.proofs.Common.{◌≡◌, ⊎_elim, ℕ, ◌<◌, ◌≤◌, List, [], ◌++◌, Some, refl, sym, ap, ◌∙◌, subst, append_assoc, arith}
+use Rattle.std.proofs.lemmas.Option.{slice_get_cases}
 use Rattle.tau_markup.specs.Lines.{Line, with_lines}
 use Rattle.tau_markup.proofs.LineLemmas.{lines_appended, lines_joined}
 use Rattle.tau_shapes.specs.declared.window.Window.{Window}
 use Rattle.tau_shapes.specs.Windows.{window_of}
 use Rattle.tau_shapes.specs.Each.{Writes}
 use Rattle.tau_tree.specs.declared.programs.Program.{Program}
-use Rattle.tau_trace.specs.Run.{Run, len}
+use Rattle.tau_trace.specs.declared.step.Step.{Step}
+use Rattle.tau_trace.specs.Run.{Run, len, step_at}
 use Rattle.tau_layout.specs.Lanes.{AreLanes}
 use Rattle.tau_layout.specs.Plans.{Plan, IsPlan}
 use Rattle.tau_cut.specs.declared.cut.Marked.{Marked}
@@ -31,11 +33,15 @@ own_plan T v plan is = record {
 }
 
 -- no window ends behind the last step
-ends_within : (n from to : ℕ) → (window_of n from to).to ≤ n
+pub ends_within : (n from to : ℕ) → (window_of n from to).to ≤ n
 ends_within n from to = omega arith
 
 pub window_within : (T : Run) (from to : ℕ) (plan : Plan) → IsPlan T (window_of (len T) from to) plan → plan.window.to ≤ len T
 window_within T from to plan is = subst (λ (w : Window). w.to ≤ len T) (sym is.window_is) (ends_within (len T) from to)
+
+-- a step stands at each place of a run
+pub step_there : (T : Run) (k : ℕ) → k < len T → (s : Step) × (step_at T k ≡ Some s)
+step_there T k lt = ⊎_elim (λ p. (p.0, p.2)) (λ p. absurd (omega (arith, lt, p.0))) (slice_get_cases T.steps k).1
 
 cause_is : (T : Run) (cut : List Marked) (a : Asked) → TellsCause T cut a → IsCauseOf T cut (place_asked a) (cause_asked a)
 cause_is T cut asked.Nothing told = refl

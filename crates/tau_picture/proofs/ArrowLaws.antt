@@ -1,0 +1,148 @@
+-- Arrows join the spots of senders and receivers.
+use Rattle.std.proofs.Common.{◌≡◌, ◌⊎◌, inl, inr, ℕ, ◌+◌, ◌-◌, Bool, true, false, not, List, [], ◌∷◌, ◌++◌, Some, refl, sym, ◌∙◌, subst, append_assoc}
+use Rattle.std.specs.Prelude.{if◌then◌else◌, codes}
+use Rattle.tau_markup.specs.Lines.{Piece, plain, Line}
+use Rattle.tau_tree.specs.declared.programs.Program.{Program}
+use Rattle.tau_trace.specs.declared.step.Step.{Step}
+use Rattle.tau_trace.specs.declared.step.Step.TheVariants.{Lose, Send, Repeat, New}
+use Rattle.tau_trace.specs.Run.{Run, step_at}
+use Rattle.tau_trace.specs.Known.{IsSound}
+use Rattle.tau_trace.proofs.Lists.{same_some}
+use Rattle.tau_trace.proofs.Once.{origin_is_one, origin_acts}
+use Rattle.tau_shapes.specs.Shapes.{go, go_to, beside}
+use Rattle.tau_shapes.specs.Windows.{IsDrawn}
+use Rattle.tau_layout.specs.Lanes.{StandsIn, AreLanes}
+use Rattle.tau_layout.specs.Plans.{Plan, grid, row_y, HasX}
+use Rattle.tau_layout.proofs.LaneLemmas.{one_lane}
+use Rattle.tau_courses.proofs.Beginnings.{acting}
+use Rattle.tau_spots.specs.declared.spots.Spot.{Spot}
+use Rattle.tau_spots.specs.declared.sources.Source.{Source}
+use Rattle.tau_spots.specs.declared.sources.Source.TheVariants.{Post, Earlier, Drawn}
+use Rattle.tau_spots.specs.Senders.{met_by}
+use Rattle.tau_spots.specs.Spots.{StandsBeside, IsSpotX, in_lane, IsSpot, IsSource}
+use Rattle.tau_spots.specs.Paths.{offset, gap, curve, line_end, way_end, receipt_path}
+use Rattle.tau_spots.proofs.Once.{x_once, spot_once}
+use Rattle.tau_arrows.specs.Titles.{receipt_title}
+use Rattle.tau_arrows.specs.Arrows.{is_long, receipt_class, receipt_line}
+use Rattle.tau_arrows.specs.Messages.{IsReceiptLine, receipt_leads, receipt_nowhere, IsLineOf, IsLineTo}
+use Rattle.tau_picture.specs.Laws.{Leads, begins, across, down, curved, BeginsAt, EndsAt, IsArrow, ArrowsJoin}
+use Rattle.tau_picture.proofs.Whole.{own_plan}
+
+-- how far across an arrow ends
+abbrev end_x : Step → Bool → ℕ → ℕ → ℕ
+end_x (Lose n) right at x = at
+end_x s right at x = beside right x 6
+
+leads_as : (from : Spot) (way other : List Piece) (to : Spot) → way ≡ other → Leads from way to → Leads from other to
+leads_as from way other to e l = subst (λ (w : List Piece). Leads from w to) e l
+
+-- a line that comes down ends in the row of the step
+end_leads : (from : Spot) (way : List Piece) (y : ℕ) (s : Step) (right : Bool) (at : ℕ) (p : Spot) → Leads from way (record { x = at; y = y }) → Leads from (way ++ line_end s right at p) (record { x = end_x s right at p.x; y = p.y })
+end_leads from way y (Lose n) right at p l = down p.y l
+end_leads from way y s right at p l =
+    let fall = go (codes "V") (p.y - 5) in
+    let bend = curve at p.y (beside (not right) at 3) p.y in
+    let run = go (codes "H") (beside right p.x 6) in
+    leads_as from (((way ++ fall) ++ bend) ++ run) (way ++ (fall ++ (bend ++ run))) (record { x = beside right p.x 6; y = p.y })
+    (append_assoc (way ++ fall) bend run ∙ append_assoc way fall (bend ++ run))
+    (across (beside right p.x 6) (curved at p.y (beside (not right) at 3) p.y (down (p.y - 5) l)))
+
+-- where the arrow from a source begins, and where it ends
+abbrev source_at : Plan → ℕ → Step → ℕ → ℕ → Source → Spot
+source_at plan k s m x Post = record { x = x - 24; y = row_y plan k }
+source_at plan k s m x (Earlier o) = record { x = x - offset (grid plan).is_wide s m; y = (grid plan).top - 12 }
+source_at plan k s m x (Drawn q) = q.spot
+
+abbrev target_x : Plan → Step → ℕ → ℕ → Source → ℕ
+target_x plan s m x Post = x - gap s
+target_x plan s m x (Earlier o) = end_x s false (x - offset (grid plan).is_wide s m) x
+target_x plan s m x (Drawn q) = end_x s q.right (beside q.right x (offset (grid plan).is_wide s m)) x
+
+module _ (plan : Plan) (k : ℕ) (s : Step) (m x : ℕ) where
+  receipt_leads_on : (source : Source) → Leads (source_at plan k s m x source) (receipt_path (grid plan).is_wide (grid plan).top s m source (record { x = x; y = row_y plan k })) (record { x = target_x plan s m x source; y = row_y plan k })
+  receipt_leads_on Post = across (x - gap s) begins
+  receipt_leads_on (Earlier o) =
+      let at = x - offset (grid plan).is_wide s m in
+      let top = (grid plan).top - 12 in
+      end_leads (record { x = at; y = top }) (go_to (codes "M") at top) top s false at (record { x = x; y = row_y plan k }) begins
+  receipt_leads_on (Drawn q) =
+      let at = beside q.right x (offset (grid plan).is_wide s m) in
+      let p : Spot = record { x = x; y = row_y plan k } in
+      let move = go_to (codes "M") q.spot.x q.spot.y in
+      let run = go (codes "H") (way_end q at) in
+      let bend = curve at q.spot.y at (q.spot.y + 5) in
+      leads_as q.spot (((move ++ run) ++ bend) ++ line_end s q.right at p) (move ++ (run ++ (bend ++ line_end s q.right at p))) (record { x = end_x s q.right at x; y = row_y plan k })
+      (append_assoc (move ++ run) bend (line_end s q.right at p) ∙ append_assoc move run (bend ++ line_end s q.right at p))
+      (end_leads q.spot ((move ++ run) ++ bend) (q.spot.y + 5) s q.right at p (curved at q.spot.y at (q.spot.y + 5) (across (way_end q at) begins)))
+
+module _ (T : Run) (sound : IsSound T.opening) (plan : Plan) (lanes : AreLanes T plan.window plan.lanes) where
+  begins_at : (k : ℕ) (s : Step) (m t x : ℕ) (source : Source) → IsSource T plan m t source → BeginsAt T plan k m x (source_at plan k s m x source)
+  begins_at k s m t x Post none = record { sent = λ j by q o d at. absurd (none j by o); posted = λ no. (refl, refl); earlier = λ j by o out. absurd (none j by o) }
+  begins_at k s m t x (Earlier e) is = record {
+    sent = λ j by q o d at. absurd (is.1 (subst (IsDrawn plan.window) (origin_is_one T j e.place by e.who m o is.0).0 d));
+    posted = λ no. absurd (no e.place e.who is.0);
+    earlier = λ j by o out. refl;
+  }
+  begins_at k s m t x (Drawn r) is = record {
+    sent = λ j by q o d at.
+        let same = origin_is_one T r.origin.place j r.origin.who by m is.origin o in
+        let step = acting T by j (origin_acts T j by m o) in
+        spot_once T sound plan lanes j step.0 r.spot q step.1 (subst (λ (n : ℕ). IsSpot T plan n r.spot) same.0 is.spot) at;
+    posted = λ no. absurd (no r.origin.place r.origin.who is.origin);
+    earlier = λ j by o out. absurd (out (subst (IsDrawn plan.window) (origin_is_one T r.origin.place j r.origin.who by m is.origin o).0 is.drawn));
+  }
+
+  -- a Lose stands where its arrow ends
+  lost : (m t x : ℕ) (source : Source) → IsSource T plan m t source → StandsBeside T plan (Lose m) t x (target_x plan (Lose m) m x source)
+  lost m t x Post none = (false, (λ e. absurd (cc), λ c. absurd (none c.place c.sender c.origin)), refl)
+  lost m t x (Earlier e) is = (false, (λ f. absurd (cc), λ c. absurd (is.1 (subst (IsDrawn plan.window) (origin_is_one T c.place e.place c.sender e.who m c.origin is.0).0 c.drawn))), refl)
+  lost m t x (Drawn r) is = (r.right, is.right, refl)
+
+  ends_lost : (k m t x : ℕ) (source : Source) → step_at T k ≡ Some (Lose m) → StandsIn T k t → HasX plan t x → IsSource T plan m t source → IsSpot T plan k (record { x = target_x plan (Lose m) m x source; y = row_y plan k })
+  ends_lost k m t x source at h a is = λ s e. (subst (λ (z : Step). IsSpotX T plan z k (target_x plan (Lose m) m x source)) (same_some (sym at ∙ e)) (in_lane h a (lost m t x source is)), refl)
+
+  side : (right : Bool) (x : ℕ) → (beside right x 6 ≡ x + 6) ⊎ (beside right x 6 ≡ x - 6)
+  side true x = inl refl
+  side false x = inr refl
+
+  ends_at : (k : ℕ) (s : Step) (m t x : ℕ) (source : Source) → step_at T k ≡ Some s → met_by s ≡ Some m → StandsIn T k t → HasX plan t x → IsSource T plan m t source → EndsAt T plan k s x (record { x = target_x plan s m x source; y = row_y plan k })
+  ends_at k (Lose n) m t x source at e h a is =
+      let same : n ≡ m = same_some e in
+      subst (λ (z : ℕ). IsSpot T plan k (record { x = target_x plan (Lose n) z x source; y = row_y plan k })) same
+      (ends_lost k n t x source at h a (subst (λ (z : ℕ). IsSource T plan z t source) (sym same) is))
+  ends_at k s m t x Post at e h a is = (inr refl, refl)
+  ends_at k s m t x (Earlier o) at e h a is = (inr refl, refl)
+  ends_at k s m t x (Drawn q) at e h a is = (side q.right x, refl)
+
+module _ (P : Program) (T : Run) (plan : Plan) (k : ℕ) where
+  -- the line of a step that receives or loses a message
+  receipt_of : (s : Step) (m : ℕ) (ls : List Line) → IsLineOf P T plan k s ls → met_by s ≡ Some m → IsReceiptLine P T plan k s m ls
+  receipt_of (Send t u v) m ls l e = absurd (cc)
+  receipt_of (Repeat n) m ls l e = absurd (cc)
+  receipt_of (New t b n v) m ls l e = absurd (cc)
+  receipt_of s m ls l e = subst (λ o. IsLineTo P T plan k s o ls) e l
+
+  arrow : IsSound T.opening → AreLanes T plan.window plan.lanes → (s : Step) (m t x : ℕ) (ls : List Line) → step_at T k ≡ Some s → met_by s ≡ Some m → StandsIn T k t → HasX plan t x → IsReceiptLine P T plan k s m ls → (line : Line) × (ls ≡ line ∷ []) × IsArrow T plan k s m x line
+  arrow sound lanes s m t x ls at e h a (receipt_nowhere none f) = absurd (none t x h a)
+  arrow sound lanes s m t x ls at e h a (receipt_leads {t = u} {x = z} {v = v} source i b value is f) =
+      let line = receipt_line T.opening.names (grid plan) k s m u v source (record { x = z; y = row_y plan k }) in
+      let who : u ≡ t = one_lane T k u t i h in
+      let middle : z ≡ x = x_once T sound plan lanes t z x (subst (λ (w : ℕ). HasX plan w z) who b) a in
+      let told : IsArrow T plan k s m z line = record {
+        from = source_at plan k s m z source;
+        to = record { x = target_x plan s m z source; y = row_y plan k };
+        begins_at = begins_at T sound plan lanes k s m u z source is;
+        ends_at = ends_at T sound plan lanes k s m u z source at e i b is;
+        kind = receipt_class k s source;
+        kind_is = (if is_long k source then plain (codes " long") ∷ [] else [], refl);
+        way = receipt_path (grid plan).is_wide (grid plan).top s m source (record { x = z; y = row_y plan k });
+        title = receipt_title T.opening.names k s m u v source;
+        leads = receipt_leads_on plan k s m z source;
+        is = refl;
+      } in
+      (line, f, subst (λ (c : ℕ). IsArrow T plan k s m c line) middle told)
+
+pub arrows_join : ArrowsJoin
+arrows_join P T v plan w is k s m t x lines l at e h a =
+    let lanes = (own_plan T v plan is).lanes_are in
+    arrow P T plan k w.opening lanes s m t x lines at e h a (receipt_of P T plan k s m lines (l s at) e)
