@@ -12,6 +12,9 @@
 //! writing failed, and 7 without memory.
 #![tactic(auto)]
 
+ghost use Rattle.std.specs.Prelude.{◌≤◌, All};
+ghost use Rattle.tau_sexpr.specs.Tree.{HasWords, depths};
+
 mod programs;
 mod texts;
 mod values;
@@ -22,6 +25,7 @@ use crate::values::{add_numbers, add_values};
 use std::alloc::{AllocError, Global};
 use std::process::ExitCode;
 use tau_io::{StdSink, StdSource, read_all, write_all_of};
+use tau_sexpr::{Forms, read_forms};
 
 fn main(rt: HostRuntime) -> ExitCode {
     let alloc = rt.alloc();
@@ -55,12 +59,35 @@ fn add_section(alloc: Global, text: &mut String, section: &str) -> Result<(), Al
     let rest = rest.strip_suffix("\n").unwrap_or(rest);
     writeln!(text, "# {line}")?;
     match line.split_whitespace().next().unwrap_or("") {
-        "forms" => add_forms(alloc, text, rest),
-        "built" => add_built(alloc, text, rest),
-        "numbers" => add_numbers(alloc, text, rest),
-        "values" => add_values(alloc, text, rest),
-        "program" => add_program(alloc, text, rest),
         "mixed" => add_mixed(alloc, text, rest),
+        verb => add_answer(alloc, text, verb, rest),
+    }
+}
+
+/// Adds what a verb answers on the forms of a text; or the text's fault.
+fn add_answer(
+    alloc: Global,
+    text: &mut String,
+    verb: &str,
+    spelled: &str,
+) -> Result<(), AllocError> {
+    match read_forms(alloc, spelled.as_bytes()) {
+        Ok(forms) => add_read(alloc, text, verb, &forms),
+        Err(error) => writeln!(text, "{error}"),
+    }
+}
+
+/// Adds what a verb answers on forms that were read.
+fn add_read(alloc: Global, text: &mut String, verb: &str, forms: &Forms) -> Result<(), AllocError>
+    requires depth { depths forms.now ≤ 200 }
+    requires words { All HasWords forms.now }
+{
+    match verb {
+        "forms" => add_forms(alloc, text, forms),
+        "built" => add_built(alloc, text, forms),
+        "numbers" => add_numbers(alloc, text, forms),
+        "values" => add_values(alloc, text, forms),
+        "program" => add_program(alloc, text, forms),
         _ => text.push_str("no such verb\n"),
     }
 }

@@ -1,24 +1,26 @@
 //! Programs.
+ghost use Rattle.std.specs.Prelude.{◌≤◌};
+ghost use Rattle.tau_sexpr.specs.Tree.{depths};
+
 use crate::texts::add_printed;
 use std::alloc::{AllocError, Global};
 use tau_forms::{forms_of, program_of};
-use tau_sexpr::read_forms;
+use tau_sexpr::{Forms, read_forms};
 use tau_tree::Program;
 
-/// Adds the program of a text, printed from a copy; or its fault.
-pub(crate) fn add_program(
-    alloc: Global,
-    text: &mut String,
-    spelled: &str,
-) -> Result<(), AllocError> {
-    let forms = match read_forms(alloc, spelled.as_bytes()) {
-        Ok(forms) => forms,
-        Err(error) => return writeln!(text, "{error}"),
-    };
+/// Adds the program of these forms, printed from a copy; or its fault.
+pub(crate) fn add_program(alloc: Global, text: &mut String, forms: &Forms) -> Result<(), AllocError>
+    requires { depths forms.now ≤ 200 }
+{
     match program_of(alloc, forms.items()) {
-        Ok(program) => add_sound(alloc, text, &program.copy()?),
+        Ok(program) => add_copy(alloc, text, &program),
         Err(error) => writeln!(text, "{error}"),
     }
+}
+
+/// Adds a copy of a program.
+fn add_copy(alloc: Global, text: &mut String, program: &Program) -> Result<(), AllocError> {
+    add_sound(alloc, text, &program.copy()?)
 }
 
 /// Adds a program, printed, where it is sound.
@@ -35,15 +37,24 @@ pub(crate) fn add_mixed(alloc: Global, text: &mut String, spelled: &str) -> Resu
     let (Some(first), Some(second)) = (program_in(alloc, first), program_in(alloc, second)) else {
         return text.push_str("no programs\n");
     };
-    let mixed = Program {
+    add_soundness(alloc, text, &mixed_of(first, second))
+}
+
+/// The version, the nodes and the starts of a first program with the behaviours, posts and script of a second one.
+fn mixed_of(first: Program, second: Program) -> Program {
+    Program {
         version: first.version,
         nodes: first.nodes,
         behaviours: second.behaviours,
         starts: first.starts,
         posts: second.posts,
         script: second.script,
-    };
-    let is_sound = mixed.sound(alloc)?;
+    }
+}
+
+/// Adds whether a program is sound.
+fn add_soundness(alloc: Global, text: &mut String, program: &Program) -> Result<(), AllocError> {
+    let is_sound = program.sound(alloc)?;
     text.push_str(if is_sound { "sound\n" } else { "not sound\n" })
 }
 

@@ -6,28 +6,24 @@ ghost use Rattle.tau_sexpr.specs.Tree.{HasWords, depth_of, depths};
 use std::alloc::{AllocError, Global};
 use tau_sexpr::{
     Form, Forms, Text, Word, are_text_bytes, are_word_bytes, is_text_byte, is_word_byte,
-    print_forms, read_forms,
+    print_forms,
 };
 
-/// Adds the forms of a text, printed from a copy; or its fault.
-pub(crate) fn add_forms(alloc: Global, text: &mut String, spelled: &str) -> Result<(), AllocError> {
-    match read_forms(alloc, spelled.as_bytes()) {
-        Ok(forms) => add_printed(alloc, text, &forms.copy()?),
-        Err(error) => writeln!(text, "{error}"),
-    }
+/// Adds forms, printed from a copy.
+pub(crate) fn add_forms(alloc: Global, text: &mut String, forms: &Forms) -> Result<(), AllocError>
+    requires depth { depths forms.now ≤ 200 }
+    requires words { All HasWords forms.now }
+{
+    add_printed(alloc, text, &forms.copy()?)
 }
 
-/// Adds the forms of a text, printed with words and texts that were built anew; or its fault.
-pub(crate) fn add_built(alloc: Global, text: &mut String, spelled: &str) -> Result<(), AllocError> {
-    let forms = match read_forms(alloc, spelled.as_bytes()) {
-        Ok(forms) => forms,
-        Err(error) => return writeln!(text, "{error}"),
-    };
-    let mut built = Forms::new(alloc);
-    for form in forms.items() {
-        built.add(built_form(alloc, form)?)?;
-    }
-    if !built.same(&forms) {
+/// Adds forms, printed with words and texts that are built anew.
+pub(crate) fn add_built(alloc: Global, text: &mut String, forms: &Forms) -> Result<(), AllocError>
+    requires depth { depths forms.now ≤ 200 }
+    requires words { All HasWords forms.now }
+{
+    let built = built_forms(alloc, forms)?;
+    if !built.same(forms) {
         return text.push_str("other forms\n");
     }
     add_printed(alloc, text, &built)
@@ -50,6 +46,15 @@ pub(crate) fn add_printed(alloc: Global, text: &mut String, forms: &Forms) -> Re
 {
     let bytes = print_forms(alloc, forms)?;
     text.push_str(str::from_utf8(&bytes).unwrap_or(""))
+}
+
+/// The same forms, whose words and texts at the top are built anew.
+fn built_forms(alloc: Global, forms: &Forms) -> Result<Forms, AllocError> {
+    let mut built = Forms::new(alloc);
+    for form in forms.items() {
+        built.add(built_form(alloc, form)?)?;
+    }
+    Ok(built)
 }
 
 fn built_form(alloc: Global, form: &Form) -> Result<Form, AllocError> {

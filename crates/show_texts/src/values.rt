@@ -1,24 +1,26 @@
 //! Numbers and values.
+ghost use Rattle.tau_value.specs.Names.{AreNames};
+ghost use Rattle.tau_value.specs.Sizes.{IsInBounds};
+ghost use Rattle.tau_value.specs.Value.{val_of};
+
 use crate::texts::add_one;
 use std::alloc::{AllocError, Global};
-use tau_sexpr::{Form, Word, read_forms};
-use tau_value::{Names, count_of, form_of, integer_of, value_of, word_of_count, word_of_integer};
+use tau_sexpr::{Form, Forms, Word, read_forms};
+use tau_value::{
+    Names, Value, count_of, form_of, integer_of, value_of, word_of_count, word_of_integer,
+};
 
 /// The names that values are read with, and the bound.
 const NAMES: &str = "a to-2";
 
 const BOUND: u32 = 9;
 
-/// Adds each word of a text as a count and as an integer; or the text's fault.
+/// Adds each word of these forms as a count and as an integer.
 pub(crate) fn add_numbers(
     alloc: Global,
     text: &mut String,
-    spelled: &str,
+    forms: &Forms,
 ) -> Result<(), AllocError> {
-    let forms = match read_forms(alloc, spelled.as_bytes()) {
-        Ok(forms) => forms,
-        Err(error) => return writeln!(text, "{error}"),
-    };
     for form in forms.items() {
         if let Form::Word(word) = form {
             add_word(text, word)?;
@@ -50,16 +52,12 @@ fn add_integer(alloc: Global, text: &mut String, word: &Word) -> Result<(), Allo
     text.push_str("\n")
 }
 
-/// Adds each form of a text as a value, or its fault; or the text's fault.
+/// Adds each form as a value, or its fault.
 pub(crate) fn add_values(
     alloc: Global,
     text: &mut String,
-    spelled: &str,
+    forms: &Forms,
 ) -> Result<(), AllocError> {
-    let forms = match read_forms(alloc, spelled.as_bytes()) {
-        Ok(forms) => forms,
-        Err(error) => return writeln!(text, "{error}"),
-    };
     let names = names_of(alloc)?;
     for form in forms.items() {
         add_value(alloc, text, form, &names)?;
@@ -68,21 +66,32 @@ pub(crate) fn add_values(
 }
 
 fn names_of(alloc: Global) -> Result<Names, AllocError> {
-    let mut names = Names::new(alloc);
     let Ok(forms) = read_forms(alloc, NAMES.as_bytes()) else {
         return Err(AllocError);
     };
-    for form in forms.items() {
-        if let Form::Word(word) = form {
-            if let Err((_word, failed)) = names.push(word.copy()?) {
-                return Err(failed);
-            }
-        }
-    }
+    let mut names = Names::new(alloc);
+    add_names(&mut names, &forms)?;
     names.copy()
 }
 
-/// Adds a form as a value, printed from a copy; or its fault.
+/// Adds the words of these forms to a list of names.
+fn add_names(names: &mut Names, forms: &Forms) -> Result<(), AllocError> {
+    for form in forms.items() {
+        if let Form::Word(word) = form {
+            add_name(names, word)?;
+        }
+    }
+    Ok(())
+}
+
+fn add_name(names: &mut Names, name: &Word) -> Result<(), AllocError> {
+    match names.push(name.copy()?) {
+        Ok(()) => Ok(()),
+        Err((_name, failed)) => Err(failed),
+    }
+}
+
+/// Adds a form as a value, or its fault.
 fn add_value(
     alloc: Global,
     text: &mut String,
@@ -93,7 +102,21 @@ fn add_value(
         return text.push_str("no names\n");
     }
     match value_of(alloc, form, names, BOUND) {
-        Ok(value) => add_one(alloc, text, form_of(alloc, &value.copy()?, names)?),
+        Ok(value) => add_copy(alloc, text, &value, names),
         Err(error) => writeln!(text, "{error}"),
     }
+}
+
+/// Adds a copy of a value, printed.
+fn add_copy(
+    alloc: Global,
+    text: &mut String,
+    value: &Value,
+    names: &Names,
+) -> Result<(), AllocError>
+    requires within { IsInBounds (val_of value.now) }
+    requires names { AreNames names.now }
+{
+    let copied = value.copy()?;
+    add_one(alloc, text, form_of(alloc, &copied, names)?)
 }
