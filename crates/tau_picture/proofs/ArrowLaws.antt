@@ -1,18 +1,21 @@
 -- Arrows join the spots of senders and receivers.
-use Rattle.std.proofs.Common.{◌≡◌, ◌⊎◌, inl, inr, ℕ, ◌+◌, ◌-◌, Bool, true, false, not, List, [], ◌∷◌, ◌++◌, Some, refl, sym, ◌∙◌, subst, append_assoc}
-use Rattle.std.specs.Prelude.{if◌then◌else◌, codes}
+use Rattle.std.proofs.Common.{◌≡◌, ◌⊎◌, inl, inr, ⊎_elim, ℕ, ◌+◌, ◌-◌, Bool, true, false, not, List, [], ◌∷◌, ◌++◌, Some, None, refl, sym, ◌∙◌, subst, append_assoc}
+use Rattle.std.specs.Prelude.{if◌then◌else◌, Contains, codes}
 use Rattle.tau_markup.specs.Lines.{Piece, plain, Line}
+use Rattle.tau_points.proofs.Membership.{Contains-none, Contains-cons_cases}
 use Rattle.tau_tree.specs.declared.programs.Program.{Program}
 use Rattle.tau_trace.specs.declared.step.Step.{Step}
 use Rattle.tau_trace.specs.declared.step.Step.TheVariants.{Lose, Send, Repeat, New}
 use Rattle.tau_trace.specs.Run.{Run, step_at}
-use Rattle.tau_trace.specs.Known.{IsSound}
+use Rattle.tau_trace.specs.Known.{IsSound, WellFormed}
+use Rattle.tau_trace.specs.Numbering.{sent}
 use Rattle.tau_trace.proofs.Lists.{same_some}
 use Rattle.tau_trace.proofs.Once.{origin_is_one, origin_acts}
+use Rattle.tau_shapes.specs.declared.window.Window.{Window}
 use Rattle.tau_shapes.specs.Shapes.{go, go_to, beside}
 use Rattle.tau_shapes.specs.Windows.{IsDrawn}
 use Rattle.tau_layout.specs.Lanes.{StandsIn, AreLanes}
-use Rattle.tau_layout.specs.Plans.{Plan, grid, row_y, HasX}
+use Rattle.tau_layout.specs.Plans.{Plan, IsPlan, grid, row_y, HasX}
 use Rattle.tau_layout.proofs.LaneLemmas.{one_lane}
 use Rattle.tau_courses.proofs.Beginnings.{acting}
 use Rattle.tau_spots.specs.declared.spots.Spot.{Spot}
@@ -22,10 +25,10 @@ use Rattle.tau_spots.specs.Senders.{met_by}
 use Rattle.tau_spots.specs.Spots.{StandsBeside, IsSpotX, in_lane, IsSpot, IsSource}
 use Rattle.tau_spots.specs.Paths.{offset, gap, curve, line_end, way_end, receipt_path}
 use Rattle.tau_spots.proofs.Once.{x_once, spot_once}
-use Rattle.tau_arrows.specs.Titles.{receipt_title}
-use Rattle.tau_arrows.specs.Arrows.{is_long, receipt_class, receipt_line}
-use Rattle.tau_arrows.specs.Messages.{IsReceiptLine, receipt_leads, receipt_nowhere, IsLineOf, IsLineTo}
-use Rattle.tau_picture.specs.Laws.{Leads, begins, across, down, curved, BeginsAt, EndsAt, IsArrow, ArrowsJoin}
+use Rattle.tau_arrows.specs.Titles.{receipt_title, sent_title, new_title}
+use Rattle.tau_arrows.specs.Arrows.{is_long, receipt_class, receipt_line, sent_class, sent_line, new_line}
+use Rattle.tau_arrows.specs.Messages.{IsReceiptLine, receipt_leads, receipt_nowhere, IsSentLine, sent_leads, sent_met, sent_nowhere, IsNewLine, new_leads, new_nowhere, IsLineOf, IsLineTo, IsMessageLine}
+use Rattle.tau_picture.specs.Laws.{Leads, begins, across, down, curved, BeginsAt, EndsAt, IsArrow, IsOtherKind, flies, goes_out, creates, IsOtherLine, ArrowsJoin}
 use Rattle.tau_picture.proofs.Whole.{own_plan}
 
 -- how far across an arrow ends
@@ -142,7 +145,44 @@ module _ (P : Program) (T : Run) (plan : Plan) (k : ℕ) where
       } in
       (line, f, subst (λ (c : ℕ). IsArrow T plan k s m c line) middle told)
 
-pub arrows_join : ArrowsJoin
-arrows_join P T v plan w is k s m t x lines l at e h a =
+one_arrow : (P : Program) (T : Run) (v : Window) (plan : Plan) → WellFormed T → IsPlan T v plan → (k : ℕ) (s : Step) (m t x : ℕ) (lines : List Line)
+    → IsMessageLine P T plan k lines → step_at T k ≡ Some s → met_by s ≡ Some m → StandsIn T k t → HasX plan t x → (line : Line) × (lines ≡ line ∷ []) × IsArrow T plan k s m x line
+one_arrow P T v plan w is k s m t x lines l at e h a =
     let lanes = (own_plan T v plan is).lanes_are in
     arrow P T plan k w.opening lanes s m t x lines at e h a (receipt_of P T plan k s m lines (l s at) e)
+
+-- the lines of other steps
+
+in_none : (lines : List Line) (line : Line) → lines ≡ [] → ¬ Contains lines line
+in_none lines line e c = Contains-none line (subst (λ (ls : List Line). Contains ls line) e c)
+
+only : (lines : List Line) (one line : Line) → lines ≡ one ∷ [] → Contains lines line → IsOtherLine one → IsOtherLine line
+only lines one line e c o = ⊎_elim
+    (λ f. subst IsOtherLine (sym f) o)
+    (λ n. absurd (Contains-none line n))
+    (Contains-cons_cases one [] line (subst (λ (ls : List Line). Contains ls line) e c))
+
+kind_sent : (flies : Bool) → IsOtherKind (plain (sent_class flies) ∷ [])
+kind_sent true = flies
+kind_sent false = goes_out
+
+module _ (P : Program) (T : Run) (plan : Plan) (k : ℕ) where
+  sent_other : (s : Step) (m : ℕ) (ls : List Line) → IsSentLine P T plan k s m ls → (line : Line) → Contains ls line → IsOtherLine line
+  sent_other s m ls (sent_leads {t = t} {v = v} {flies = f} {p = p} n r h g i e) line c =
+      only ls (sent_line T.opening.names k s m t v f p) line e c (record { kind = plain (sent_class f) ∷ []; kind_is = kind_sent f; way = go_to (codes "M") p.x p.y ++ go (codes "H") (p.x + 16); title = sent_title T.opening.names k s m t v f; is = refl })
+  sent_other s m ls (sent_met d e) line c = absurd (in_none ls line e c)
+  sent_other s m ls (sent_nowhere none e) line c = absurd (in_none ls line e c)
+
+  new_other : (t : ℕ) (ls : List Line) → IsNewLine T plan k t ls → (line : Line) → Contains ls line → IsOtherLine line
+  new_other t ls (new_leads {u = u} {x = x} {p = p} n h i e) line c =
+      only ls (new_line T.opening.names k t u p x) line e c (record { kind = plain (codes "m m-new") ∷ []; kind_is = creates; way = go_to (codes "M") p.x p.y ++ (go (codes "H") x ++ go (codes "V") (p.y + 8)); title = new_title T.opening.names k t u; is = refl })
+  new_other t ls (new_nowhere n none e) line c = absurd (in_none ls line e c)
+
+  other : (s : Step) (ls : List Line) → IsLineOf P T plan k s ls → met_by s ≡ None → (line : Line) → Contains ls line → IsOtherLine line
+  other (Send t u v) ls l e line c = sent_other (Send t u v) (sent T k) ls l line c
+  other (Repeat m) ls l e line c = sent_other (Repeat m) (sent T k) ls l line c
+  other (New t b n v) ls l e line c = new_other t ls l line c
+  other s ls l e line c = absurd (in_none ls line (subst (λ o. IsLineTo P T plan k s o ls) e l) c)
+
+pub arrows_join : ArrowsJoin
+arrows_join = record { one_arrow = one_arrow; others = λ P T plan k s lines l at none line c. other P T plan k s lines (l s at) none line c }

@@ -18,3 +18,5 @@ mod KeptLaws
 mod MarkLaws
 mod LaneLaws
 mod ArrowLaws
+mod Elements
+mod MarkupLaws

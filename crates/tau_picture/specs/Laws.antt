@@ -1,5 +1,5 @@
 -- Laws of pictures, each the contract of a function of the crate.
-use Rattle.std.specs.Prelude.{◌≡◌, ◌≢◌, ◌↔◌, ℕ, ◌+◌, ◌-◌, ◌*◌, ◌<◌, ◌≤◌, ◌⊎◌, List, [], ◌∷◌, ◌++◌, Option, Some, Contains, length, slice_get, codes}
+use Rattle.std.specs.Prelude.{◌≡◌, ◌≢◌, ◌↔◌, ℕ, ◌+◌, ◌-◌, ◌*◌, ◌<◌, ◌≤◌, ◌⊎◌, List, [], ◌∷◌, ◌++◌, Option, Some, None, Contains, length, slice_get, codes}
 use Rattle.tau_markup.specs.Lines.{Piece, plain, Line, titled}
 use Rattle.tau_points.specs.declared.point.Point.{Point}
 use Rattle.tau_shapes.specs.declared.window.Window.{Window}
@@ -38,6 +38,7 @@ use Rattle.tau_marks.specs.Marks.{HasLook, mark_line}
 use Rattle.tau_bands.specs.Names.{seen_at}
 use Rattle.tau_bands.specs.StateLines.{state_top, state_foot}
 use Rattle.tau_picture.specs.Pictures.{IsPicture, IsPictureText}
+use Rattle.tau_picture.specs.Markup.{IsMarkup}
 
 -- a program, a run of it, a window and what is asked have one picture, and one text
 pub record PicturesAreUnique : Type 0 where
@@ -114,10 +115,25 @@ pub record IsArrow (T : Run) (plan : Plan) (k : ℕ) (s : Step) (m x : ℕ) (lin
   pub title : List Piece
   pub is : line ≡ path kind way (titled title)
 
--- the message lines of a step that receives or loses a message, and stands in a lane, are one arrow
-abbrev pub ArrowsJoin : Type 0
-ArrowsJoin = (P : Program) (T : Run) (v : Window) (plan : Plan) → WellFormed T → IsPlan T v plan → (k : ℕ) (s : Step) (m t x : ℕ) (lines : List Line)
-    → IsMessageLine P T plan k lines → step_at T k ≡ Some s → met_by s ≡ Some m → StandsIn T k t → HasX plan t x → (line : Line) × (lines ≡ line ∷ []) × IsArrow T plan k s m x line
+-- the kinds of lines that lead to no step that receives or loses a message
+pub data IsOtherKind : List Piece → Type 0 where
+  flies : IsOtherKind (plain (codes "m m-fly") ∷ [])
+  goes_out : IsOtherKind (plain (codes "m m-out") ∷ [])
+  creates : IsOtherKind (plain (codes "m m-new") ∷ [])
+
+pub record IsOtherLine (line : Line) : Type 0 where
+  pub kind : List Piece
+  pub kind_is : IsOtherKind kind
+  pub way : List Piece
+  pub title : List Piece
+  pub is : line ≡ path kind way (titled title)
+
+pub record ArrowsJoin : Type 0 where
+  -- the message lines of a step that receives or loses a message, and stands in a lane, are one arrow
+  pub one_arrow : (P : Program) (T : Run) (v : Window) (plan : Plan) → WellFormed T → IsPlan T v plan → (k : ℕ) (s : Step) (m t x : ℕ) (lines : List Line)
+      → IsMessageLine P T plan k lines → step_at T k ≡ Some s → met_by s ≡ Some m → StandsIn T k t → HasX plan t x → (line : Line) × (lines ≡ line ∷ []) × IsArrow T plan k s m x line
+  -- and those of another step are of other kinds
+  pub others : (P : Program) (T : Run) (plan : Plan) (k : ℕ) (s : Step) (lines : List Line) → IsMessageLine P T plan k lines → step_at T k ≡ Some s → met_by s ≡ None → (line : Line) → Contains lines line → IsOtherLine line
 
 -- some consistent set holds the Checkpoint at place k
 pub record MayBeKept (T : Run) (k : ℕ) : Type 0 where
@@ -145,3 +161,8 @@ pub record ShowsNoneBroken (plan : Plan) (looks : Looks) : Type 0 where
 abbrev pub LegalRunsDrawSafe : Type 0
 LegalRunsDrawSafe = (P : Program) (T : Run) (from to : ℕ) (ask : Option ℕ) (lines : List Line) (picture : IsPicture P T from to ask lines)
     → WellFormed T → Fitting P T → ShowsNoneBroken picture.plan picture.looks
+
+-- each picture is markup: no name, value or text in it has a quote, an ampersand or an angle bracket that would end it, but in the
+-- fixed lines
+abbrev pub PicturesAreMarkup : Type 0
+PicturesAreMarkup = (P : Program) (T : Run) (from to : ℕ) (ask : Option ℕ) (lines : List Line) → IsPicture P T from to ask lines → IsMarkup lines

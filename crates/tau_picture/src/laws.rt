@@ -1,5 +1,5 @@
 //! Laws of pictures, each the contract of a function that does nothing.
-ghost use Rattle.tau_picture.specs.Laws.{ArrowsJoin, BlueMayBeKept, GreyIsRolledBack, LanesStandApart, LegalRunsDrawSafe, MarksAreTheSteps, MarksStandInRows, PicturesAreUnique, SafeRunsShowNoneBroken};
+ghost use Rattle.tau_picture.specs.Laws.{ArrowsJoin, BlueMayBeKept, GreyIsRolledBack, LanesStandApart, LegalRunsDrawSafe, MarksAreTheSteps, MarksStandInRows, PicturesAreMarkup, PicturesAreUnique, SafeRunsShowNoneBroken};
 
 /// A program, a run of it, a window and the step that is asked for have one picture, and one text (docs/formats.md, "Pictures").
 pub fn pictures_are_unique()
@@ -43,8 +43,14 @@ pub fn lanes_stand_apart()
     ensures { LanesStandApart }
 {}
 
-/// The message lines of a step that receives or loses a message are one arrow, from the spot of the message's sender to the step
-/// (docs/formats.md, "Pictures").
+/// The message lines of a step that receives or loses a message are one arrow, from the spot of the message's sender to the step, and
+/// those of other steps are of other kinds (docs/formats.md, "Pictures").
 pub fn arrows_join()
     ensures { ArrowsJoin }
+{}
+
+/// A picture is one element of markup, and each line in it but the fixed ones one, whatever the texts in them (docs/formats.md,
+/// "Pictures").
+pub fn pictures_are_markup()
+    ensures { PicturesAreMarkup }
 {}
