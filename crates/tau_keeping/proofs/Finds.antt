@@ -26,7 +26,7 @@ not_blank file (r ∷ rs) gate has some (inl few) =
 not_blank file (r ∷ rs) gate has some (inr shut) = shut (ap (λ (l : List ℕ). get_or l 0 0) has.file_is)
 
 -- they have none of the faults of bytes
-no_bytes_fault : (file : List ℕ) (rs : List (List ℕ)) (gate : ℕ) → HasRecords rs gate file → 1 ≤ length rs → length file ≤ most_bytes → (fault at : ℕ) → ¬ IsFault file fault at
+pub no_bytes_fault : (file : List ℕ) (rs : List (List ℕ)) (gate : ℕ) → HasRecords rs gate file → 1 ≤ length rs → length file ≤ most_bytes → (fault at : ℕ) → ¬ IsFault file fault at
 no_bytes_fault file rs gate has some fits fault at found = reading.no_fault file fault at fits (not_blank file rs gate has some) rs gate has found
 
 -- records with a fault are some
@@ -45,7 +45,7 @@ stands_told (Some file) rs gate P T has stand = record { records = rs; told = re
 small_or_not : (n : ℕ) → (n ≤ most_bytes) ⊎ (most_bytes < n)
 small_or_not n = grind arith
 
-no_failure : {X : Type 0} (x : X) (fault at : ℕ) → ¬ IsFaultOrFailure {X = X} fault at (Ok x)
+pub no_failure : {X : Type 0} (x : X) (fault at : ℕ) → ¬ IsFaultOrFailure {X = X} fault at (Ok x)
 no_failure x fault at (inl e) = cc
 no_failure x fault at (inr (inl e)) = cc
 no_failure x fault at (inr (inr e)) = cc
@@ -58,14 +58,14 @@ same_error : {X : Type 0} (d e : JournalError) → ◌≡◌ {A = Result X Journ
 same_error d e same = cc
 
 -- an error is told the same of each answer
-recast : {X Y : Type 0} (fault at : ℕ) (e : JournalError) → IsFaultOrFailure {X = Y} fault at (Err e) → IsFaultOrFailure {X = X} fault at (Err e)
+pub recast : {X Y : Type 0} (fault at : ℕ) (e : JournalError) → IsFaultOrFailure {X = Y} fault at (Err e) → IsFaultOrFailure {X = X} fault at (Err e)
 recast {Y = Y} fault at e (inl same) = inl (ap Err (same_error {X = Y} e (Fault fault at) same))
 recast {Y = Y} fault at e (inr (inl same)) = inr (inl (ap Err (same_error {X = Y} e DiskFault same)))
 recast {Y = Y} fault at e (inr (inr same)) = inr (inr (ap Err (same_error {X = Y} e NoMemory same)))
 
 -- the bytes have a fault, or their reading failed
 module _ {X : Type 0} (r : Result X JournalError) (e : JournalError) (is : r ≡ Err e) where
-  failed_or : (P : JournalError → Type 0) → P DiskFault → P NoMemory → ((fault at : ℕ) → e ≡ Fault fault at → P (Fault fault at)) → P e
+  pub failed_or : (P : JournalError → Type 0) → P DiskFault → P NoMemory → ((fault at : ℕ) → e ≡ Fault fault at → P (Fault fault at)) → P e
   failed_or P disk memory faulted = by e refl where
     by : (d : JournalError) → e ≡ d → P e
     by (Fault fault at) same = subst P (sym same) (faulted fault at same)

@@ -3,12 +3,14 @@ use Rattle.std.proofs.Common.{◌≡◌, inl, inr, ℕ, List, [], ◌∷◌, ◌
 use Rattle.tau_tree.specs.declared.programs.Program.{Program}
 use Rattle.tau_trace.specs.declared.step.Step.{Step}
 use Rattle.tau_trace.specs.Run.{Run, appended}
+use Rattle.tau_disk.specs.Bytes.{Only}
 use Rattle.tau_disk.specs.Moments.{LeavesOnly}
 use Rattle.tau_disk.proofs.Moments.{started, weaker}
 use Rattle.tau_journal.specs.Records.{IsAtRest, TellsRecords, IsBeforeOrAfter, going_on}
+use Rattle.tau_journal.specs.Found.{IsBlank, IsBlankOrHas}
 use Rattle.tau_journal.proofs.Appending.{at_first}
 use Rattle.tau_revival.specs.Revival.{IsRevival}
-use Rattle.tau_keeping.specs.Standing.{IsProgramText, IsStepText, opened, StandsFor, begins, stepped, resumed, StandsAt, StandsForEither}
+use Rattle.tau_keeping.specs.Standing.{IsProgramText, IsStepText, opened, StandsFor, begins, stepped, resumed, StandsAt, StandsForEither, IsBlankOrBegins}
 
 -- one record more, and what it makes of program and run
 module _ (P Q : Program) (T U : Run) (r : List ℕ) (more : (rs : List (List ℕ)) → StandsFor rs P T → StandsFor (rs ++ r ∷ []) Q U) where
@@ -48,3 +50,22 @@ leaves_at_first images moment left_since only_now P Q T U d bytes gate at rest =
 pub program_stands : (told new : Option (List ℕ)) (gate : ℕ) (P : Program) (text : List ℕ) → IsProgramText P text → IfSome told (λ _. TellsRecords new (text ∷ []) gate) → IfSome told (λ _. StandsAt new gate P (opened P))
 program_stands None new gate P text is made = tt
 program_stands (Some file) new gate P text is made = record { records = text ∷ []; told = made; stand = begins is }
+
+-- what a crash leaves while a journal of a program is made
+module _ {D : Type 0} (images : D → List ℕ → Type 0) (moment : D → ℕ) (left_since : D → ℕ → List ℕ → Type 0) (P : Program) where
+  -- before the first call
+  pub nothing_begun : ((d : D) (c : List ℕ) → left_since d (moment d) c → images d c) → (d : D) (told : Option (List ℕ))
+      → IfSome told (λ file. IsBlank file → Only told (images d) → LeavesOnly moment left_since d d (IsBlankOrBegins P))
+  nothing_begun only_now d None = tt
+  nothing_begun only_now d (Some file) = λ blank only. started moment left_since d (IsBlankOrBegins P) (λ c left. inl (subst IsBlank (sym (only c (only_now d c left))) blank))
+
+  begun : (text : List ℕ) → IsProgramText P text → (c : List ℕ) → IsBlankOrHas text c → IsBlankOrBegins P c
+  begun text is c (inl blank) = inl blank
+  begun text is c (inr are) = inr (text, is, are)
+
+  -- by the record that is its text
+  pub program_begins : (text : List ℕ) → IsProgramText P text → (old new : D) (told : Option (List ℕ))
+      → IfSome told (λ file. IsBlank file → Only told (images old) → LeavesOnly moment left_since old new (IsBlankOrHas text))
+      → IfSome told (λ file. IsBlank file → Only told (images old) → LeavesOnly moment left_since old new (IsBlankOrBegins P))
+  program_begins text is old new None made = tt
+  program_begins text is old new (Some file) made = λ blank only. weaker moment left_since old new (IsBlankOrHas text) (IsBlankOrBegins P) (begun text is) (made blank only)

@@ -15,6 +15,7 @@ use Rattle.tau_steps.specs.Meaning.{MeansStep}
 use Rattle.tau_steps.specs.StepForms.{step_form}
 use Rattle.tau_text.specs.Meaning.{IsProgram}
 use Rattle.tau_journal.specs.Records.{AreRecords, TellsRecords, going_on}
+use Rattle.tau_journal.specs.Found.{IsBlank}
 use Rattle.tau_revival.specs.Revival.{IsRevival}
 
 -- the form of step s behind the run T
@@ -61,3 +62,7 @@ pub record StandsAt (bytes : Option (List ℕ)) (gate : ℕ) (P : Program) (T : 
 -- bytes stand for a program and a run, or for another of them
 abbrev pub StandsForEither : Program → Run → Program → Run → List ℕ → Type 0
 StandsForEither P T Q U file = Stands file P T ⊎ Stands file Q U
+
+-- there is no journal, or its one record is the text of the program
+abbrev pub IsBlankOrBegins : Program → List ℕ → Type 0
+IsBlankOrBegins P file = IsBlank file ⊎ ((r : List ℕ) × IsProgramText P r × AreRecords (r ∷ []) file)

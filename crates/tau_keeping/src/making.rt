@@ -7,10 +7,10 @@ ghost use Rattle.tau_forms.specs.Printed as forms;
 ghost use Rattle.tau_disk.specs.Bytes.{Only};
 ghost use Rattle.tau_disk.specs.Moments.{LeavesOnly};
 ghost use Rattle.tau_journal.specs.Records.{IsAtRest, TellsRecords};
-ghost use Rattle.tau_journal.specs.Found.{IsBlank, IsBlankOrHas, IsCreateFault};
+ghost use Rattle.tau_journal.specs.Found.{IsBlank, IsCreateFault};
 ghost use Rattle.tau_journal.specs.Room.{most_bytes, IsFaultOrFailure};
 ghost use Rattle.tau_journal.specs.Gates.{gate_of};
-ghost use Rattle.tau_keeping.specs.Standing.{opened, StandsAt};
+ghost use Rattle.tau_keeping.specs.Standing.{opened, StandsAt, IsBlankOrBegins};
 
 use std::alloc::Global;
 use tau_disk::Disk;
@@ -34,9 +34,10 @@ pub fn create<D: Disk>(
     ensures stands { IfOk result (λ j. IfSome (D.bytes disk.old) (λ _. StandsAt (D.bytes disk.new) (gate_of j) program.now (opened program.now))) }
     ensures within { OnOk result (IfSome (D.bytes disk.new) (λ file. length file ≤ most_bytes)) }
 
-    // Where nothing is pending on a blank disk, a crash at any moment leaves a blank disk or that record.
+    // Where nothing is pending on a blank disk, a crash at any moment leaves a blank disk or the program's text as the one
+    // record.
     ensures any_moment { IfSome (D.bytes disk.old) (λ file. IsBlank file → Only (D.bytes disk.old) (D.images disk.old)
-        → LeavesOnly D.moment D.left_since disk.old disk.new (IsBlankOrHas (printed (forms.printed program.now)))) }
+        → LeavesOnly D.moment D.left_since disk.old disk.new (IsBlankOrBegins program.now)) }
 
     ensures fault { (fault at : ℕ) → IsErrOf result (JournalError.Fault fault at)
         → IfSome (D.bytes disk.old) (λ file. IsCreateFault (6 + length (printed (forms.printed program.now))) file fault at) }

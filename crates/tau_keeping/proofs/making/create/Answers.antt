@@ -5,17 +5,20 @@ use Rattle.tau_forms.specs.Printed as forms
 use Rattle.tau_journal.specs.Found.{IsCreateFault}
 use Rattle.tau_journal.specs.Room.{IsFaultOrFailure}
 use Rattle.tau_journal.specs.Gates.{gate_of}
-use Rattle.tau_journal.proofs.Blank.{making_looked}
-use Rattle.tau_journal.proofs.Reading.{nothing_yet}
 use Rattle.tau_keeping.specs.Standing.{IsProgramText}
 use Rattle.tau_keeping.proofs.Answered.{if_ok_then}
-use Rattle.tau_keeping.proofs.Kept.{program_stands}
+use Rattle.tau_keeping.proofs.Kept.{program_stands, nothing_begun, program_begins}
 use Rattle.tau_keeping.proofs.making.create.Goals as goal
 
 pub returns-in_err-text-clause-any_moment : goal.returns-in_err-text-clause-any_moment
 returns-in_err-text-clause-any_moment g c =
-    making_looked g.D.Disk.images g.D.Disk.moment g.D.Disk.left_since (printed (forms.printed c.args.program.now)) c.args.disk.now (g.D.Disk.bytes c.args.disk.now) c.args.disk.now
-    (nothing_yet g.D.Disk.images g.D.Disk.moment g.D.Disk.left_since g.met.D.Disk.only_now c.args.disk.now)
+    nothing_begun g.D.Disk.images g.D.Disk.moment g.D.Disk.left_since c.args.program.now g.met.D.Disk.only_now c.args.disk.now (g.D.Disk.bytes c.args.disk.now)
+
+pub returns-clause-any_moment : goal.returns-clause-any_moment
+returns-clause-any_moment g c =
+    let P = c.args.program.now in
+    let text : IsProgramText P c.deref.result.now = subst (IsProgramText P) (sym c.deref.ensures.value) (record { sound = c.requires; is = c.in_ok-text.ensures.text; read_back = c.in_ok-text.ensures.read_back }) in
+    program_begins g.D.Disk.images g.D.Disk.moment g.D.Disk.left_since P c.deref.result.now text c.args.disk.now c.create.new.disk (g.D.Disk.bytes c.args.disk.now) c.create.ensures.any_moment
 
 pub returns-clause-fault : goal.returns-clause-fault
 returns-clause-fault g c fault at is =

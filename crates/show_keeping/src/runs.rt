@@ -1,0 +1,223 @@
+//! Runs that are found on a disk, kept and revived.
+ghost use Rattle.std.specs.Prelude.{◌≡◌, ◌<◌, None, IfOk, IfSome};
+ghost use Rattle.tau_tree.specs.Sound.{Sound};
+ghost use Rattle.tau_trace.specs.Run.{len};
+ghost use Rattle.tau_journal.specs.Records.{IsAtRest};
+ghost use Rattle.tau_journal.specs.Gates.{gate_of};
+
+use crate::playing::made;
+use crate::texts::{add_program, add_run};
+use std::alloc::{AllocError, Global};
+use tau_disk::Disk;
+use tau_journal::{Journal, JournalError};
+use tau_keeping::{Found, keep_step};
+use tau_resuming::{FoundRun, Revived, find_legal, revive};
+use tau_script::opening_of;
+use tau_sexpr::{Form, FormError, Forms, read_forms};
+use tau_steps::{StepError, form_of_step, steps_of};
+use tau_trace::Trace;
+use tau_tree::Program;
+
+/// Adds the program and the legal run that are found on a disk, or why none are.
+pub(crate) fn find<D: Disk>(
+    alloc: Global,
+    text: &mut String,
+    disk: &mut D,
+) -> Result<Option<Journal>, AllocError>
+    ensures { IfOk result (λ o. IfSome o (λ j. IsAtRest (D.bytes disk.new) (D.images disk.new) (gate_of j))) }
+{
+    match find_legal(alloc, disk) {
+        Ok(
+            FoundRun {
+                journal,
+                program,
+                trace,
+                complete,
+            },
+        ) => {
+            add_run(alloc, text, &program, &trace)?;
+            text.push_str(if complete {
+                "complete, "
+            } else {
+                "not complete, "
+            })?;
+            made(text, Ok(journal))
+        }
+        Err(error) => none(text, error),
+    }
+}
+
+/// Adds the program and the run that are found on a disk, legal or not, or why none are.
+pub(crate) fn read<D: Disk>(
+    alloc: Global,
+    text: &mut String,
+    disk: &mut D,
+) -> Result<Option<Journal>, AllocError>
+    ensures { IfOk result (λ o. IfSome o (λ j. IsAtRest (D.bytes disk.new) (D.images disk.new) (gate_of j))) }
+{
+    match tau_keeping::find(alloc, disk) {
+        Ok(
+            Found {
+                journal,
+                program,
+                trace,
+            },
+        ) => {
+            add_run(alloc, text, &program, &trace)?;
+            made(text, Ok(journal))
+        }
+        Err(error) => none(text, error),
+    }
+}
+
+/// Adds why there is no journal.
+fn none(text: &mut String, error: JournalError) -> Result<Option<Journal>, AllocError>
+    ensures { IfOk result (λ o. o ≡ None) }
+{
+    writeln!(text, "{error}")?;
+    Ok(None)
+}
+
+/// Finds the run of a disk, and keeps it with one step more.
+pub(crate) fn keep<D: Disk>(
+    alloc: Global,
+    text: &mut String,
+    disk: &mut D,
+    step: &str,
+) -> Result<Option<Journal>, AllocError>
+    ensures { IfOk result (λ o. IfSome o (λ j. IsAtRest (D.bytes disk.new) (D.images disk.new) (gate_of j))) }
+{
+    match find_legal(alloc, disk) {
+        Ok(
+            FoundRun {
+                journal,
+                program,
+                trace,
+                complete: _,
+            },
+        ) => match trace_with(alloc, &program, &trace, step)? {
+            Some(longer) => keep_last(alloc, text, disk, journal, &longer),
+            None => {
+                text.push_str("no step\n")?;
+                Ok(None)
+            }
+        },
+        Err(error) => none(text, error),
+    }
+}
+
+/// Keeps the last step of a trace.
+fn keep_last<D: Disk>(
+    alloc: Global,
+    text: &mut String,
+    disk: &mut D,
+    journal: Journal,
+    trace: &Trace,
+) -> Result<Option<Journal>, AllocError>
+    requires { IsAtRest (D.bytes disk.old) (D.images disk.old) (gate_of journal) }
+    ensures { IfOk result (λ o. IfSome o (λ j. IsAtRest (D.bytes disk.new) (D.images disk.new) (gate_of j))) }
+{
+    if trace.len() == 0 {
+        text.push_str("no step\n")?;
+        return Ok(None);
+    }
+    made(text, keep_step(journal, alloc, disk, trace))
+}
+
+/// The trace with the step of a text behind it; `None` where the text has no step that may stand there.
+fn trace_with(
+    alloc: Global,
+    program: &Program,
+    trace: &Trace,
+    step: &str,
+) -> Result<Option<Trace>, AllocError>
+    requires { Sound program.now }
+{
+    let Some(form) = form_in(alloc, step)? else {
+        return Ok(None);
+    };
+    let mut forms = forms_of_steps(alloc, trace)?;
+    forms.add(form)?;
+    let opening = opening_of(alloc, program)?;
+    match steps_of(alloc, &forms, 0, forms.len(), opening) {
+        Ok(trace) => Ok(Some(trace)),
+        Err(StepError::NoMemory) => Err(AllocError),
+        Err(_) => Ok(None),
+    }
+}
+
+/// The one form of a text; `None` where it has none or several.
+fn form_in(alloc: Global, text: &str) -> Result<Option<Form>, AllocError> {
+    match read_forms(alloc, text.as_bytes()) {
+        Ok(forms) => {
+            if forms.len() != 1 {
+                return Ok(None);
+            }
+            match forms.item(0) {
+                Some(form) => Ok(Some(form.copy()?)),
+                None => Ok(None),
+            }
+        }
+        Err(FormError::NoMemory) => Err(AllocError),
+        Err(_) => Ok(None),
+    }
+}
+
+/// The forms of the steps of a trace.
+fn forms_of_steps(alloc: Global, trace: &Trace) -> Result<Forms, AllocError> {
+    let mut forms = Forms::new(alloc);
+    for place in 0..trace.len() {
+        forms.add(form_of_step(alloc, trace, place)?)?;
+    }
+    Ok(forms)
+}
+
+/// Finds the run of a disk, and revives its program where the run isn't complete.
+pub(crate) fn revive_found<D: Disk>(
+    alloc: Global,
+    text: &mut String,
+    disk: &mut D,
+) -> Result<Option<Journal>, AllocError>
+    ensures { IfOk result (λ o. IfSome o (λ j. IsAtRest (D.bytes disk.new) (D.images disk.new) (gate_of j))) }
+{
+    match find_legal(alloc, disk) {
+        Ok(
+            FoundRun {
+                journal,
+                program,
+                trace,
+                complete,
+            },
+        ) => {
+            if complete {
+                text.push_str("complete, ")?;
+                return made(text, Ok(journal));
+            }
+            revive_run(alloc, text, disk, journal, &program, &trace)
+        }
+        Err(error) => none(text, error),
+    }
+}
+
+/// Revives a program, and adds the revival, or why there is none.
+fn revive_run<D: Disk>(
+    alloc: Global,
+    text: &mut String,
+    disk: &mut D,
+    journal: Journal,
+    program: &Program,
+    trace: &Trace,
+) -> Result<Option<Journal>, AllocError>
+    requires sound { Sound program.now }
+    requires rest { IsAtRest (D.bytes disk.old) (D.images disk.old) (gate_of journal) }
+    ensures { IfOk result (λ o. IfSome o (λ j. IsAtRest (D.bytes disk.new) (D.images disk.new) (gate_of j))) }
+{
+    match revive(journal, alloc, disk, program, trace) {
+        Ok(Revived { journal, program }) => {
+            add_program(alloc, text, &program)?;
+            text.push_str(", ")?;
+            made(text, Ok(journal))
+        }
+        Err(error) => none(text, error),
+    }
+}

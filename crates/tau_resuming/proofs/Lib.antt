@@ -1,0 +1,5 @@
+pub mod Finds
+pub mod Fronts
+pub mod Illegal
+pub mod Marks
+pub mod Places

@@ -1,0 +1,10 @@
+//! What a resume finds on a disk, and the revival that it writes there (docs/journal.md, "Going on").
+#![tactic(auto)]
+
+mod finding;
+mod reading;
+mod reviving;
+
+pub use finding::find_legal;
+pub use reading::FoundRun;
+pub use reviving::{Revived, revive};
