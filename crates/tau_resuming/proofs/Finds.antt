@@ -39,7 +39,7 @@ no_fault_told (Err (Fault fault at)) none = none fault at refl
 no_fault_told (Err DiskFault) none = tt
 no_fault_told (Err NoMemory) none = tt
 
-pub found_told : RevivalKeepsSteps → {X : Type 0} (r : Result X JournalError) (told : Option (List ℕ)) → ((fault at : ℕ) → r ≡ Err (Fault fault at) → IfSome told (λ file. IsResumeFault file fault at))
+pub found_told : {X : Type 0} → RevivalKeepsSteps → (r : Result X JournalError) (told : Option (List ℕ)) → ((fault at : ℕ) → r ≡ Err (Fault fault at) → IfSome told (λ file. IsResumeFault file fault at))
     → IfSome told (λ file. (P : Program) (T : Run) → length file ≤ most_bytes → Stands file P T → Legal P T → IfErr r IsFailure)
 found_told law r None fault = tt
 found_told law r (Some file) fault = λ P T fits stands legal. no_fault_told r (λ f a is. none_of_bytes law file P T fits stands legal f a (fault f a is))

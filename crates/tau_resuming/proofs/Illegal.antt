@@ -162,24 +162,25 @@ module _ (law : RevivalKeepsSteps) (rs : List (List ℕ)) (P : Program) (T : Run
   none_behind None stand at f Q U e legal one = no_fault rs Q P U T e stand one
   none_behind (Some d) read at f Q U e legal one = fault_behind (place_of rs P T d read) (read_stands rs P T d read) at f Q U e legal one
 
-  module _ {X : Type 0} where
-    -- records with such a step
-    pub illegal_faulty : (o : Option RecordFault) → IsReadAs rs P T o → (place : ℕ) → IsFirstIllegal P T place → (fault at : ℕ) → IsRunFault rs fault at → IsFaultOrFailure {X = X} fault at (Err (Fault 5 place))
-    illegal_faulty o read place f fault at (in_first x y lacks) = absurd (no_program rs P T o read lacks)
-    illegal_faulty o read place f fault at (in_later Q U e same legal one) = absurd (none_behind o read place f Q U e legal one)
-    illegal_faulty o read place f fault at (in_step Q U five is h) =
-        inl (ap₂ (λ (m n : ℕ). Err (Fault m n)) (sym five) (one_first P T place (len U) f (first_read o read Q U h) ∙ sym is))
+-- the fault of records with such a step
+pub illegal_faulty : {X : Type 0} → RevivalKeepsSteps → (rs : List (List ℕ)) (P : Program) (T : Run) (o : Option RecordFault) → IsReadAs rs P T o → (place : ℕ) → IsFirstIllegal P T place → (fault at : ℕ) → IsRunFault rs fault at
+    → IsFaultOrFailure {X = X} fault at (Err (Fault 5 place))
+illegal_faulty law rs P T o read place f fault at (in_first x y lacks) = absurd (no_program rs P T o read lacks)
+illegal_faulty law rs P T o read place f fault at (in_later Q U e same legal one) = absurd (none_behind law rs P T o read place f Q U e legal one)
+illegal_faulty law rs P T o read place f fault at (in_step Q U five is h) =
+    inl (ap₂ (λ (m n : ℕ). Err (Fault m n)) (sym five) (one_first P T place (len U) f (first_read law rs P T o read Q U h) ∙ sym is))
 
-    -- records without
-    pub legal_faulty : StandsFor rs P T → Legal P T → (r : Result X JournalError) (fault at : ℕ) → IsRunFault rs fault at → IsFaultOrFailure fault at r
-    legal_faulty stand legal r fault at (in_first x y lacks) = absurd (no_program rs P T None stand lacks)
-    legal_faulty stand legal r fault at (in_later Q U e same other one) = absurd (no_fault rs Q P U T e stand one)
-    legal_faulty stand legal r fault at (in_step Q U five is h) = absurd (none_first P T (len U) legal (first_read None stand Q U h))
+-- and of records without
+pub legal_faulty : {X : Type 0} → RevivalKeepsSteps → (rs : List (List ℕ)) (P : Program) (T : Run) → StandsFor rs P T → Legal P T → (r : Result X JournalError) (fault at : ℕ) → IsRunFault rs fault at → IsFaultOrFailure fault at r
+legal_faulty law rs P T stand legal r fault at (in_first x y lacks) = absurd (no_program rs P T None stand lacks)
+legal_faulty law rs P T stand legal r fault at (in_later Q U e same other one) = absurd (no_fault rs Q P U T e stand one)
+legal_faulty law rs P T stand legal r fault at (in_step Q U five is h) = absurd (none_first P T (len U) legal (first_read law rs P T None stand Q U h))
 
-    pub read_faulty : (d : RecordFault) → IsReadAs rs P T (Some d) → Legal P T → (fault at : ℕ) → IsRunFault rs fault at → IsFaultOrFailure {X = X} fault at (Err (error_of d))
-    read_faulty d one legal fault at (in_first x y lacks) = absurd (no_program rs P T (Some d) one lacks)
-    read_faulty d one legal fault at (in_later Q U e same other two) = inl (ap (λ (g : RecordFault). Err (error_of g)) (one_fault rs P Q T U d e one two) ∙ ap Err same)
-    read_faulty d one legal fault at (in_step Q U five is h) = absurd (none_first P T (len U) legal (first_read (Some d) one Q U h))
+pub read_faulty : {X : Type 0} → RevivalKeepsSteps → (rs : List (List ℕ)) (P : Program) (T : Run) (d : RecordFault) → IsReadAs rs P T (Some d) → Legal P T → (r : Result X JournalError) → r ≡ Err (error_of d) → (fault at : ℕ) → IsRunFault rs fault at
+    → IsFaultOrFailure fault at r
+read_faulty law rs P T d one legal r is fault at (in_first x y lacks) = absurd (no_program rs P T (Some d) one lacks)
+read_faulty law rs P T d one legal r is fault at (in_later Q U e same other two) = inl (is ∙ ap (λ (g : RecordFault). Err (error_of g)) (one_fault rs P Q T U d e one two) ∙ ap Err same)
+read_faulty law rs P T d one legal r is fault at (in_step Q U five is_at h) = absurd (none_first P T (len U) legal (first_read law rs P T (Some d) one Q U h))
 
 -- a first record that is no program
 lacks_front : (rs : List (List ℕ)) (n : ℕ) (P : Program) (T : Run) → StandsFor (take n rs) P T → HasNoProgram rs → ⊥

@@ -1,3 +1,5 @@
+use Rattle.std.proofs.Common.{ap}
+use Rattle.std.specs.Prelude.{Err}
 use Rattle.tau_keeping.proofs.Finds.{all_read, some_read, error_is, no_disk_error}
 use Rattle.tau_resuming.specs.Faults.{in_first, in_later}
 use Rattle.tau_resuming.proofs.Illegal.{illegal_read, illegal_faulty, legal_faulty, read_faulty, first_faulty, fault_told, is_legal, is_bad}
@@ -47,11 +49,10 @@ returns-in-Some-clause-fault c fault at is =
     (some_read c.args.records.now s.program s.trace.run s.fault c.in-Some.fault c.in-Some.is c.in_ok-standing.ensures.read)
 
 pub returns-in-Some-clause-faulty : goal.returns-in-Some-clause-faulty
-returns-in-Some-clause-faulty c fault at found =
+returns-in-Some-clause-faulty c =
     let s = c.in_ok-standing.standing in
-    rw c.error.ensures
-    (read_faulty c.revival_keeps_steps.ensures c.args.records.now s.program s.trace.run c.in-Some.fault (some_read c.args.records.now s.program s.trace.run s.fault c.in-Some.fault c.in-Some.is c.in_ok-standing.ensures.read)
-    (is_legal s.program s.trace.run c.in_ok-legality.legality c.in-Legal.complete c.in-Legal.is c.in_ok-legality.ensures).0 fault at found)
+    read_faulty c.revival_keeps_steps.ensures c.args.records.now s.program s.trace.run c.in-Some.fault (some_read c.args.records.now s.program s.trace.run s.fault c.in-Some.fault c.in-Some.is c.in_ok-standing.ensures.read)
+    (is_legal s.program s.trace.run c.in_ok-legality.legality c.in-Legal.complete c.in-Legal.is c.in_ok-legality.ensures).0 (Err c.error.result) (ap Err c.error.ensures)
 
 pub returns-in-Some-clause-no_disk : goal.returns-in-Some-clause-no_disk
 returns-in-Some-clause-no_disk c is = no_disk_error c.in-Some.fault (error_is c.error.result c.in-Some.fault _ c.error.ensures is)
