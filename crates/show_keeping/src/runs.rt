@@ -1,7 +1,6 @@
 //! Runs that are found on a disk, kept and revived.
-ghost use Rattle.std.specs.Prelude.{◌≡◌, ◌<◌, None, IfOk, IfSome};
+ghost use Rattle.std.specs.Prelude.{◌≡◌, None, IfOk, IfSome};
 ghost use Rattle.tau_tree.specs.Sound.{Sound};
-ghost use Rattle.tau_trace.specs.Run.{len};
 ghost use Rattle.tau_journal.specs.Records.{IsAtRest};
 ghost use Rattle.tau_journal.specs.Gates.{gate_of};
 
@@ -10,8 +9,8 @@ use crate::texts::{add_program, add_run};
 use std::alloc::{AllocError, Global};
 use tau_disk::Disk;
 use tau_journal::{Journal, JournalError};
-use tau_keeping::{Found, keep_step};
-use tau_resuming::{FoundRun, Revived, find_legal, revive};
+use tau_keeping::keep_step;
+use tau_resuming::{find_legal, revive};
 use tau_script::opening_of;
 use tau_sexpr::{Form, FormError, Forms, read_forms};
 use tau_steps::{StepError, form_of_step, steps_of};
@@ -27,24 +26,22 @@ pub(crate) fn find<D: Disk>(
     ensures { IfOk result (λ o. IfSome o (λ j. IsAtRest (D.bytes disk.new) (D.images disk.new) (gate_of j))) }
 {
     match find_legal(alloc, disk) {
-        Ok(
-            FoundRun {
-                journal,
-                program,
-                trace,
-                complete,
-            },
-        ) => {
-            add_run(alloc, text, &program, &trace)?;
-            text.push_str(if complete {
-                "complete, "
-            } else {
-                "not complete, "
-            })?;
-            made(text, Ok(journal))
+        Ok(found) => {
+            add_run(alloc, text, &found.program, &found.trace)?;
+            add_complete(text, found.complete)?;
+            made(text, Ok(found.journal))
         }
         Err(error) => none(text, error),
     }
+}
+
+/// Adds whether a run is complete.
+fn add_complete(text: &mut String, complete: bool) -> Result<(), AllocError> {
+    text.push_str(if complete {
+        "complete, "
+    } else {
+        "not complete, "
+    })
 }
 
 /// Adds the program and the run that are found on a disk, legal or not, or why none are.
@@ -56,15 +53,9 @@ pub(crate) fn read<D: Disk>(
     ensures { IfOk result (λ o. IfSome o (λ j. IsAtRest (D.bytes disk.new) (D.images disk.new) (gate_of j))) }
 {
     match tau_keeping::find(alloc, disk) {
-        Ok(
-            Found {
-                journal,
-                program,
-                trace,
-            },
-        ) => {
-            add_run(alloc, text, &program, &trace)?;
-            made(text, Ok(journal))
+        Ok(found) => {
+            add_run(alloc, text, &found.program, &found.trace)?;
+            made(text, Ok(found.journal))
         }
         Err(error) => none(text, error),
     }
@@ -88,22 +79,37 @@ pub(crate) fn keep<D: Disk>(
     ensures { IfOk result (λ o. IfSome o (λ j. IsAtRest (D.bytes disk.new) (D.images disk.new) (gate_of j))) }
 {
     match find_legal(alloc, disk) {
-        Ok(
-            FoundRun {
-                journal,
-                program,
-                trace,
-                complete: _,
-            },
-        ) => match trace_with(alloc, &program, &trace, step)? {
-            Some(longer) => keep_last(alloc, text, disk, journal, &longer),
-            None => {
-                text.push_str("no step\n")?;
-                Ok(None)
-            }
-        },
+        Ok(found) => {
+            let longer = trace_with(alloc, &found.program, &found.trace, step)?;
+            keep_longer(alloc, text, disk, found.journal, longer)
+        }
         Err(error) => none(text, error),
     }
+}
+
+/// Keeps the last step of a trace that has one more than a journal, where there is one.
+fn keep_longer<D: Disk>(
+    alloc: Global,
+    text: &mut String,
+    disk: &mut D,
+    journal: Journal,
+    trace: Option<Trace>,
+) -> Result<Option<Journal>, AllocError>
+    requires { IsAtRest (D.bytes disk.old) (D.images disk.old) (gate_of journal) }
+    ensures { IfOk result (λ o. IfSome o (λ j. IsAtRest (D.bytes disk.new) (D.images disk.new) (gate_of j))) }
+{
+    match trace {
+        Some(trace) => keep_last(alloc, text, disk, journal, &trace),
+        None => no_step(text),
+    }
+}
+
+/// Adds that there is no step.
+fn no_step(text: &mut String) -> Result<Option<Journal>, AllocError>
+    ensures { IfOk result (λ o. o ≡ None) }
+{
+    text.push_str("no step\n")?;
+    Ok(None)
 }
 
 /// Keeps the last step of a trace.
@@ -118,8 +124,7 @@ fn keep_last<D: Disk>(
     ensures { IfOk result (λ o. IfSome o (λ j. IsAtRest (D.bytes disk.new) (D.images disk.new) (gate_of j))) }
 {
     if trace.len() == 0 {
-        text.push_str("no step\n")?;
-        return Ok(None);
+        return no_step(text);
     }
     made(text, keep_step(journal, alloc, disk, trace))
 }
@@ -181,19 +186,19 @@ pub(crate) fn revive_found<D: Disk>(
     ensures { IfOk result (λ o. IfSome o (λ j. IsAtRest (D.bytes disk.new) (D.images disk.new) (gate_of j))) }
 {
     match find_legal(alloc, disk) {
-        Ok(
-            FoundRun {
-                journal,
-                program,
-                trace,
-                complete,
-            },
-        ) => {
-            if complete {
-                text.push_str("complete, ")?;
-                return made(text, Ok(journal));
+        Ok(found) => {
+            if found.complete {
+                add_complete(text, true)?;
+                return made(text, Ok(found.journal));
             }
-            revive_run(alloc, text, disk, journal, &program, &trace)
+            revive_run(
+                alloc,
+                text,
+                disk,
+                found.journal,
+                &found.program,
+                &found.trace,
+            )
         }
         Err(error) => none(text, error),
     }
@@ -213,10 +218,10 @@ fn revive_run<D: Disk>(
     ensures { IfOk result (λ o. IfSome o (λ j. IsAtRest (D.bytes disk.new) (D.images disk.new) (gate_of j))) }
 {
     match revive(journal, alloc, disk, program, trace) {
-        Ok(Revived { journal, program }) => {
-            add_program(alloc, text, &program)?;
+        Ok(revived) => {
+            add_program(alloc, text, &revived.program)?;
             text.push_str(", ")?;
-            made(text, Ok(journal))
+            made(text, Ok(revived.journal))
         }
         Err(error) => none(text, error),
     }
