@@ -14,17 +14,17 @@ use Rattle.clap.proofs.CallerReads.{signed_reads}
 use Rattle.clap.proofs.OnLiterals.{clap_on_literals}
 use Rattle.clap.proofs.ValueTestLemmas.{accepts-Accepts}
 use Rattle.tau_command.specs.Arguments.{tau_command}
-use Rattle.tau_command.specs.Commands.{command_allowed, command_matched, command_named, command_of, number_in, number_of, run_of, stands_amiss, where_faultless, IsInRange}
+use Rattle.tau_command.specs.Commands.{command_allowed, command_matched, command_named, command_of, draw_of, number_in, number_of, run_of, stands_amiss, where_faultless, IsInRange}
 use Rattle.tau_command.specs.declared.commands.Command.{Command}
 use Rattle.tau_command.specs.declared.commands.WordsError.{WordsError}
-use Rattle.tau_command.specs.declared.commands.Command.TheVariants.{Run, Check, Audit, Report, Print, Gen, Drill, Migrate, Why, Cut}
+use Rattle.tau_command.specs.declared.commands.Command.TheVariants.{Run, Check, Audit, Report, Print, Gen, Drill, Migrate, Why, Cut, Draw}
 use Rattle.tau_command.proofs.NumberLemmas.{passed, passes}
 use Rattle.tau_command.proofs.PassingLemmas.{AllOwn, RowsPass, matches_pass, one_read}
 
 -- each argument is the one of its id, and is set; but help asks for help
 all_own : AllOwn (built tau_command).top.rules (built tau_command).top.rules
 unfolding clap_on_literals tau_command
-all_own = ((refl, inl refl), ((refl, inl refl), ((refl, inl refl), ((refl, inl refl), ((refl, inl refl), ((refl, inl refl), ((refl, inr refl), tt)))))))
+all_own = ((refl, inl refl), ((refl, inl refl), ((refl, inl refl), ((refl, inl refl), ((refl, inl refl), ((refl, inl refl), ((refl, inl refl), ((refl, inl refl), ((refl, inr refl), tt)))))))))
 
 -- what is found for the arguments passes
 rows_pass : (words : List Text) → fault_of tau_command words ≡ [] → RowsPass (built tau_command).top.rules (matches_of tau_command words)
@@ -114,19 +114,25 @@ why_in_range : (o : Option ℕ) (c : Command) → option_map (λ n. Why n) o ≡
 why_in_range None c e = absurd (cc)
 why_in_range (Some n) c e = let same : Why n ≡ c = cc in subst IsInRange same tt
 
-named_at : (runs checks audits reports prints gens drills migrates whys cuts : Bool) (run : Option Command) (number : Option ℕ) (c : Command) → (run ≡ Some c → IsInRange c)
-    → cond runs run (cond checks (Some Check) (cond audits (Some Audit) (cond reports (Some Report) (cond prints (Some Print) (cond gens (option_map (λ n. Gen n) number) (cond drills (option_map (λ n. Drill n) number) (cond migrates (Some Migrate) (cond whys (option_map (λ n. Why n) number) (cond cuts (Some Cut) None))))))))) ≡ Some c → IsInRange c
-named_at true checks audits reports prints gens drills migrates whys cuts run number c f e = f e
-named_at false true audits reports prints gens drills migrates whys cuts run number c f e = let same : Check ≡ c = cc in subst IsInRange same tt
-named_at false false true reports prints gens drills migrates whys cuts run number c f e = let same : Audit ≡ c = cc in subst IsInRange same tt
-named_at false false false true prints gens drills migrates whys cuts run number c f e = let same : Report ≡ c = cc in subst IsInRange same tt
-named_at false false false false true gens drills migrates whys cuts run number c f e = let same : Print ≡ c = cc in subst IsInRange same tt
-named_at false false false false false true drills migrates whys cuts run number c f e = gen_in_range number c e
-named_at false false false false false false true migrates whys cuts run number c f e = drill_in_range number c e
-named_at false false false false false false false true whys cuts run number c f e = let same : Migrate ≡ c = cc in subst IsInRange same tt
-named_at false false false false false false false false true cuts run number c f e = why_in_range number c e
-named_at false false false false false false false false false true run number c f e = let same : Cut ≡ c = cc in subst IsInRange same tt
-named_at false false false false false false false false false false run number c f e = absurd (cc)
+draw_at : (from to ask : Option ℕ) (c : Command) → option_and_then (λ a. option_map (λ b. Draw a b ask) to) from ≡ Some c → IsInRange c
+draw_at None to ask c e = absurd (cc)
+draw_at (Some a) None ask c e = absurd (cc)
+draw_at (Some a) (Some b) ask c e = let same : Draw a b ask ≡ c = cc in subst IsInRange same tt
+
+named_at : (runs checks audits reports prints gens drills migrates whys cuts draws : Bool) (run draw : Option Command) (number : Option ℕ) (c : Command) → (run ≡ Some c → IsInRange c) → (draw ≡ Some c → IsInRange c)
+    → cond runs run (cond checks (Some Check) (cond audits (Some Audit) (cond reports (Some Report) (cond prints (Some Print) (cond gens (option_map (λ n. Gen n) number) (cond drills (option_map (λ n. Drill n) number) (cond migrates (Some Migrate) (cond whys (option_map (λ n. Why n) number) (cond cuts (Some Cut) (cond draws draw None)))))))))) ≡ Some c → IsInRange c
+named_at true checks audits reports prints gens drills migrates whys cuts draws run draw number c f g e = f e
+named_at false true audits reports prints gens drills migrates whys cuts draws run draw number c f g e = let same : Check ≡ c = cc in subst IsInRange same tt
+named_at false false true reports prints gens drills migrates whys cuts draws run draw number c f g e = let same : Audit ≡ c = cc in subst IsInRange same tt
+named_at false false false true prints gens drills migrates whys cuts draws run draw number c f g e = let same : Report ≡ c = cc in subst IsInRange same tt
+named_at false false false false true gens drills migrates whys cuts draws run draw number c f g e = let same : Print ≡ c = cc in subst IsInRange same tt
+named_at false false false false false true drills migrates whys cuts draws run draw number c f g e = gen_in_range number c e
+named_at false false false false false false true migrates whys cuts draws run draw number c f g e = drill_in_range number c e
+named_at false false false false false false false true whys cuts draws run draw number c f g e = let same : Migrate ≡ c = cc in subst IsInRange same tt
+named_at false false false false false false false false true cuts draws run draw number c f g e = why_in_range number c e
+named_at false false false false false false false false false true draws run draw number c f g e = let same : Cut ≡ c = cc in subst IsInRange same tt
+named_at false false false false false false false false false false true run draw number c f g e = g e
+named_at false false false false false false false false false false false run draw number c f g e = absurd (cc)
 
 allowed_at : (amiss : Bool) (o : Option Command) (c : Command) → (o ≡ Some c → IsInRange c) → cond amiss None o ≡ Some c → IsInRange c
 allowed_at true o c f e = absurd (cc)
@@ -137,8 +143,9 @@ matched_at words None c none e = absurd (cc)
 matched_at words (Some name) c none e =
     let rows = matches_of tau_command words in
     allowed_at (stands_amiss name rows) (command_named name rows) c
-    (named_at (bytes_eq name (codes "run")) (bytes_eq name (codes "check")) (bytes_eq name (codes "audit")) (bytes_eq name (codes "report")) (bytes_eq name (codes "print")) (bytes_eq name (codes "gen")) (bytes_eq name (codes "drill")) (bytes_eq name (codes "migrate")) (bytes_eq name (codes "why")) (bytes_eq name (codes "cut"))
-    (run_of rows) (number_of 64 (codes "number") rows) c (run_in_range words c none)) e
+    (named_at (bytes_eq name (codes "run")) (bytes_eq name (codes "check")) (bytes_eq name (codes "audit")) (bytes_eq name (codes "report")) (bytes_eq name (codes "print")) (bytes_eq name (codes "gen")) (bytes_eq name (codes "drill")) (bytes_eq name (codes "migrate")) (bytes_eq name (codes "why")) (bytes_eq name (codes "cut")) (bytes_eq name (codes "draw"))
+    (run_of rows) (draw_of rows) (number_of 64 (codes "number") rows) c (run_in_range words c none)
+    (draw_at (number_of 32 (codes "from") rows) (number_of 32 (codes "to") rows) (number_of 64 (codes "number") rows) c)) e
 
 faultless_at : (kinds : Kinds) (o : Option Command) (c : Command) → (kinds ≡ [] → o ≡ Some c → IsInRange c) → where_faultless kinds o ≡ Some c → IsInRange c
 faultless_at [] o c f e = f refl e

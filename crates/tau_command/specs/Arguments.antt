@@ -33,12 +33,18 @@ seed_rule = option_rule (codes "seed") (Unsigned 0 18446744073709551615) (codes 
 abbrev pub steps_rule : Rule
 steps_rule = option_rule (codes "steps") (Signed (pos 0) (pos 200000)) (codes "1000")
 
--- two positionals and four options, with no program name among the words
+abbrev pub from_rule : Rule
+from_rule = option_rule (codes "from") (Signed (pos 0) (pos 4294967295)) (codes "0")
+
+abbrev pub to_rule : Rule
+to_rule = option_rule (codes "to") (Signed (pos 0) (pos 4294967295)) (codes "4294967295")
+
+-- two positionals and six options, with no program name among the words
 unfoldable pub tau_command : App
 tau_command = record {
   top = record (new_shape (codes "tau")) {
     no_binary_name = true;
-    rules = command_rule ∷ number_rule ∷ workers_rule ∷ jobs_rule ∷ seed_rule ∷ steps_rule ∷ [];
+    rules = command_rule ∷ number_rule ∷ workers_rule ∷ jobs_rule ∷ seed_rule ∷ steps_rule ∷ from_rule ∷ to_rule ∷ [];
   };
   subs = [];
 }

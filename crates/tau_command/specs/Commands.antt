@@ -9,7 +9,7 @@ use Rattle.clap.specs.declared.parser.matches.ValueSource.{ValueSource}
 use Rattle.clap.specs.declared.parser.matches.ValueSource.TheVariants.{CommandLine}
 use Rattle.tau_command.specs.Arguments.{tau_command}
 use Rattle.tau_command.specs.declared.commands.Command.{Command}
-use Rattle.tau_command.specs.declared.commands.Command.TheVariants.{Run, Check, Audit, Report, Print, Gen, Drill, Migrate, Why, Cut}
+use Rattle.tau_command.specs.declared.commands.Command.TheVariants.{Run, Check, Audit, Report, Print, Gen, Drill, Migrate, Why, Cut, Draw}
 
 -- ---- what the matches say
 
@@ -21,10 +21,14 @@ is_from_words source = false
 abbrev pub stands : Text → List Row → Bool
 stands id rows = is_from_words (option_and_then (λ r. r.source) (find (λ r. bytes_eq r.id id) rows))
 
--- an option stands on the line
-abbrev pub has_option : List Row → Bool
-has_option rows = stands (codes "workers") rows
+-- an option of `run` stands on the line
+abbrev pub has_run_option : List Row → Bool
+has_run_option rows = stands (codes "workers") rows
     || (stands (codes "jobs") rows || (stands (codes "seed") rows || stands (codes "steps") rows))
+
+-- an option of `draw` stands on the line
+abbrev pub has_window_option : List Row → Bool
+has_window_option rows = stands (codes "from") rows || stands (codes "to") rows
 
 -- the number of at most so many bits that a text writes
 abbrev pub number_in : ℕ → Text → Option ℕ
@@ -47,6 +51,12 @@ run_of rows =
     (number_of 32 (codes "steps") rows)) (number_of 64 (codes "seed") rows))
     (number_of 32 (codes "jobs") rows)) (number_of 32 (codes "workers") rows)
 
+-- `draw`, with the two numbers of its window, and its place where a number stands on the line
+abbrev pub draw_of : List Row → Option Command
+draw_of rows =
+    option_and_then (λ from. option_map (λ to. Draw from to (number_of 64 (codes "number") rows))
+    (number_of 32 (codes "to") rows)) (number_of 32 (codes "from") rows)
+
 -- the command with a name; `gen`, `drill` and `why` have their number
 abbrev pub command_named : Text → List Row → Option Command
 command_named name rows = if bytes_eq name (codes "run") then run_of rows
@@ -59,16 +69,18 @@ command_named name rows = if bytes_eq name (codes "run") then run_of rows
     else (if bytes_eq name (codes "migrate") then Some Migrate
     else (if bytes_eq name (codes "why") then option_map (λ n. Why n) (number_of 64 (codes "number") rows)
     else (if bytes_eq name (codes "cut") then Some Cut
-    else None)))))))))
+    else (if bytes_eq name (codes "draw") then draw_of rows
+    else None))))))))))
 
--- a command with a number
+-- a command with which a number may stand
 abbrev pub takes_number : Text → Bool
-takes_number name = bytes_eq name (codes "gen") || (bytes_eq name (codes "drill") || bytes_eq name (codes "why"))
+takes_number name = bytes_eq name (codes "gen")
+    || (bytes_eq name (codes "drill") || (bytes_eq name (codes "why") || bytes_eq name (codes "draw")))
 
--- an option stands with a command other than `run`, or a number with one that takes none
+-- an option of `run` or of `draw` stands with another command, or a number with one that takes none
 abbrev pub stands_amiss : Text → List Row → Bool
-stands_amiss name rows = (has_option rows && not (bytes_eq name (codes "run")))
-    || (stands (codes "number") rows && not (takes_number name))
+stands_amiss name rows = (has_run_option rows && not (bytes_eq name (codes "run")))
+    || ((has_window_option rows && not (bytes_eq name (codes "draw"))) || (stands (codes "number") rows && not (takes_number name)))
 
 -- the command with a name, where what stands on the line goes with it
 abbrev pub command_allowed : List Row → Text → Option Command

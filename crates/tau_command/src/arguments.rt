@@ -1,7 +1,7 @@
 //! The simple command by which `clap` reads the words.
 ghost use Rattle.std.specs.Prelude.{◌≡◌, IfOk, false};
 ghost use Rattle.clap.specs.Words.{app_of, rule_of};
-ghost use Rattle.tau_command.specs.Arguments.{tau_command, command_rule, number_rule, workers_rule, jobs_rule, seed_rule, steps_rule};
+ghost use Rattle.tau_command.specs.Arguments.{tau_command, command_rule, number_rule, workers_rule, jobs_rule, seed_rule, steps_rule, from_rule, to_rule};
 
 use clap::Arg;
 use std::alloc::{AllocError, Global};
@@ -17,7 +17,9 @@ pub fn tau_command<'a>(alloc: Global) -> Result<clap::Command<'a>, AllocError>
         .arg(workers_argument(alloc))?
         .arg(jobs_argument(alloc))?
         .arg(seed_argument(alloc))?
-        .arg(steps_argument(alloc))
+        .arg(steps_argument(alloc))?
+        .arg(from_argument(alloc))?
+        .arg(to_argument(alloc))
 }
 
 fn command_argument<'a>(alloc: Global) -> Arg<'a>
@@ -72,4 +74,24 @@ fn steps_argument<'a>(alloc: Global) -> Arg<'a>
         .long("steps")
         .value_parser(clap::value_parser!(u32).range(0..=200_000))
         .default_value("1000")
+}
+
+fn from_argument<'a>(alloc: Global) -> Arg<'a>
+    ensures rule { rule_of result ≡ from_rule }
+    ensures local { result.global ≡ false }
+{
+    Arg::new(alloc, "from")
+        .long("from")
+        .value_parser(clap::value_parser!(u32))
+        .default_value("0")
+}
+
+fn to_argument<'a>(alloc: Global) -> Arg<'a>
+    ensures rule { rule_of result ≡ to_rule }
+    ensures local { result.global ≡ false }
+{
+    Arg::new(alloc, "to")
+        .long("to")
+        .value_parser(clap::value_parser!(u32))
+        .default_value("4294967295")
 }

@@ -53,6 +53,15 @@ pub enum Command {
     },
     /// Tells the greatest set of checkpoints of a run text that could all be kept.
     Cut,
+    /// Draws a picture of a run text.
+    Draw {
+        /// The first place that is drawn.
+        from: u32,
+        /// The place at which drawing ends; it isn't drawn itself.
+        to: u32,
+        /// The place of the step of which the picture tells the cause.
+        ask: Option<u64>,
+    },
 }
 
 /// Why words name no command (docs/formats.md, "Error types").

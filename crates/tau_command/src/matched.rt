@@ -1,7 +1,7 @@
 //! What the matches of `clap` say.
 ghost use Rattle.std.specs.Prelude.{◌≡◌};
 ghost use Rattle.clap.specs.Words.{found_of, rows_of};
-ghost use Rattle.tau_command.specs.Commands.{command_allowed, command_matched, command_named, has_option, is_from_words, number_of, run_of, stands, stands_amiss, takes_number};
+ghost use Rattle.tau_command.specs.Commands.{command_allowed, command_matched, command_named, draw_of, has_run_option, has_window_option, is_from_words, number_of, run_of, stands, stands_amiss, takes_number};
 
 use crate::Command;
 use clap::ArgMatches;
@@ -25,18 +25,20 @@ fn command_allowed(name: &str, matches: &ArgMatches<'_>) -> Option<Command>
     }
 }
 
-/// Whether an option stands with a command other than `run`, or a number with one that takes none.
+/// Whether an option of `run` or of `draw` stands with another command, or a number with one that takes none.
 fn stands_amiss(name: &str, matches: &ArgMatches<'_>) -> bool
     ensures { result ≡ stands_amiss name.now (rows_of (found_of matches.now)) }
 {
-    (has_option(matches) && name != "run") || (stands(matches, "number") && !takes_number(name))
+    (has_run_option(matches) && name != "run")
+        || (has_window_option(matches) && name != "draw")
+        || (stands(matches, "number") && !takes_number(name))
 }
 
-/// Whether a command has a number.
+/// Whether a number may stand with a command.
 fn takes_number(name: &str) -> bool
     ensures { result ≡ takes_number name.now }
 {
-    name == "gen" || name == "drill" || name == "why"
+    name == "gen" || name == "drill" || name == "why" || name == "draw"
 }
 
 /// The command with this name.
@@ -54,6 +56,7 @@ fn command_named(name: &str, matches: &ArgMatches<'_>) -> Option<Command>
         "migrate" => Some(Command::Migrate),
         "why" => long_number(matches, "number").map(|place| Command::Why { place }),
         "cut" => Some(Command::Cut),
+        "draw" => draw_of(matches),
         _ => None,
     }
 }
@@ -70,14 +73,32 @@ fn run_of(matches: &ArgMatches<'_>) -> Option<Command>
     })
 }
 
-/// Whether an option stands on the line.
-fn has_option(matches: &ArgMatches<'_>) -> bool
-    ensures { result ≡ has_option (rows_of (found_of matches.now)) }
+/// The command `draw` with its window, and the place of the step that is asked for, if one is.
+fn draw_of(matches: &ArgMatches<'_>) -> Option<Command>
+    ensures { result ≡ draw_of (rows_of (found_of matches.now)) }
+{
+    Some(Command::Draw {
+        from: short_number(matches, "from")?,
+        to: short_number(matches, "to")?,
+        ask: long_number(matches, "number"),
+    })
+}
+
+/// Whether an option of `run` stands on the line.
+fn has_run_option(matches: &ArgMatches<'_>) -> bool
+    ensures { result ≡ has_run_option (rows_of (found_of matches.now)) }
 {
     stands(matches, "workers")
         || stands(matches, "jobs")
         || stands(matches, "seed")
         || stands(matches, "steps")
+}
+
+/// Whether an option of `draw` stands on the line.
+fn has_window_option(matches: &ArgMatches<'_>) -> bool
+    ensures { result ≡ has_window_option (rows_of (found_of matches.now)) }
+{
+    stands(matches, "from") || stands(matches, "to")
 }
 
 /// Whether an argument stands on the line, so that its value is no default.

@@ -4,7 +4,7 @@ use Rattle.clap.specs.Simple.{app_of_fields, on_top}
 use Rattle.clap.specs.Words.{AddsArg, App, Rule, app_of, new_app, rule_of, with_rule}
 use Rattle.clap.specs.declared.builder.arg.Arg.{Arg}
 use Rattle.clap.specs.declared.builder.command.Command.{Command}
-use Rattle.tau_command.specs.Arguments.{tau_command, command_rule, number_rule, workers_rule, jobs_rule, seed_rule, steps_rule}
+use Rattle.tau_command.specs.Arguments.{tau_command, command_rule, number_rule, workers_rule, jobs_rule, seed_rule, steps_rule, from_rule, to_rule}
 use Rattle.tau_command.proofs.arguments.tau_command.Goals as goal
 
 -- a command with one more argument
@@ -26,5 +26,7 @@ returns c =
     let third = added _ _ _ _ workers_rule c.in_ok-arg-3.ensures c.workers_argument.ensures.local c.workers_argument.ensures.rule second in
     let fourth = added _ _ _ _ jobs_rule c.in_ok-arg-4.ensures c.jobs_argument.ensures.local c.jobs_argument.ensures.rule third in
     let fifth = added _ _ _ _ seed_rule c.in_ok-arg-5.ensures c.seed_argument.ensures.local c.seed_argument.ensures.rule fourth in
-    IfOk-weaker c.arg-6.result _ _
-    (λ r adds. added _ _ r _ steps_rule adds c.steps_argument.ensures.local c.steps_argument.ensures.rule fifth) c.arg-6.ensures
+    let sixth = added _ _ _ _ steps_rule c.in_ok-arg-6.ensures c.steps_argument.ensures.local c.steps_argument.ensures.rule fifth in
+    let seventh = added _ _ _ _ from_rule c.in_ok-arg-7.ensures c.from_argument.ensures.local c.from_argument.ensures.rule sixth in
+    IfOk-weaker c.arg-8.result _ _
+    (λ r adds. added _ _ r _ to_rule adds c.to_argument.ensures.local c.to_argument.ensures.rule seventh) c.arg-8.ensures
