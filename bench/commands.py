@@ -5,8 +5,8 @@ memory.
 The runs are those of `tau run` with one worker. It builds the program by bin/tau where it isn't built, and prints a table; each
 command is run several times, and the median is shown. The aims are, for `check`, 0.3 seconds for a ring of 64, and one second and
 150 MB for the ring of 2,000; 0.1 seconds for `run` of the chain; for `why` of the last Hold, and for `cut` of 40,000 checkpoints,
-all In or all Out, twice the time of `report`; for `migrate` the time of `check` and `print` together; for a message that is repeated a
-time by how often; and two seconds for each.
+all In or all Out, twice the time of `report`; for `draw`, which draws the first 2,000 steps, one second; for `migrate` the time of
+`check` and `print` together; for a message that is repeated a time by how often; and two seconds for each.
 """
 
 import os
@@ -57,7 +57,7 @@ PROGRAMS = [
     ("a chain of 1,000, a message repeated 512 times", repeated(1_000, 512)),
     ("a chain of 1,000, repeated 4,096 times", repeated(1_000, 4_096)),
 ]
-COMMANDS = ["run", "check", "audit", "report", "print", "migrate", "why", "cut"]
+COMMANDS = ["run", "check", "audit", "report", "print", "migrate", "why", "cut", "draw"]
 
 
 def words_of(command, text):

@@ -59,6 +59,13 @@ COPY = b"(nodes 1)\n(behaviour copy (seq (get) (set msg)))\n(start a copy 0 0)\n
 SAVED = b"(saved a 1 0)\n(counts (checkpoints 0) (holds 0) (drops 0) (falls 0) (losses 0))\n"
 RUN_TEXT = COPY + b"(trace)\n(take a 0)\n(get a)\n(set a 5)\n(done a)\n(report)\n" + SAVED
 
+
+def picture(name):
+    """The bytes of a picture of docs/pictures."""
+    with open(os.path.join(programs.ROOT, "docs", "pictures", name), "rb") as file:
+        return file.read()
+
+
 # A run text with a checkpoint that was held, at place 8, since the sink k has set its state by that of the source s.
 HELD = (
     b"(nodes 1)\n(behaviour src (seq (set msg) (send (name k) (get))))\n(behaviour sink (seq (set msg) (stabilize) (checkpoint)))\n"
@@ -78,6 +85,7 @@ COMMANDS = [
     (["migrate"], RUN_TEXT, b"(version 2)\n" + RUN_TEXT),
     (["why", "8"], HELD, CHAIN),
     (["cut"], RUN_TEXT, b"(state a 1 0)\n"),
+    (["draw", "8"], HELD, picture("volatile-source.svg")),
     (["gen", "1"], b"", None),
 ]
 
@@ -88,7 +96,7 @@ def input_fault(fault, at):
 
 
 def no_decision(place):
-    """The line for a place of which `why` has nothing to tell."""
+    """The line for a place of which `why` or `draw` has nothing to tell."""
     return f"tau: no such decision at {place}"
 
 
@@ -293,6 +301,8 @@ TEXTS = [
     ("report", "16 MB of 1,000,000 steps", long_trace, "", lambda: SAVED),
     ("check", "16 MB of 1,000,000 steps", long_trace, ILLEGAL, None),
     ("why 999999", "16 MB of 1,000,000 steps", long_trace, no_decision(999_999), None),
+    ("draw", "16 MB of 1,000,000 steps", long_trace, "", None),
+    ("draw 999999", "16 MB of 1,000,000 steps", long_trace, no_decision(999_999), None),
 ]
 
 
@@ -328,10 +338,11 @@ def add_past(rows):
         steps = [b"(new p %d kid 0 0)\n" % number for number in range(1, 2049)]
         found = run(["check"], lambda: program + post + b"(trace)\n(take p 0)\n" + b"".join(steps))
         rows.show(name, found, rows.judge(found, [ILLEGAL], found.text == b"bad step 2048\n"))
-    for number, status in [(2**64 - 1, 11), (2**64, 2)]:
-        name = f"why: the place {number}"
-        if rows.wants(name):
-            rows.add(name, run(["why", str(number)], lambda: HELD), statuses=[status])
+    for command in ["why", "draw"]:
+        for number, status in [(2**64 - 1, 11), (2**64, 2)]:
+            name = f"{command}: the place {number}"
+            if rows.wants(name):
+                rows.add(name, run([command, str(number)], lambda: HELD), statuses=[status])
 
 
 # Ends.

@@ -39,12 +39,17 @@ look_at_option() {
     esac
 }
 
+# Whether a word is the number of the command: each word that stands where one must, and a number where one may.
+is_its_number() {
+    [ -z "$number" ] && has "$numbered" "$command" && { has "$needing" "$command" || is_number "$1"; }
+}
+
 # A word that is neither an option nor its value: the command, its number, or at last a file. `is_last` says whether it is the last one.
 look_at_word() {
     if [ -z "$command" ]; then
         command=$1
         has "$commands" "$1" || blame "\`$1\` is no command"
-    elif has "$numbered" "$command" && [ -z "$number" ]; then
+    elif is_its_number "$1"; then
         number=$1
         is_number "$1" || blame "\`$1\` is no number"
     elif ! reads "$command"; then
@@ -62,7 +67,7 @@ look_at_word() {
 look_at_whole() {
     if [ -n "$wants" ]; then blame "the number behind $wants is missing"; fi
     if [ -z "$command" ]; then blame "no command stands here"; fi
-    if has "$numbered" "$command" && [ -z "$number" ]; then blame "the number behind $command is missing"; fi
+    if has "$needing" "$command" && [ -z "$number" ]; then blame "the number behind $command is missing"; fi
     for option in $given; do
         has "$pairs" "$command:$option" || blame "$option doesn't stand with $command"
     done

@@ -25,6 +25,14 @@ tell_words() {
     fi
 }
 
+# What a step is that is asked for in vain.
+told_in_vain() {
+    case $command in
+    draw) echo ", which is no hold, drop or fall, and no checkpoint that can't be kept" ;;
+    *) echo ", which is no hold, drop or fall" ;;
+    esac
+}
+
 tell_place() {
     if [ -z "$input" ]; then
         [ "$status" -eq 11 ] || say "with the input in a file (< FILE) the line and column are told too"
@@ -45,7 +53,7 @@ tell_place() {
             where step "${line##* }" ", the fall of what it depends on"
             ;;
         "11:tau: no such decision at "*)
-            where step "${line#tau: no such decision at }" ", which is no hold, drop or fall"
+            where step "${line#tau: no such decision at }" "$(told_in_vain)"
             return
             ;;
         esac

@@ -1,7 +1,8 @@
 # shellcheck shell=sh disable=SC2034,SC2154
 # Made by share/make from the table "Words" of docs/manual.md.
-commands=' run check audit report print gen drill migrate why cut '
-numbered=' gen drill why '
-reading=' run check audit report print migrate why cut '
-options=' --workers --jobs --seed --steps '
-pairs=' run:--workers run:--jobs run:--seed run:--steps '
+commands=' run check audit report print gen drill migrate why cut draw '
+numbered=' gen drill why draw '
+needing=' gen drill why '
+reading=' run check audit report print migrate why cut draw '
+options=' --workers --jobs --seed --steps --from --to '
+pairs=' run:--workers run:--jobs run:--seed run:--steps draw:--from draw:--to '

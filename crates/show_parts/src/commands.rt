@@ -57,5 +57,15 @@ fn add_command(text: &mut String, call: Call<'_>, command: Command) -> Result<()
         Command::Migrate => call.answer(text, "Migrate"),
         Command::Why { place } => writeln!(text, "{line}: Why, place {place}"),
         Command::Cut => call.answer(text, "Cut"),
+        Command::Draw {
+            from,
+            to,
+            ask: Some(place),
+        } => writeln!(text, "{line}: Draw, from {from}, to {to}, place {place}"),
+        Command::Draw {
+            from,
+            to,
+            ask: None,
+        } => writeln!(text, "{line}: Draw, from {from}, to {to}"),
     }
 }

@@ -3,7 +3,7 @@ use Rattle.std.proofs.Common.{◌≡◌, ◌≢◌, ◌⊎◌, inl, inr, ℕ, Li
 use Rattle.std.specs.Io.KnownBytes.{Appends}
 use Rattle.tau_io.specs.Put.{AppendsFront}
 use Rattle.tau_command.specs.declared.commands.Command.{Command}
-use Rattle.tau_command.specs.declared.commands.Command.TheVariants.{Run, Check, Audit, Report, Print, Gen, Drill, Migrate, Why, Cut}
+use Rattle.tau_command.specs.declared.commands.Command.TheVariants.{Run, Check, Audit, Report, Print, Gen, Drill, Migrate, Why, Cut, Draw}
 use Rattle.tau_command.specs.Commands.{command_of}
 use Rattle.tau_output.specs.declared.outputs.End.{End}
 use Rattle.tau_output.specs.declared.outputs.End.TheVariants as ends
@@ -12,14 +12,14 @@ use Rattle.tau_output.specs.declared.refusals.Refusal.{Refusal}
 use Rattle.tau_output.specs.declared.refusals.Refusal.TheVariants as refusals
 use Rattle.tau_output.specs.Faults.{reads_input, IsInputFault, too_long, within}
 use Rattle.tau_output.specs.Refusals.{TellsFault, TellsNotAsked}
-use Rattle.tau_output.specs.Explaining.{IsNotAsked, AsksInVain}
+use Rattle.tau_output.specs.Asking.{AsksInVain}
 use Rattle.tau_cli.specs.declared.calls.Asked.{Asked}
 use Rattle.tau_cli.specs.declared.statuses.Status.{Status}
 use Rattle.tau_cli.specs.declared.statuses.Status.TheVariants.{Words, Input, ReadFault, WriteFault, NoMemory, Place}
 use Rattle.tau_cli.specs.Status.{of_end, of_refusal, IsRefusal, IsResult}
 use Rattle.tau_cli.specs.Output.{Writing, IsEndOf, IsOutput, Stops, IsUnlessUnread}
 use Rattle.tau_cli.specs.Ends.{Effect, Asks, Tells, Ends}
-use Rattle.tau_cli.proofs.OutputLemmas.{Refuses, output_left, left_told, never_told, place_told, stops_without_fault}
+use Rattle.tau_cli.proofs.OutputLemmas.{Refuses, asked_reads, output_left, left_told, never_told, place_told, stops_without_fault}
 
 -- What a command that has a fault reads.
 faulty_reads : (command : Command) (bytes : List ℕ) (fault at : ℕ) → IsInputFault command bytes fault at → IsTrue (reads_input command)
@@ -34,6 +34,7 @@ faulty_reads (Drill number) bytes fault at (within l h) = absurd h
 faulty_reads Migrate bytes fault at (within l h) = refl
 faulty_reads (Why place) bytes fault at (within l h) = refl
 faulty_reads Cut bytes fault at (within l h) = refl
+faulty_reads (Draw from to ask) bytes fault at (within l h) = refl
 
 -- The status of a text that was written.
 end_result : (end : End) → IsResult (of_end end)
@@ -62,7 +63,7 @@ pub record Finds (W : Writing) (command : Command) (bytes : List ℕ) (r : Resul
   pub fault : IfErr r (TellsFault (IsInputFault command bytes))
   pub faulty : (fault at : ℕ) → IsInputFault command bytes fault at → TellsOf r fault at
   pub not_asked : IfErr r (TellsNotAsked (AsksInVain command bytes))
-  pub unasked : (place : ℕ) → command ≡ Why place → IsNotAsked place bytes → Refuses r place
+  pub unasked : (place : ℕ) → AsksInVain command bytes place → Refuses r place
 
 module _ (W : Writing) (line : List (List ℕ)) (source sink : Effect) where
   -- nothing was asked
@@ -103,13 +104,16 @@ module _ (W : Writing) (line : List (List ℕ)) (source sink : Effect) where
         subst (λ c. IsInputFault c asked.bytes.items fault at) (sym (named command e))
         (subst (λ b. IsInputFault command b fault at) (sym (read command bytes e l (faulty_reads command bytes fault at h))) h)
 
-    unasked_read : (place : ℕ) (bytes : List ℕ) → command_of line ≡ Some (Why place) → source.before ≡ Some bytes → IsNotAsked place bytes → IsNotAsked place asked.bytes.items
-    unasked_read place bytes e l h = subst (IsNotAsked place) (sym (read (Why place) bytes e l refl)) h
+    unasked_read : (command : Command) (bytes : List ℕ) (place : ℕ) → command_of line ≡ Some command → source.before ≡ Some bytes → AsksInVain command bytes place
+        → AsksInVain asked.command asked.bytes.items place
+    unasked_read command bytes place e l h =
+        subst (λ c. AsksInVain c asked.bytes.items place) (sym (named command e))
+        (subst (λ b. AsksInVain command b place) (sym (read command bytes e l (asked_reads command place h.asks))) h)
 
     -- and an output was found
     module _ (o : Output) (w : W asked.command asked.bytes.items o.end o.text.items) (ends : IsEndOf asked.command (of_end o.end))
         (faultless : (fault at : ℕ) → IsInputFault asked.command asked.bytes.items fault at → TellsOf (Ok o) fault at)
-        (decided : (place : ℕ) → asked.command ≡ Why place → IsNotAsked place asked.bytes.items → Refuses (Ok o) place) where
+        (decided : (place : ℕ) → AsksInVain asked.command asked.bytes.items place → Refuses (Ok o) place) where
       output : IsOutput W line source.before (of_end o.end) o.text.items
       output = output_left W line source.before asked.command asked.bytes.items o.end o.text.items a.command a.left w
 
@@ -119,8 +123,8 @@ module _ (W : Writing) (line : List (List ℕ)) (source sink : Effect) where
         never (inl x) = cc
         never (inr x) = cc
 
-      no_place : (place : ℕ) (bytes : List ℕ) → command_of line ≡ Some (Why place) → source.before ≡ Some bytes → IsNotAsked place bytes → ⊥
-      no_place place bytes e l h = never_told o place (decided place (named (Why place) e) (unasked_read place bytes e l h))
+      no_place : (command : Command) (bytes : List ℕ) (place : ℕ) → command_of line ≡ Some command → source.before ≡ Some bytes → AsksInVain command bytes place → ⊥
+      no_place command bytes place e l h = never_told o place (decided place (unasked_read command bytes place e l h))
 
       other : (s : Status) → ¬ IsResult s → of_end o.end ≢ s
       other s none e = none (subst IsResult e (end_result o.end))
@@ -135,7 +139,7 @@ module _ (W : Writing) (line : List (List ℕ)) (source sink : Effect) where
         input = λ fault at e. absurd (other (Input fault at) (λ x. x) e);
         faulty = λ command bytes fault at e l h. absurd (no_fault command bytes fault at e l h);
         place = λ place e. absurd (other (Place place) (λ x. x) e);
-        unasked = λ place bytes e l h. absurd (no_place place bytes e l h);
+        unasked = λ command bytes place e l h. absurd (no_place command bytes place e l h);
         unwritten = λ is. absurd (end_unrefused o.end is);
         written = λ is. (o.text.items, output, appended);
         write_fault = λ e. absurd (other WriteFault (λ x. x) e);
@@ -154,7 +158,7 @@ module _ (W : Writing) (line : List (List ℕ)) (source sink : Effect) where
         input = λ fault at e. absurd (cc);
         faulty = λ command bytes fault at e l h. absurd (no_fault command bytes fault at e l h);
         place = λ place e. absurd (cc);
-        unasked = λ place bytes e l h. absurd (no_place place bytes e l h);
+        unasked = λ command bytes place e l h. absurd (no_place command bytes place e l h);
         unwritten = λ is. absurd is;
         written = λ is. absurd is;
         write_fault = λ e. fails;
@@ -173,7 +177,7 @@ module _ (W : Writing) (line : List (List ℕ)) (source sink : Effect) where
         input = λ fault at e. absurd (cc);
         faulty = λ command bytes fault at e l h. inr (inr refl);
         place = λ place e. absurd (cc);
-        unasked = λ place bytes e l h. inr (inr refl);
+        unasked = λ command bytes place e l h. inr (inr refl);
         unwritten = λ is. absurd is;
         written = λ is. absurd is;
         write_fault = λ e. absurd (cc);
@@ -188,7 +192,7 @@ module _ (W : Writing) (line : List (List ℕ)) (source sink : Effect) where
     refusal_stops (refusals.Fault fault at) h n =
         record { command = asked.command; is_command = a.command; bytes = asked.bytes.items; are_left = a.left (faulty_reads asked.command asked.bytes.items fault at h); has_fault = h }
     refusal_stops (refusals.NotAsked place) h n =
-        record { is_command = a.command ∙ ap Some n.0; bytes = asked.bytes.items; are_left = a.left (subst (λ c. IsTrue (reads_input c)) (sym n.0) refl); not_asked = n.1 }
+        record { command = asked.command; is_command = a.command; bytes = asked.bytes.items; are_left = a.left (asked_reads asked.command place n.asks); in_vain = n }
     refusal_stops refusals.NoMemory h n = tt
 
   -- what was told
@@ -208,5 +212,5 @@ module _ (W : Writing) (line : List (List ℕ)) (source sink : Effect) where
     status = refusal_stops asked a e f.fault f.not_asked;
     untouched = a.untouched;
     faulty = λ command bytes fault at c l h. fault_told e fault at (f.faulty fault at (fault_read asked a command bytes fault at c l h));
-    unasked = λ place bytes c l h. place_told e (of_refusal e) place refl (f.unasked place (named asked a (Why place) c) (unasked_read asked a place bytes c l h));
+    unasked = λ command bytes place c l h. place_told e (of_refusal e) place refl (f.unasked place (unasked_read asked a command bytes place c l h));
   }) t.1)

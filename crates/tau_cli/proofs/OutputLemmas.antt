@@ -1,13 +1,14 @@
 -- What the words of a command line come to.
 use Rattle.std.proofs.Common.{◌≡◌, ◌⊎◌, inl, inr, ℕ, List, Option, Some, None, Result, Ok, Err, IsTrue, refl, sym, ap, ◌∙◌, subst}
 use Rattle.tau_command.specs.declared.commands.Command.{Command}
-use Rattle.tau_command.specs.declared.commands.Command.TheVariants.{Why}
+use Rattle.tau_command.specs.declared.commands.Command.TheVariants.{Why, Draw}
 use Rattle.tau_command.specs.Commands.{command_of}
 use Rattle.tau_output.specs.declared.outputs.End.{End}
 use Rattle.tau_output.specs.declared.outputs.Output.{Output}
 use Rattle.tau_output.specs.declared.refusals.Refusal.{Refusal}
 use Rattle.tau_output.specs.declared.refusals.Refusal.TheVariants as refusals
 use Rattle.tau_output.specs.Faults.{reads_input, IsInputFault}
+use Rattle.tau_output.specs.Asking.{place_asked}
 use Rattle.tau_cli.specs.declared.statuses.Status.{Status}
 use Rattle.tau_cli.specs.declared.statuses.Status.TheVariants.{Words, Input, ReadFault, NoMemory, Place}
 use Rattle.tau_cli.specs.Status.{of_end, of_refusal}
@@ -42,6 +43,17 @@ place_told e s place is (inr h) =
     let same : e ≡ refusals.NoMemory = cc in
     inr (inr (is ∙ ap of_refusal same))
 
+-- a command that asks for a place may end so, and reads an input
+asked_end : (command : Command) (place : ℕ) → place_asked command ≡ Some place → IsEndOf command (Place place)
+asked_end (Why k) place e = let same : k ≡ place = cc in inr (ap Place (sym same))
+asked_end (Draw from to ask) place e = inr (place, e, refl)
+asked_end command place e = absurd (cc)
+
+pub asked_reads : (command : Command) (place : ℕ) → place_asked command ≡ Some place → IsTrue (reads_input command)
+asked_reads (Why k) place e = refl
+asked_reads (Draw from to ask) place e = refl
+asked_reads command place e = absurd (cc)
+
 -- with no fault anywhere, only want of memory is left
 pub stops_without_fault : (s : Status) (words : List (List ℕ)) (left : Option (List ℕ)) (U R : Type 0) (command : Command) (bytes : List ℕ) → Stops words left U R s
     → command_of words ≡ Some command → left ≡ Some bytes → ((a b : ℕ) → ¬ IsInputFault command bytes a b) → ¬ R → IsEndOf command s ⊎ (s ≡ NoMemory)
@@ -53,8 +65,8 @@ stops_without_fault (Input a b) words left U R command bytes h e l f r =
     absurd (f a b (subst (λ x. IsInputFault x bytes a b) same (subst (λ x. IsInputFault h.command x a b) read h.has_fault)))
 stops_without_fault ReadFault words left U R command bytes h e l f r = absurd (r h.1)
 stops_without_fault (Place place) words left U R command bytes h e l f r =
-    let g : Some (Why place) ≡ Some command = sym h.is_command ∙ e in
-    let same : Why place ≡ command = cc in
-    inl (subst (λ x. IsEndOf x (Place place)) same (inr refl))
+    let g : Some h.command ≡ Some command = sym h.is_command ∙ e in
+    let same : h.command ≡ command = cc in
+    inl (subst (λ x. IsEndOf x (Place place)) same (asked_end h.command place h.in_vain.asks))
 stops_without_fault NoMemory words left U R command bytes h e l f r = inr refl
 stops_without_fault s words left U R command bytes h e l f r = absurd h

@@ -54,6 +54,7 @@ writes_end (commands.Drill number) bytes end text w = run_end 200000 (generated 
 writes_end commands.Migrate bytes end text w = migrate_end (second_program w.answers.program) (second w.answers.run) end text w.answers.migrated
 writes_end (commands.Why place) bytes end text w = inl (ap of_end w.answers.1)
 writes_end commands.Cut bytes end text w = ap of_end w.answers.1
+writes_end (commands.Draw from to ask) bytes end text w = inl (ap of_end w.answers.1)
 
 -- and on one thread
 same_end : (command : Command) (end : End) → IsEndOf (by_one_worker command) (of_end end) → IsEndOf command (of_end end)
@@ -67,6 +68,7 @@ same_end (commands.Drill number) end h = h
 same_end commands.Migrate end h = h
 same_end (commands.Why place) end h = h
 same_end commands.Cut end h = h
+same_end (commands.Draw from to ask) end h = h
 
 pub serial_end : (command : Command) (bytes : List ℕ) (end : End) (text : List ℕ) → WritesSerially command bytes end text → IsEndOf command (of_end end)
 serial_end command bytes end text w = same_end command end (writes_end (by_one_worker command) bytes end text w)

@@ -5,12 +5,11 @@ use Rattle.tau_io.specs.Faults.{HasRisen}
 use Rattle.tau_io.specs.Put.{AppendsFront}
 use Rattle.tau_command.specs.declared.commands.Command.{Command}
 use Rattle.tau_command.specs.declared.commands.WordsError.{WordsError}
-use Rattle.tau_command.specs.declared.commands.Command.TheVariants.{Why}
 use Rattle.tau_command.specs.Commands.{command_of}
 use Rattle.tau_output.specs.declared.outputs.Output.{Output}
 use Rattle.tau_output.specs.declared.refusals.Refusal.{Refusal}
 use Rattle.tau_output.specs.Faults.{input_limit, reads_input, IsInputFault}
-use Rattle.tau_output.specs.Explaining.{IsNotAsked}
+use Rattle.tau_output.specs.Asking.{AsksInVain}
 use Rattle.tau_output.specs.Writing.{HasLimit}
 use Rattle.tau_cli.specs.declared.calls.Asked.{Asked}
 use Rattle.tau_cli.specs.declared.statuses.Status.{Status}
@@ -44,8 +43,8 @@ pub record Asks (line : List (List ℕ)) (source : Effect) (asked : Result Asked
   pub untouched : (command : Command) → command_of line ≡ Some command → reads_input command ≡ false → source.Stayed
   pub faulty : (command : Command) (bytes : List ℕ) (fault at : ℕ) → command_of line ≡ Some command → source.before ≡ Some bytes
       → IsInputFault command bytes fault at → IfErr asked (λ status. IsUnlessUnread status (Input fault at))
-  pub unasked : (place : ℕ) (bytes : List ℕ) → command_of line ≡ Some (Why place) → source.before ≡ Some bytes
-      → IsNotAsked place bytes → IfErr asked (λ status. IsUnlessUnread status (Place place))
+  pub unasked : (command : Command) (bytes : List ℕ) (place : ℕ) → command_of line ≡ Some command → source.before ≡ Some bytes
+      → AsksInVain command bytes place → IfErr asked (λ status. IsUnlessUnread status (Place place))
 
 -- an output was written, or a front of it, and nothing for a refusal; and the status
 abbrev pub Tells : Result Output Refusal → Effect → Status → Type 0
@@ -69,10 +68,10 @@ pub record Ends (Writes : Writing) (line : List (List ℕ)) (source sink : Effec
   pub input : (fault at : ℕ) → status ≡ Input fault at → IsFaulty line source.before fault at
   pub faulty : (command : Command) (bytes : List ℕ) (fault at : ℕ) → command_of line ≡ Some command → source.before ≡ Some bytes
       → IsInputFault command bytes fault at → IsUnlessUnread status (Input fault at)
-  -- no Hold, Drop or Fall stands at the place of `why`
+  -- `why` or `draw` asks in vain for a place
   pub place : (place : ℕ) → status ≡ Place place → IsUnasked line source.before place
-  pub unasked : (place : ℕ) (bytes : List ℕ) → command_of line ≡ Some (Why place) → source.before ≡ Some bytes
-      → IsNotAsked place bytes → IsUnlessUnread status (Place place)
+  pub unasked : (command : Command) (bytes : List ℕ) (place : ℕ) → command_of line ≡ Some command → source.before ≡ Some bytes
+      → AsksInVain command bytes place → IsUnlessUnread status (Place place)
   -- after each of these nothing was written
   pub unwritten : IsRefusal status → sink.Stayed
   -- the whole text of the command for the input was written

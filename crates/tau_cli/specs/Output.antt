@@ -2,16 +2,16 @@
 use Rattle.std.specs.Prelude.{◌≡◌, ◌⊎◌, ℕ, ◌<◌, IsTrue, List, length, Option, Some, None}
 use Rattle.tau_points.specs.declared.point.Point.{Point}
 use Rattle.tau_command.specs.declared.commands.Command.{Command}
-use Rattle.tau_command.specs.declared.commands.Command.TheVariants.{Run, Check, Audit, Report, Print, Gen, Drill, Migrate, Why, Cut}
+use Rattle.tau_command.specs.declared.commands.Command.TheVariants.{Run, Check, Audit, Report, Print, Gen, Drill, Migrate, Why, Cut, Draw}
 use Rattle.tau_command.specs.Commands.{command_of}
 use Rattle.tau_output.specs.declared.outputs.End.{End}
 use Rattle.tau_output.specs.Faults.{input_limit, reads_input, IsInputFault}
-use Rattle.tau_output.specs.Explaining.{IsNotAsked}
+use Rattle.tau_output.specs.Asking.{AsksInVain}
 use Rattle.tau_cli.specs.declared.statuses.Status.{Status}
 use Rattle.tau_cli.specs.declared.statuses.Status.TheVariants.{Done, Stopped, Words, Input, Bad, ReadFault, NoMemory, Broken, Place}
 use Rattle.tau_cli.specs.Status.{of_end}
 
--- how a command ends where its input has no fault and nothing fails; `why` may be asked for a place that has no decision
+-- how a command ends where its input has no fault and nothing fails; `why` and `draw` may ask in vain for a place
 abbrev pub IsEndOf : Command → Status → Type 0
 IsEndOf (Run workers jobs seed steps) status = (status ≡ Done) ⊎ (status ≡ Stopped)
 IsEndOf Check status = (status ≡ Done) ⊎ ((place : ℕ) × (status ≡ Bad place))
@@ -23,6 +23,7 @@ IsEndOf (Drill number) status = (status ≡ Done) ⊎ (status ≡ Stopped)
 IsEndOf Migrate status = (status ≡ Done) ⊎ ((place : ℕ) × (status ≡ Bad place))
 IsEndOf (Why place) status = (status ≡ Done) ⊎ (status ≡ Place place)
 IsEndOf Cut status = status ≡ Done
+IsEndOf (Draw from to ask) status = (status ≡ Done) ⊎ ((place : ℕ) × (ask ≡ Some place) × (status ≡ Place place))
 
 -- the bytes are those that a source had left, where it tells them
 abbrev pub AreLeft : Option (List ℕ) → List ℕ → Type 0
@@ -57,12 +58,13 @@ pub record IsFaulty (words : List (List ℕ)) (left : Option (List ℕ)) (fault 
   pub are_left : AreLeft left bytes
   pub has_fault : IsInputFault command bytes fault at
 
--- the command of the words is `why` with this place, and no Hold, Drop or Fall stands there in the run that the source had left
+-- the command of the words asks for this place in vain, in the run that the source had left
 pub record IsUnasked (words : List (List ℕ)) (left : Option (List ℕ)) (place : ℕ) : Type 0 where
-  pub is_command : command_of words ≡ Some (Why place)
+  pub command : Command
+  pub is_command : command_of words ≡ Some command
   pub bytes : List ℕ
   pub are_left : AreLeft left bytes
-  pub not_asked : IsNotAsked place bytes
+  pub in_vain : AsksInVain command bytes place
 
 -- the words name a command that reads an input
 pub record NamesReader (words : List (List ℕ)) : Type 0 where

@@ -32,7 +32,7 @@ number_of (Place place) = 11
 abbrev pub line_of : Status → List ℕ
 line_of Done = []
 line_of Stopped = codes "tau: stopped at the step limit"
-line_of Words = codes "tau: usage: tau run|check|audit|report|print|gen N|drill N|migrate|why N|cut"
+line_of Words = codes "tau: usage: tau run|check|audit|report|print|gen N|drill N|migrate|why N|cut|draw"
 line_of (Input fault at) = codes "tau: input fault " ++ decimal fault ++ codes " at " ++ decimal at
 line_of (Bad place) = codes "tau: a step is not legal"
 line_of ReadFault = codes "tau: reading failed"

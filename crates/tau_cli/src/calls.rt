@@ -20,13 +20,14 @@ use tau_workers::Gate;
 ///
 /// The status says how it ended (docs/formats.md, "Statuses"): `Words` exactly where the words name no command, and then
 /// nothing is read; `ReadFault` only where the source's count of faults rose; `Input` exactly where the input has a fault,
-/// the first one (docs/formats.md, "Input faults"); `Place` exactly where no Hold, Drop or Fall stands at the place for which `why`
-/// asks. After these nothing is written. `Done`, `Stopped`, `Bad` and `Broken`
-/// where the whole text was written: with `run` the run text of the input's program and a legal run, which is complete
+/// the first one (docs/formats.md, "Input faults"); `Place` exactly where `why` asks for a place at which no Hold, Drop or Fall stands,
+/// or `draw` for one at which no Checkpoint stands either that can't be kept. After these nothing is written. `Done`, `Stopped`, `Bad`
+/// and `Broken` where the whole text was written: with `run` the run text of the input's program and a legal run, which is complete
 /// with `Done`, and has exactly as many steps as its limit and isn't complete with `Stopped`; with `check` the line for the
 /// first step that isn't legal with `Bad`, and with `audit` the line for the first checkpoint that isn't safe with `Broken`; with
 /// `migrate` the run text of the same steps in version 2, where each is legal, and with `Bad` the line for the first that isn't; with
-/// `why` the first of the shortest chains to a cause, and with `cut` the greatest set of checkpoints that could all be kept.
+/// `why` the first of the shortest chains to a cause, with `cut` the greatest set of checkpoints that could all be kept, and with `draw` the
+/// picture of the run.
 /// `WriteFault` comes only where the sink's count rose; the sink then holds a front of such a text more than before.
 /// `NoMemory` may come in place of each; nothing or a front of the text is written then. `gen` and `drill` read nothing,
 /// and `drill` ends with `Done` or `Stopped` as the run does that it tells of.

@@ -40,7 +40,7 @@ pub enum Status {
         point: Point,
         fall: u32,
     },
-    /// No Hold, Drop or Fall stands at this place of the run of which `why` was asked; nothing was written.
+    /// `why` or `draw` asks in vain for the step at this place of the run; nothing was written.
     Place {
         place: u64,
     },
@@ -146,7 +146,7 @@ impl fmt::Display for Status {
             Status::Done => Ok(()),
             Status::Stopped => f.write_str("tau: stopped at the step limit"),
             Status::Words => f.write_str(
-                "tau: usage: tau run|check|audit|report|print|gen N|drill N|migrate|why N|cut",
+                "tau: usage: tau run|check|audit|report|print|gen N|drill N|migrate|why N|cut|draw",
             ),
             Status::Input { fault, at } => write!(f, "tau: input fault {fault} at {at}"),
             Status::Bad { .. } => f.write_str("tau: a step is not legal"),

@@ -1,5 +1,5 @@
 -- What is written for an input is determined, and comes only where the input has no fault.
-use Rattle.std.proofs.Common.{◌≡◌, ◌⊎◌, inl, inr, ℕ, ◌<◌, ◌≤◌, List, length, Some, Result, Ok, Err, IfOk, IfErr, IsTrue, refl, sym, ap, subst, ◌∙◌, arith}
+use Rattle.std.proofs.Common.{◌≡◌, ◌⊎◌, inl, inr, ℕ, ◌<◌, ◌≤◌, List, length, Option, Some, None, Result, Ok, Err, IfOk, IfErr, IsTrue, refl, sym, ap, subst, ◌∙◌, arith}
 use Rattle.tau_sexpr.specs.Printing.{printed}
 use Rattle.tau_points.specs.declared.point.Point.{Point}
 use Rattle.tau_points.proofs.PointOrder.{point_cmp-total}
@@ -11,16 +11,20 @@ use Rattle.tau_past.specs.Audits.{IsBrokenAt, IsLeastBreak, RollsBackAt, IsBroke
 use Rattle.tau_check.specs.Legality.{IsFirstIllegal}
 use Rattle.tau_report.specs.Report.{IsReportText}
 use Rattle.tau_report.proofs.Uniqueness.{report_once}
-use Rattle.tau_explain.specs.Decisions.{IsDecision, IsWhy}
+use Rattle.tau_explain.specs.Decisions.{IsWhy}
 use Rattle.tau_explain.specs.Texts.{why_forms}
 use Rattle.tau_explain.proofs.OneAnswer.{one_answer}
 use Rattle.tau_cut.specs.Texts.{IsCutText}
 use Rattle.tau_cut.proofs.OneCut.{cut_text_once}
+use Rattle.tau_picture.specs.Pictures.{IsPictureText}
+use Rattle.tau_picture.proofs.OnePicture.{picture_text_once}
 use Rattle.tau_command.specs.declared.commands.Command.{Command}
-use Rattle.tau_command.specs.declared.commands.Command.TheVariants.{Run as RunCommand, Check, Audit, Report, Print, Gen, Drill, Migrate, Why, Cut}
+use Rattle.tau_command.specs.declared.commands.Command.TheVariants.{Run as RunCommand, Check, Audit, Report, Print, Gen, Drill, Migrate, Why, Cut, Draw}
 use Rattle.tau_text.specs.declared.errors.InputError.{InputError}
 use Rattle.tau_text.specs.declared.errors.InputError.TheVariants as inputs
 use Rattle.tau_text.specs.Errors.{TellsInputFault}
+use Rattle.tau_text.specs.Faults.{IsRunFault}
+use Rattle.tau_text.specs.Meaning.{IsRunInput}
 use Rattle.tau_text.proofs.FaultLemmas.{program_unique, run_unique, print_unique}
 use Rattle.tau_output.specs.declared.outputs.End.{End}
 use Rattle.tau_output.specs.declared.outputs.Output.{Output}
@@ -29,8 +33,10 @@ use Rattle.tau_output.specs.declared.refusals.Refusal.{Refusal}
 use Rattle.tau_output.specs.declared.refusals.Refusal.TheVariants.{Fault, NotAsked, NoMemory}
 use Rattle.tau_output.specs.Refusals.{of_input_error, TellsFault, TellsNotAsked}
 use Rattle.tau_output.specs.Faults.{input_limit, reads_input, IsFaultOf, IsInputFault, too_long, within}
-use Rattle.tau_output.specs.Explaining.{ExplainsAs, IsNotAsked, AsksInVain}
+use Rattle.tau_output.specs.Asking.{place_asked, MayAsk, AsksInVain}
+use Rattle.tau_output.specs.Explaining.{ExplainsAs}
 use Rattle.tau_output.specs.Cutting.{CutsAs}
+use Rattle.tau_output.specs.Drawing.{DrawsAs}
 use Rattle.tau_output.specs.Migrating.{second_program, IsRewritten, MigratesAs}
 use Rattle.tau_output.specs.Inner.Ends.{refused_by}
 use Rattle.tau_output.specs.Checks.{IsChecked, bad_line, ChecksAs}
@@ -53,6 +59,7 @@ one_fault_of (Drill number) bytes a b c d f g = absurd f
 one_fault_of Migrate bytes a b c d f g = (run_unique bytes).one_fault a b c d f g
 one_fault_of (Why place) bytes a b c d f g = (run_unique bytes).one_fault a b c d f g
 one_fault_of Cut bytes a b c d f g = (run_unique bytes).one_fault a b c d f g
+one_fault_of (Draw from to ask) bytes a b c d f g = (run_unique bytes).one_fault a b c d f g
 
 pub fails_once : (bytes : List ℕ) → FailsOnce bytes
 fails_once bytes command a b c d (too_long r l p q) (too_long s m v w) = (p ∙ sym v, q ∙ sym w)
@@ -72,49 +79,65 @@ clean (Drill number) bytes end text a b w f = absurd f
 clean Migrate bytes end text a b w f = (run_unique bytes).not_both (w.program, w.run) a b w.read f
 clean (Why place) bytes end text a b w f = (run_unique bytes).not_both (w.0.program, w.0.run) a b w.0.read f
 clean Cut bytes end text a b w f = (run_unique bytes).not_both (w.0.program, w.0.run) a b w.0.read f
+clean (Draw from to ask) bytes end text a b w f = (run_unique bytes).not_both (w.0.program, w.0.run) a b w.0.read f
 
 pub writes_without_fault : (bytes : List ℕ) → WritesWithoutFault bytes
 writes_without_fault bytes command end text a b w (too_long r l p q) = let few : length bytes ≤ input_limit = w.few r in omega arith
 writes_without_fault bytes command end text a b w (within l f) = clean command bytes end text a b w.answers f
 
--- nor for a place that is not asked
-not_both_asked : (place : ℕ) (bytes text : List ℕ) → ExplainsAs place bytes text → IsNotAsked place bytes → ⊥
-not_both_asked place bytes text w n =
-    let same = (run_unique bytes).one_meaning (w.program, w.run) (n.program, n.run) w.read n.read in
-    n.not_asked (subst (λ (x : Program × Run). IsDecision x.1 place) same w.asked)
+-- nor where a command asks in vain
+not_both_asked : (command : Command) (bytes : List ℕ) (P : Program) (T : Run) (place : ℕ) → IsRunInput bytes P T → MayAsk command T → AsksInVain command bytes place → ⊥
+not_both_asked command bytes P T place read may n =
+    let same = (run_unique bytes).one_meaning (P, T) (n.program, n.run) read n.read in
+    n.in_vain (subst (λ (x : Program × Run). MayAsk command x.1) same may)
+
+answers_where_asked : (command : Command) (bytes : List ℕ) (end : End) (text : List ℕ) (place : ℕ) → Answers command bytes end text → AsksInVain command bytes place → ⊥
+answers_where_asked (Why asked) bytes end text place w n = not_both_asked (Why asked) bytes w.0.program w.0.run place w.0.read w.0.asked n
+answers_where_asked (Draw from to ask) bytes end text place w n = not_both_asked (Draw from to ask) bytes w.0.program w.0.run place w.0.read w.0.asked n
+answers_where_asked command bytes end text place w n = n.in_vain tt
 
 pub writes_where_asked : (bytes : List ℕ) → WritesWhereAsked bytes
-writes_where_asked bytes place end text w n = not_both_asked place bytes text w.answers.0 n
+writes_where_asked bytes command end text place w n = answers_where_asked command bytes end text place w.answers n
 
--- and an input whose place is not asked has no fault
-asked_in_vain : (command : Command) (bytes : List ℕ) (place a b : ℕ) → command ≡ Why place → IsNotAsked place bytes → IsInputFault command bytes a b → ⊥
-asked_in_vain command bytes place a b same n (too_long r l p q) = let few : length bytes ≤ input_limit = n.few in omega arith
-asked_in_vain command bytes place a b same n (within l f) =
-    (run_unique bytes).not_both (n.program, n.run) a b n.read (subst (λ x. IsFaultOf x bytes a b) same f)
+-- and a command that asks for no step doesn't
+pub asks_none : (command kind : Command) (bytes : List ℕ) (place : ℕ) → command ≡ kind → place_asked kind ≡ None → AsksInVain command bytes place → ⊥
+asks_none command kind bytes place same none asked =
+    let never : None ≡ Some place = sym none ∙ (ap place_asked (sym same) ∙ asked.asks) in
+    absurd (cc)
+
+-- and an input of which a command asks in vain has no fault
+run_fault : (command : Command) (bytes : List ℕ) (place a b : ℕ) → place_asked command ≡ Some place → IsFaultOf command bytes a b → IsRunFault bytes a b
+run_fault (Why asked) bytes place a b e f = f
+run_fault (Draw from to ask) bytes place a b e f = f
+run_fault command bytes place a b e f = absurd (cc)
+
+asked_in_vain : (command : Command) (bytes : List ℕ) (place a b : ℕ) → AsksInVain command bytes place → IsInputFault command bytes a b → ⊥
+asked_in_vain command bytes place a b n (too_long r l p q) = let few : length bytes ≤ input_limit = n.few in omega arith
+asked_in_vain command bytes place a b n (within l f) = (run_unique bytes).not_both (n.program, n.run) a b n.read (run_fault command bytes place a b n.asks f)
 
 -- a refusal of an input with a fault tells the fault, or want of memory
 pub told_once : (command : Command) (bytes : List ℕ) (e : Refusal) (a b : ℕ) → TellsFault (IsInputFault command bytes) e → TellsNotAsked (AsksInVain command bytes) e → IsInputFault command bytes a b
     → (e ≡ Fault a b) ⊎ (e ≡ NoMemory)
 told_once command bytes (Fault c d) a b t n f = let same = fails_once bytes command c d a b t f in inl (ap (λ x. Fault x d) same.0 ∙ ap (λ x. Fault a x) same.1)
-told_once command bytes (NotAsked place) a b t n f = absurd (asked_in_vain command bytes place a b n.0 n.1 f)
+told_once command bytes (NotAsked place) a b t n f = absurd (asked_in_vain command bytes place a b n f)
 told_once command bytes NoMemory a b t n f = inr refl
 
--- and one of a place that is not asked tells the place, or want of memory
-told_place : (command : Command) (bytes : List ℕ) (e : Refusal) (place : ℕ) → TellsFault (IsInputFault command bytes) e → TellsNotAsked (AsksInVain command bytes) e → command ≡ Why place → IsNotAsked place bytes
+-- and one of a command that asks in vain tells the place, or want of memory
+told_place : (command : Command) (bytes : List ℕ) (e : Refusal) (place : ℕ) → TellsFault (IsInputFault command bytes) e → TellsNotAsked (AsksInVain command bytes) e → AsksInVain command bytes place
     → (e ≡ NotAsked place) ⊎ (e ≡ NoMemory)
-told_place command bytes (Fault c d) place t n same asked = absurd (asked_in_vain command bytes place c d same asked t)
-told_place command bytes (NotAsked k) place t n same asked =
-    let both : Why k ≡ Why place = sym n.0 ∙ same in
+told_place command bytes (Fault c d) place t n asked = absurd (asked_in_vain command bytes place c d asked t)
+told_place command bytes (NotAsked k) place t n asked =
+    let both : Some k ≡ Some place = sym n.asks ∙ asked.asks in
     let k_is : k ≡ place = cc in
     inl (ap NotAsked k_is)
-told_place command bytes NoMemory place t n same asked = inr refl
+told_place command bytes NoMemory place t n asked = inr refl
 
 -- what a command gives for bytes: its text and end, or a refusal that tells exactly what is wrong
 pub record Gives (command : Command) (bytes : List ℕ) (found : Result Output Refusal) : Type 0 where
   pub fault : IfErr found (TellsFault (IsInputFault command bytes))
   pub faulty : (a b : ℕ) → IsInputFault command bytes a b → (found ≡ Err (Fault a b)) ⊎ (found ≡ Err NoMemory)
   pub not_asked : IfErr found (TellsNotAsked (AsksInVain command bytes))
-  pub unasked : (place : ℕ) → command ≡ Why place → IsNotAsked place bytes → (found ≡ Err (NotAsked place)) ⊎ (found ≡ Err NoMemory)
+  pub unasked : (place : ℕ) → AsksInVain command bytes place → (found ≡ Err (NotAsked place)) ⊎ (found ≡ Err NoMemory)
 
 pub gives : (command : Command) (bytes : List ℕ) (found : Result Output Refusal) → IfOk found (λ o. Writes command bytes o.end o.text.items) → IfErr found (TellsFault (IsInputFault command bytes))
     → IfErr found (TellsNotAsked (AsksInVain command bytes)) → Gives command bytes found
@@ -122,13 +145,13 @@ gives command bytes (Ok o) w t n = record {
   fault = tt;
   faulty = λ a b f. absurd (writes_without_fault bytes command o.end o.text.items a b w f);
   not_asked = tt;
-  unasked = λ place same asked. absurd (writes_where_asked bytes place o.end o.text.items (subst (λ x. Writes x bytes o.end o.text.items) same w) asked);
+  unasked = λ place asked. absurd (writes_where_asked bytes command o.end o.text.items place w asked);
 }
 gives command bytes (Err e) w t n = record {
   fault = t;
   faulty = λ a b f. elim (told_once command bytes e a b t n f) [ inl same ↦ inl (ap Err same) | inr same ↦ inr (ap Err same) ];
   not_asked = n;
-  unasked = λ place same asked. elim (told_place command bytes e place t n same asked) [ inl is ↦ inl (ap Err is) | inr is ↦ inr (ap Err is) ];
+  unasked = λ place asked. elim (told_place command bytes e place t n asked) [ inl is ↦ inl (ap Err is) | inr is ↦ inr (ap Err is) ];
 }
 
 -- the refusal for an error tells the fault that the error tells, and no place
@@ -165,6 +188,7 @@ serially_answered (Drill number) bytes end text w = w
 serially_answered Migrate bytes end text w = w
 serially_answered (Why place) bytes end text w = w
 serially_answered Cut bytes end text w = w
+serially_answered (Draw from to ask) bytes end text w = w
 
 -- a command on one thread reads an input where the command reads one
 same_reading : (command : Command) → IsTrue (reads_input command) → IsTrue (reads_input (by_one_worker command))
@@ -178,6 +202,7 @@ same_reading (Drill number) reads = reads
 same_reading Migrate reads = reads
 same_reading (Why place) reads = reads
 same_reading Cut reads = reads
+same_reading (Draw from to ask) reads = reads
 
 pub serially_written : (command : Command) (bytes : List ℕ) (found : Result Output Refusal) → IfOk found (λ o. WritesSerially command bytes o.end o.text.items) → IfOk found (λ o. Writes command bytes o.end o.text.items)
 serially_written command bytes (Ok o) w =
@@ -207,23 +232,17 @@ unfolding given
 answer_told command kind bytes r found same is l w t = subst (GivesSerially command bytes) (sym is)
     (given command kind bytes (refused_by r) same l (ok_refused (λ o. Answers (by_one_worker kind) bytes o.end o.text.items) r w) (fault_within kind bytes r l t) (no_place (AsksInVain kind bytes) r))
 
--- what `why` gives
-tells_why : (place : ℕ) (bytes : List ℕ) (found : Result Output Refusal) → length bytes ≤ input_limit → IfErr found (TellsFault (IsFaultOf (Why place) bytes)) → IfErr found (TellsFault (IsInputFault (Why place) bytes))
-tells_why place bytes (Ok o) l t = tt
-tells_why place bytes (Err (Fault a b)) l t = within l t
-tells_why place bytes (Err (NotAsked k)) l t = tt
-tells_why place bytes (Err NoMemory) l t = tt
+-- what a command gives that tells itself which step it is asked for in vain
+refusal_within : (kind : Command) (bytes : List ℕ) (found : Result Output Refusal) → length bytes ≤ input_limit → IfErr found (TellsFault (IsFaultOf kind bytes)) → IfErr found (TellsFault (IsInputFault kind bytes))
+refusal_within kind bytes (Ok o) l t = tt
+refusal_within kind bytes (Err (Fault a b)) l t = within l t
+refusal_within kind bytes (Err (NotAsked k)) l t = tt
+refusal_within kind bytes (Err NoMemory) l t = tt
 
-tells_the_place : (place : ℕ) (bytes : List ℕ) (found : Result Output Refusal) → IfErr found (TellsNotAsked (λ k. (k ≡ place) × IsNotAsked place bytes)) → IfErr found (TellsNotAsked (AsksInVain (Why place) bytes))
-tells_the_place place bytes (Ok o) t = tt
-tells_the_place place bytes (Err (Fault a b)) t = tt
-tells_the_place place bytes (Err (NotAsked k)) t = (ap Why (sym t.0), subst (λ x. IsNotAsked x bytes) (sym t.0) t.1)
-tells_the_place place bytes (Err NoMemory) t = tt
-
-pub why_told : (command : Command) (place : ℕ) (bytes : List ℕ) (found : Result Output Refusal) → command ≡ Why place → length bytes ≤ input_limit → IfOk found (λ o. ExplainsAs place bytes o.text.items × (o.end ≡ Done))
-    → IfErr found (TellsFault (IsFaultOf (Why place) bytes)) → IfErr found (TellsNotAsked (λ k. (k ≡ place) × IsNotAsked place bytes)) → GivesSerially command bytes found
+pub refusal_told : (command kind : Command) (bytes : List ℕ) (found : Result Output Refusal) → command ≡ kind → length bytes ≤ input_limit → IfOk found (λ o. Answers (by_one_worker kind) bytes o.end o.text.items)
+    → IfErr found (TellsFault (IsFaultOf kind bytes)) → IfErr found (TellsNotAsked (AsksInVain kind bytes)) → GivesSerially command bytes found
 unfolding given
-why_told command place bytes found same l w t n = given command (Why place) bytes found same l w (tells_why place bytes found l t) (tells_the_place place bytes found n)
+refusal_told command kind bytes found same l w t n = given command kind bytes found same l w (refusal_within kind bytes found l t) n
 
 -- ---- checks
 
@@ -343,6 +362,12 @@ cut_once bytes text other v w =
     let there : IsCutText v.program v.run other = subst (λ (x : Program × Run). IsCutText x.0 x.1 other) (sym same) w.is_text in
     cut_text_once v.program v.run text other v.is_text there
 
+draw_once : (from to : ℕ) (ask : Option ℕ) (bytes text other : List ℕ) → DrawsAs from to ask bytes text → DrawsAs from to ask bytes other → text ≡ other
+draw_once from to ask bytes text other v w =
+    let same = (run_unique bytes).one_meaning (v.program, v.run) (w.program, w.run) v.read w.read in
+    let there : IsPictureText v.program v.run from to ask other = subst (λ (x : Program × Run). IsPictureText x.0 x.1 from to ask other) (sym same) w.is_text in
+    picture_text_once v.program v.run v.well_formed v.read.means.1.steps.opening from to ask text other v.is_text there
+
 answers_once : (command : Command) (bytes : List ℕ) (end another : End) (text other : List ℕ) → Answers (by_one_worker command) bytes end text → Answers (by_one_worker command) bytes another other → (end ≡ another) × (text ≡ other)
 answers_once (RunCommand workers jobs seed steps) bytes end another text other v w = runs_once jobs seed steps bytes end another text other v w
 answers_once Check bytes end another text other v w = check_once bytes end another text other v w
@@ -354,6 +379,7 @@ answers_once (Drill number) bytes end another text other v w = drills_once numbe
 answers_once Migrate bytes end another text other v w = migrate_once bytes end another text other v w
 answers_once (Why place) bytes end another text other v w = (v.1 ∙ sym w.1, explain_once place bytes text other v.0 w.0)
 answers_once Cut bytes end another text other v w = (v.1 ∙ sym w.1, cut_once bytes text other v.0 w.0)
+answers_once (Draw from to ask) bytes end another text other v w = (v.1 ∙ sym w.1, draw_once from to ask bytes text other v.0 w.0)
 
 pub writes_once : (bytes : List ℕ) → WritesOnce bytes
 writes_once bytes command end another text other v w = answers_once command bytes end another text other v.answers w.answers

@@ -12,7 +12,7 @@ use Rattle.tau_output.specs.declared.refusals.Refusal.{Refusal}
 use Rattle.tau_output.specs.declared.refusals.Refusal.TheVariants.{Fault, NoMemory}
 use Rattle.tau_output.specs.Refusals.{of_input_error}
 use Rattle.tau_output.specs.Faults.{input_limit, IsInputFault, too_long, within}
-use Rattle.tau_output.specs.Explaining.{AsksInVain}
+use Rattle.tau_output.specs.Asking.{AsksInVain}
 use Rattle.tau_output.specs.Runs.{RunsAs}
 use Rattle.tau_output.specs.Inner.Ends.{refused_by}
 use Rattle.tau_output.proofs.LawLemmas.{told_once, tells_within, tells_no_place}

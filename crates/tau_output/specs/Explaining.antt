@@ -1,5 +1,5 @@
 -- What the command `why` writes (docs/formats.md, "Chains").
-use Rattle.std.specs.Prelude.{◌≡◌, ◌≢◌, ℕ, ◌≤◌, List, length}
+use Rattle.std.specs.Prelude.{◌≡◌, ◌≢◌, ℕ, List}
 use Rattle.tau_sexpr.specs.Printing.{printed}
 use Rattle.tau_tree.specs.declared.programs.Program.{Program}
 use Rattle.tau_trace.specs.Run.{Run}
@@ -8,10 +8,7 @@ use Rattle.tau_explain.specs.Decisions.{IsDecision, IsWhy}
 use Rattle.tau_explain.specs.Texts.{why_forms}
 use Rattle.tau_explain.specs.declared.answers.Why.{Why}
 use Rattle.tau_explain.specs.declared.answers.Why.TheVariants.{NoChain}
-use Rattle.tau_command.specs.declared.commands.Command.{Command}
-use Rattle.tau_command.specs.declared.commands.Command.TheVariants as commands
 use Rattle.tau_text.specs.Meaning.{IsRunInput}
-use Rattle.tau_output.specs.Faults.{input_limit}
 
 -- for an input of these bytes and this place `why` writes this text
 pub record ExplainsAs (place : ℕ) (bytes text : List ℕ) : Type 0 where
@@ -27,15 +24,3 @@ pub record ExplainsAs (place : ℕ) (bytes text : List ℕ) : Type 0 where
   pub grounded : Legal program run → answer ≢ NoChain
   -- the text has the points of the chain, or the word none
   pub is_text : text ≡ printed (why_forms run.opening answer)
-
--- the bytes, which are not too many, are those of a run that has no Hold, Drop or Fall at this place
-pub record IsNotAsked (place : ℕ) (bytes : List ℕ) : Type 0 where
-  pub few : length bytes ≤ input_limit
-  pub program : Program
-  pub run : Run
-  pub read : IsRunInput bytes program run
-  pub not_asked : ¬ IsDecision run place
-
--- the command asks for such a place
-abbrev pub AsksInVain : Command → List ℕ → ℕ → Type 0
-AsksInVain command bytes place = (command ≡ commands.Why place) × IsNotAsked place bytes

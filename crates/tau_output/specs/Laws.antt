@@ -1,17 +1,17 @@
--- What holds of all inputs: a command writes one text, none for an input with a fault or a place that is not asked, an input has one
+-- What holds of all inputs: a command writes one text, none for an input with a fault or where it asks in vain, an input has one
 -- fault, what `run` writes determines its program and its run, and what `run` and `migrate` write is accepted by the other commands.
 use Rattle.std.specs.Prelude.{◌≡◌, ℕ, ◌≤◌, List, [], length, codes}
 use Rattle.tau_sexpr.specs.Printing.{printed}
 use Rattle.tau_forms.specs.Printed as forms
 use Rattle.tau_command.specs.declared.commands.Command.{Command}
-use Rattle.tau_command.specs.declared.commands.Command.TheVariants.{Check, Audit, Print, Migrate, Why}
+use Rattle.tau_command.specs.declared.commands.Command.TheVariants.{Check, Audit, Print, Migrate}
 use Rattle.tau_trace.specs.Run.{second}
 use Rattle.tau_legal.specs.Traces.{Complete}
 use Rattle.tau_text.specs.Meaning.{IsRunInput}
 use Rattle.tau_output.specs.declared.outputs.End.{End}
 use Rattle.tau_output.specs.declared.outputs.End.TheVariants.{Done, Stopped}
 use Rattle.tau_output.specs.Faults.{input_limit, IsInputFault}
-use Rattle.tau_output.specs.Explaining.{IsNotAsked}
+use Rattle.tau_output.specs.Asking.{AsksInVain}
 use Rattle.tau_output.specs.Runs.{RunsAs}
 use Rattle.tau_output.specs.Migrating.{second_program, MigratesAs}
 use Rattle.tau_output.specs.Writing.{Writes, WritesSerially}
@@ -24,9 +24,9 @@ WritesOnce bytes = (command : Command) (end another : End) (text other : List �
 abbrev pub WritesWithoutFault : List ℕ → Type 0
 WritesWithoutFault bytes = (command : Command) (end : End) (text : List ℕ) (fault at : ℕ) → Writes command bytes end text → ¬ IsInputFault command bytes fault at
 
--- `why` writes nothing for a place that is not asked
+-- a command writes nothing for bytes of which it asks in vain
 abbrev pub WritesWhereAsked : List ℕ → Type 0
-WritesWhereAsked bytes = (place : ℕ) (end : End) (text : List ℕ) → Writes (Why place) bytes end text → ¬ IsNotAsked place bytes
+WritesWhereAsked bytes = (command : Command) (end : End) (text : List ℕ) (place : ℕ) → Writes command bytes end text → ¬ AsksInVain command bytes place
 
 -- the bytes of an input have one fault at most
 abbrev pub FailsOnce : List ℕ → Type 0

@@ -7,8 +7,10 @@ pub mod Printing
 pub mod Drills
 pub mod Migrating
 pub mod Refusals
+pub mod Asking
 pub mod Explaining
 pub mod Cutting
+pub mod Drawing
 pub mod Writing
 pub mod Laws
 pub mod Inner

@@ -3,7 +3,7 @@ use Rattle.std.specs.Prelude.{◌≡◌, ℕ, ◌≤◌, IsTrue, List, length}
 use Rattle.tau_value.specs.declared.limits.TheConstants.{STEP_LIMIT}
 use Rattle.tau_book.specs.declared.limits.TheConstants.{JOB_LIMIT}
 use Rattle.tau_command.specs.declared.commands.Command.{Command}
-use Rattle.tau_command.specs.declared.commands.Command.TheVariants.{Run, Check, Audit, Report, Print, Gen, Drill, Migrate, Why, Cut}
+use Rattle.tau_command.specs.declared.commands.Command.TheVariants.{Run, Check, Audit, Report, Print, Gen, Drill, Migrate, Why, Cut, Draw}
 use Rattle.tau_output.specs.declared.outputs.End.{End}
 use Rattle.tau_output.specs.declared.outputs.End.TheVariants.{Done}
 use Rattle.tau_output.specs.Faults.{input_limit, reads_input}
@@ -16,6 +16,7 @@ use Rattle.tau_output.specs.Drills.{DrillsAs}
 use Rattle.tau_output.specs.Migrating.{MigratesAs}
 use Rattle.tau_output.specs.Explaining.{ExplainsAs}
 use Rattle.tau_output.specs.Cutting.{CutsAs}
+use Rattle.tau_output.specs.Drawing.{DrawsAs}
 
 -- the text that a command writes for bytes, and how it then ends
 abbrev pub Answers : Command → List ℕ → End → List ℕ → Type 0
@@ -29,6 +30,7 @@ Answers (Drill number) bytes end text = DrillsAs number end text
 Answers Migrate bytes end text = MigratesAs bytes end text
 Answers (Why place) bytes end text = ExplainsAs place bytes text × (end ≡ Done)
 Answers Cut bytes end text = CutsAs bytes text × (end ≡ Done)
+Answers (Draw from to ask) bytes end text = DrawsAs from to ask bytes text × (end ≡ Done)
 
 -- and so for an input of these bytes, which are not too many where the command reads any
 pub record Writes (command : Command) (bytes : List ℕ) (end : End) (text : List ℕ) : Type 0 where
@@ -47,6 +49,7 @@ by_one_worker (Drill number) = Drill number
 by_one_worker Migrate = Migrate
 by_one_worker (Why place) = Why place
 by_one_worker Cut = Cut
+by_one_worker (Draw from to ask) = Draw from to ask
 
 -- what a command writes on one thread
 abbrev pub WritesSerially : Command → List ℕ → End → List ℕ → Type 0

@@ -1,9 +1,11 @@
 //! The command `why`.
 ghost use Rattle.std.specs.Prelude.{◌≡◌, ◌≤◌, length, IfOk, IfErr};
+ghost use Rattle.tau_command.specs.declared.commands.Command.TheVariants.{Why as WhyCommand};
 ghost use Rattle.tau_text.specs.Faults.{IsRunFault};
 ghost use Rattle.tau_output.specs.Faults.{input_limit};
 ghost use Rattle.tau_output.specs.Refusals.{TellsFault, TellsNotAsked};
-ghost use Rattle.tau_output.specs.Explaining.{ExplainsAs, IsNotAsked};
+ghost use Rattle.tau_output.specs.Asking.{AsksInVain};
+ghost use Rattle.tau_output.specs.Explaining.{ExplainsAs};
 ghost use Rattle.tau_output.specs.Inner.Ends.{is_not_asked};
 
 use crate::{End, Output, Refusal};
@@ -17,7 +19,7 @@ pub(crate) fn explain_run(alloc: Global, bytes: &[u8], place: u64) -> Result<Out
     requires { length bytes.now ≤ input_limit }
     ensures output { IfOk result (λ o. ExplainsAs place bytes.now o.text.items × (o.end ≡ End.Done)) }
     ensures fault { IfErr result (TellsFault (IsRunFault bytes.now)) }
-    ensures not_asked { IfErr result (TellsNotAsked (λ k. (k ≡ place) × IsNotAsked place bytes.now)) }
+    ensures not_asked { IfErr result (TellsNotAsked (AsksInVain (WhyCommand place) bytes.now)) }
 {
     let input = read_run_text(alloc, bytes)?;
     let answer = why(alloc, &input.trace, place)?;

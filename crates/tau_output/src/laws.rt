@@ -2,7 +2,7 @@
 ghost use Rattle.tau_output.specs.Laws.{WritesOnce, WritesWithoutFault, WritesWhereAsked, FailsOnce, TextsTellRuns, RunTextsAreAccepted, MigratedTextsAreAccepted};
 
 /// For an input a command writes one text on one thread, or the input has one fault, and not both (docs/formats.md, "Input
-/// faults"); nor does `why` write for a place that isn't asked. So `run` with one worker writes the same each time, and so does `drill`.
+/// faults"); nor does a command write that asks in vain. So `run` with one worker writes the same each time, and so does `drill`.
 pub fn output_is_unique(_bytes: &[u8])
     ensures once { WritesOnce _bytes.now }
     ensures without_fault { WritesWithoutFault _bytes.now }

@@ -4,6 +4,7 @@
 mod auditing;
 mod checking;
 mod cutting;
+mod drawing;
 mod drilling;
 mod explaining;
 mod generating;

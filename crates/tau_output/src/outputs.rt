@@ -1,9 +1,8 @@
 //! What commands write.
 ghost use Rattle.std.specs.Prelude.{◌≡◌, ◌⊎◌, ℕ, ◌≤◌, length, IfOk, IfErr, Err};
-ghost use Rattle.tau_command.specs.declared.commands.Command.TheVariants.{Why};
 ghost use Rattle.tau_output.specs.Faults.{input_limit, reads_input as reads, IsInputFault};
 ghost use Rattle.tau_output.specs.Refusals.{TellsFault, TellsNotAsked};
-ghost use Rattle.tau_output.specs.Explaining.{IsNotAsked, AsksInVain};
+ghost use Rattle.tau_output.specs.Asking.{AsksInVain};
 ghost use Rattle.tau_output.specs.Writing.{WritesSerially, HasLimit};
 ghost use Rattle.tau_output.specs.Inner.Ends.{refused_by};
 
@@ -11,6 +10,7 @@ use crate::Refusal;
 use crate::auditing::audit_run;
 use crate::checking::check_run;
 use crate::cutting::cut_run;
+use crate::drawing::draw_run;
 use crate::drilling::drill_program;
 use crate::explaining::explain_run;
 use crate::generating::generate_program;
@@ -68,13 +68,15 @@ pub fn reads_input(command: &Command) -> bool
         Command::Migrate => true,
         Command::Why { .. } => true,
         Command::Cut => true,
+        Command::Draw { .. } => true,
     }
 }
 
 /// What a command writes on one thread for the bytes of its input (docs/formats.md, "Command line"): `run` with one worker,
 /// however many it is told. The bytes are passed over where it reads none.
 /// `Fault` comes exactly where the input has a fault, with the first one (docs/formats.md, "Input faults"), and `NotAsked` exactly
-/// where the input has none and `why` asks for a place at which no Hold, Drop or Fall stands.
+/// where the input has none and the command asks in vain: `why` for a place at which no Hold, Drop or Fall stands, `draw` for one at
+/// which no Checkpoint stands either that can't be kept.
 pub fn output_of(alloc: Global, command: Command, bytes: &[u8]) -> Result<Output, Refusal>
     requires bytes { length bytes.now ≤ input_limit }
     requires limit { HasLimit command }
@@ -85,7 +87,7 @@ pub fn output_of(alloc: Global, command: Command, bytes: &[u8]) -> Result<Output
         → (result ≡ Err (Refusal.Fault fault at)) ⊎ (result ≡ Err Refusal.NoMemory) }
 
     ensures not_asked { IfErr result (TellsNotAsked (AsksInVain command bytes.now)) }
-    ensures unasked { (place : ℕ) → command ≡ Why place → IsNotAsked place bytes.now
+    ensures unasked { (place : ℕ) → AsksInVain command bytes.now place
         → (result ≡ Err (Refusal.NotAsked place)) ⊎ (result ≡ Err Refusal.NoMemory) }
 {
     match command {
@@ -104,6 +106,7 @@ pub fn output_of(alloc: Global, command: Command, bytes: &[u8]) -> Result<Output
         Command::Migrate => refused_by(migrate_run(alloc, bytes)),
         Command::Why { place } => explain_run(alloc, bytes, place),
         Command::Cut => refused_by(cut_run(alloc, bytes)),
+        Command::Draw { from, to, ask } => draw_run(alloc, bytes, from, to, ask),
     }
 }
 

@@ -9,7 +9,7 @@ pub enum Refusal {
     /// The input has the fault with this number, at this place (docs/formats.md, "Input faults").
     #[error("input fault {fault} at {at}")]
     Fault { fault: u8, at: u64 },
-    /// No Hold, Drop or Fall stands at this place of the run (docs/formats.md, "Chains").
+    /// The step at this place of the run is none of those that the command may be asked for (docs/formats.md, "Statuses").
     #[error("no such decision at {place}")]
     NotAsked { place: u64 },
     #[error("out of memory")]

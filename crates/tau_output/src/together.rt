@@ -3,11 +3,10 @@ ghost use Rattle.std.specs.Prelude.{◌≡◌, ◌⊎◌, ℕ, ◌<◌, ◌≤�
 ghost use Rattle.tau_value.specs.declared.limits.TheConstants.{STEP_LIMIT};
 ghost use Rattle.tau_text.specs.Errors.{TellsInputFault};
 ghost use Rattle.tau_text.specs.Faults.{IsProgramFault};
-ghost use Rattle.tau_command.specs.declared.commands.Command.TheVariants.{Why};
 ghost use Rattle.tau_book.specs.declared.limits.TheConstants.{JOB_LIMIT};
 ghost use Rattle.tau_output.specs.Faults.{input_limit, IsInputFault};
 ghost use Rattle.tau_output.specs.Refusals.{TellsFault, TellsNotAsked};
-ghost use Rattle.tau_output.specs.Explaining.{IsNotAsked, AsksInVain};
+ghost use Rattle.tau_output.specs.Asking.{AsksInVain};
 ghost use Rattle.tau_output.specs.Runs.{RunsAs};
 ghost use Rattle.tau_output.specs.Writing.{Writes, HasLimit};
 
@@ -39,7 +38,7 @@ pub fn output_by_workers<R: Threads + Wait + Sync, G: Gate + Sync>(
         → (result ≡ Err (Refusal.Fault fault at)) ⊎ (result ≡ Err Refusal.NoMemory) }
 
     ensures not_asked { IfErr result (TellsNotAsked (AsksInVain command bytes.now)) }
-    ensures unasked { (place : ℕ) → command ≡ Why place → IsNotAsked place bytes.now
+    ensures unasked { (place : ℕ) → AsksInVain command bytes.now place
         → (result ≡ Err (Refusal.NotAsked place)) ⊎ (result ≡ Err Refusal.NoMemory) }
 {
     match command {

@@ -1,5 +1,5 @@
-use Rattle.tau_command.specs.declared.commands.Command.TheVariants.{Run, Check, Audit, Report, Print, Migrate, Cut}
-use Rattle.tau_output.proofs.LawLemmas.{answer_told, why_told}
+use Rattle.tau_command.specs.declared.commands.Command.TheVariants.{Run, Check, Audit, Report, Print, Migrate, Why, Cut, Draw}
+use Rattle.tau_output.proofs.LawLemmas.{answer_told, refusal_told}
 use Rattle.tau_output.proofs.outputs.output_of.Goals as goal
 
 pub returns-in-Run-clause-faulty : goal.returns-in-Run-clause-faulty
@@ -33,8 +33,16 @@ returns-in-Migrate-clause-faulty c =
 
 pub returns-in-Why-clause-faulty : goal.returns-in-Why-clause-faulty
 returns-in-Why-clause-faulty c =
-    (why_told c.args.command c.in-Why.place c.args.bytes.now c.explain_run.result c.in-Why.is c.requires.bytes c.explain_run.ensures.output c.explain_run.ensures.fault c.explain_run.ensures.not_asked).gives.faulty
+    (refusal_told c.args.command (Why c.in-Why.place) c.args.bytes.now c.explain_run.result c.in-Why.is c.requires.bytes c.explain_run.ensures.output c.explain_run.ensures.fault c.explain_run.ensures.not_asked).gives.faulty
 
 pub returns-in-Why-clause-unasked : goal.returns-in-Why-clause-unasked
 returns-in-Why-clause-unasked c =
-    (why_told c.args.command c.in-Why.place c.args.bytes.now c.explain_run.result c.in-Why.is c.requires.bytes c.explain_run.ensures.output c.explain_run.ensures.fault c.explain_run.ensures.not_asked).gives.unasked
+    (refusal_told c.args.command (Why c.in-Why.place) c.args.bytes.now c.explain_run.result c.in-Why.is c.requires.bytes c.explain_run.ensures.output c.explain_run.ensures.fault c.explain_run.ensures.not_asked).gives.unasked
+
+pub returns-in-Draw-clause-faulty : goal.returns-in-Draw-clause-faulty
+returns-in-Draw-clause-faulty c =
+    (refusal_told c.args.command (Draw c.in-Draw.from c.in-Draw.to c.in-Draw.ask) c.args.bytes.now c.draw_run.result c.in-Draw.is c.requires.bytes c.draw_run.ensures.output c.draw_run.ensures.fault c.draw_run.ensures.not_asked).gives.faulty
+
+pub returns-in-Draw-clause-unasked : goal.returns-in-Draw-clause-unasked
+returns-in-Draw-clause-unasked c =
+    (refusal_told c.args.command (Draw c.in-Draw.from c.in-Draw.to c.in-Draw.ask) c.args.bytes.now c.draw_run.result c.in-Draw.is c.requires.bytes c.draw_run.ensures.output c.draw_run.ensures.fault c.draw_run.ensures.not_asked).gives.unasked

@@ -1,8 +1,7 @@
 use Rattle.std.proofs.Common.{◌≡◌, ◌⊎◌, ◌∙◌, ℕ, Err, sym, IfOk, subst}
 use Rattle.tau_command.specs.declared.commands.Command.{Command}
-use Rattle.tau_command.specs.declared.commands.Command.TheVariants.{Why}
 use Rattle.tau_output.specs.declared.refusals.Refusal.TheVariants.{NotAsked, NoMemory}
-use Rattle.tau_output.specs.Explaining.{IsNotAsked}
+use Rattle.tau_output.specs.Asking.{AsksInVain}
 use Rattle.tau_output.specs.Writing.{WritesSerially}
 use Rattle.tau_output.proofs.LawLemmas.{serially_written}
 use Rattle.tau_output.proofs.TogetherLemmas.{together_told}
@@ -24,7 +23,7 @@ returns-in_default-clause-output g c =
 
 pub returns-in_default-clause-unasked : goal.returns-in_default-clause-unasked
 returns-in_default-clause-unasked g c =
-    let Told : Command → Type 0 = λ x. (place : ℕ) → x ≡ Why place → IsNotAsked place c.args.bytes.now → (c.output_of.result ≡ Err (NotAsked place)) ⊎ (c.output_of.result ≡ Err NoMemory) in
+    let Told : Command → Type 0 = λ x. (place : ℕ) → AsksInVain x c.args.bytes.now place → (c.output_of.result ≡ Err (NotAsked place)) ⊎ (c.output_of.result ≡ Err NoMemory) in
     elim c.in_default.branch [
       | in_default-via-in-Run+else-workers-gt1 w ↦ subst Told (w.command-is ∙ sym w.in-Run.is) c.output_of.ensures.unasked
       | in_default-via-in_default w ↦ subst Told w.command-is c.output_of.ensures.unasked
