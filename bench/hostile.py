@@ -213,11 +213,14 @@ def sections_of(crate, name):
     return [part.split(b"\n", 1) for part in re.split(rb"^#", text, flags=re.MULTILINE)[1:]]
 
 
-def shown(shows, found):
-    """What the program of the cases writes of a command. Behind the first `#` of its section stands a number, `#`, or nothing."""
+def shown(shows, section, found):
+    """What the program of the cases writes of a command. Behind the first `#` of its section stands a number, `#`, `=`, or nothing."""
     text = found.text.decode()
     lines = text.splitlines(keepends=True)
-    if shows == "#":
+    if shows == "=":
+        wanted = [line[3:] for line in section.decode().split("\n") if line.startswith(";? ")]
+        text = "".join(f"{sum(each in line for line in lines)} {each}\n" for each in wanted)
+    elif shows == "#":
         steps = lines[lines.index("(trace)\n") + 1 : lines.index("(report)\n")]
         text = f"; {len(steps)} steps, and the last two are\n" + "".join(steps[-2:])
     elif shows:
@@ -242,7 +245,7 @@ def found_of_cases(rows, crate):
         if words[:1] == ["run"] and not any(word.startswith("--workers") for word in words):
             words += ["--workers", "1"]
         found = run([word for word in words if word], lambda section=section: spelled(section))
-        is_right = shown(shows, found) == wanted.decode().replace("; with threads the same\n", "")
+        is_right = shown(shows, section, found) == wanted.decode().replace("; with threads the same\n", "")
         yield f"{' '.join(words)}: {title}", found, rows.judge(found, [found.line], is_right, [found.status])
 
 
