@@ -2,6 +2,7 @@
 #![tactic(auto)]
 
 mod bearers;
+mod drawing;
 mod lines;
 mod meetings;
 mod messages;

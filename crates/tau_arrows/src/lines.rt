@@ -5,13 +5,13 @@ ghost use Rattle.tau_spots.specs.Near.{IsNear, IsNearSource};
 ghost use Rattle.tau_arrows.specs.Arrows as specs;
 ghost use Rattle.tau_arrows.specs.Inner.Bearers.{borne};
 
-use crate::titles::{Message, put_new_title, put_receipt_title, put_sent_title};
+use crate::drawing::{Birth, Drawing, Receipt, Sending};
+use crate::titles::{put_new_title, put_receipt_title, put_sent_title};
 use std::alloc::{AllocError, Global};
 use tau_markup::{begin, name, plain, put_word, quote, title, title_close};
 use tau_shapes::{Grid, put, put_pair};
 use tau_spots::{Source, Spot, put_receipt};
 use tau_trace::{Step, Trace};
-use tau_tree::Program;
 
 /// The kind of the line to a step that receives or loses a message.
 fn line_kind(step: &Step) -> &'static [u8]
@@ -53,27 +53,23 @@ fn put_receipt_class(
     Ok(())
 }
 
-/// The line of a message to the step at a place, which receives or loses it.
+/// The line of a message to a step that receives or loses it.
 pub(crate) fn put_receipt_line(
     alloc: Global,
     out: &mut Vec<u8>,
-    program: &Program,
-    trace: &Trace,
+    drawing: &Drawing,
     grid: Grid,
     step: &Step,
-    place: u32,
-    message: Message,
-    source: Source,
-    middle: Spot,
+    receipt: Receipt,
 ) -> Result<(), AllocError>
-    requires near { IsNear middle }
-    requires source { IsNearSource source }
+    requires near { IsNear receipt.middle }
+    requires source { IsNearSource receipt.source }
     requires top { 124 ≤ grid.top }
-    ensures { OnOk result (out.new.items ≡ with_line out.old.items (specs.receipt_line trace.now.run.opening.names grid place step.now message.number message.to (borne program.now trace.now.run message.bearer) source middle)) }
+    ensures { OnOk result (out.new.items ≡ with_line out.old.items (specs.receipt_line drawing.now.trace.now.run.opening.names grid receipt.place step.now receipt.message.number receipt.message.to (borne drawing.now.program.now drawing.now.trace.now.run receipt.message.bearer) receipt.source receipt.middle)) }
 {
     begin(out, b"path")?;
     name(out, b"class")?;
-    put_receipt_class(out, step, place, source)?;
+    put_receipt_class(out, step, receipt.place, receipt.source)?;
     quote(out)?;
     name(out, b"d")?;
     put_receipt(
@@ -81,13 +77,13 @@ pub(crate) fn put_receipt_line(
         grid.is_wide,
         grid.top,
         step,
-        message.number,
-        source,
-        middle,
+        receipt.message.number,
+        receipt.source,
+        receipt.middle,
     )?;
     quote(out)?;
     title(out)?;
-    put_receipt_title(alloc, out, program, trace, step, place, message, source)?;
+    put_receipt_title(alloc, out, drawing, step, receipt)?;
     title_close(out, b"path")
 }
 
@@ -98,45 +94,39 @@ fn sent_class(flies: bool) -> &'static [u8]
     if flies { b"m m-fly" } else { b"m m-out" }
 }
 
-/// The line of a message from the step at a place, which makes it.
+/// The line of a message from the step that makes it.
 pub(crate) fn put_sent_line(
     alloc: Global,
     out: &mut Vec<u8>,
-    program: &Program,
-    trace: &Trace,
+    drawing: &Drawing,
     step: &Step,
-    place: u32,
-    message: Message,
-    flies: bool,
-    at: Spot,
+    sending: Sending,
 ) -> Result<(), AllocError>
-    requires near { IsNear at }
-    ensures { OnOk result (out.new.items ≡ with_line out.old.items (specs.sent_line trace.now.run.opening.names place step.now message.number message.to (borne program.now trace.now.run message.bearer) flies at)) }
+    requires near { IsNear sending.at }
+    ensures { OnOk result (out.new.items ≡ with_line out.old.items (specs.sent_line drawing.now.trace.now.run.opening.names sending.place step.now sending.message.number sending.message.to (borne drawing.now.program.now drawing.now.trace.now.run sending.message.bearer) sending.flies sending.at)) }
 {
     begin(out, b"path")?;
-    put_word(out, b"class", sent_class(flies))?;
+    put_word(out, b"class", sent_class(sending.flies))?;
     name(out, b"d")?;
-    put_pair(out, b"M", at.x, at.y)?;
-    put(out, b"H", at.x + 16)?;
+    put_pair(out, b"M", sending.at.x, sending.at.y)?;
+    put(out, b"H", sending.at.x + 16)?;
     quote(out)?;
     title(out)?;
-    put_sent_title(alloc, out, program, trace, step, place, message, flies)?;
+    put_sent_title(alloc, out, drawing, step, sending)?;
     title_close(out, b"path")
 }
 
-/// The line from a transactor, at its New at a place, to the one that it creates.
+/// The line from a transactor at its New, at a spot, to the lane of the one that it creates, with this middle.
 pub(crate) fn put_new_line(
     alloc: Global,
     out: &mut Vec<u8>,
     trace: &Trace,
-    place: u32,
-    who: u32,
-    born: u32,
+    birth: Birth,
     at: Spot,
     x: u64,
 ) -> Result<(), AllocError>
     requires near { IsNear at }
-    ensures { OnOk result (out.new.items ≡ with_line out.old.items (specs.new_line trace.now.run.opening.names place who born at x)) }
+    ensures { OnOk result (out.new.items ≡ with_line out.old.items (specs.new_line trace.now.run.opening.names birth.place birth.who birth.born at x)) }
 {
     begin(out, b"path")?;
     put_word(out, b"class", b"m m-new")?;
@@ -146,6 +136,6 @@ pub(crate) fn put_new_line(
     put(out, b"V", at.y + 8)?;
     quote(out)?;
     title(out)?;
-    put_new_title(alloc, out, &trace.opening().names, place, who, born)?;
+    put_new_title(alloc, out, &trace.opening().names, birth)?;
     title_close(out, b"path")
 }

@@ -12,7 +12,8 @@ ghost use Rattle.tau_spots.specs.Senders.{met_by};
 ghost use Rattle.tau_arrows.specs.Messages.{IsMet, IsLineTo, IsLineOf, IsMessageLine, AreMessageLines};
 ghost use Rattle.tau_arrows.specs.Inner.Bearers.{AreBearers};
 
-use crate::bearers::{Bearer, bearers_of};
+use crate::bearers::bearers_of;
+use crate::drawing::{Birth, Drawing};
 use crate::meetings::meetings_in;
 use crate::news::put_new;
 use crate::receipts::put_receipt;
@@ -27,24 +28,19 @@ use tau_tree::Program;
 fn put_line_to(
     alloc: Global,
     out: &mut Vec<u8>,
-    program: &Program,
-    trace: &Trace,
-    layout: &Layout,
-    bearers: &[Bearer],
+    drawing: &Drawing,
     step: &Step,
     place: u32,
 ) -> Result<(), AllocError>
-    requires opening { trace.now.run.opening ≡ program_opening program.now }
-    requires plan { IsPlan trace.now.run layout.now.window layout.now }
-    requires well_formed { WellFormed trace.now.run }
-    requires bearers { AreBearers trace.now.run (len trace.now.run) bearers.now }
-    requires stands { step_at trace.now.run place ≡ Some step.now }
-    ensures { OnOk result (Writes (IsLineTo program.now trace.now.run layout.now place step.now (met_by step.now)) out.old.items out.new.items) }
+    requires opening { drawing.now.trace.now.run.opening ≡ program_opening drawing.now.program.now }
+    requires plan { IsPlan drawing.now.trace.now.run drawing.now.layout.now.window drawing.now.layout.now }
+    requires well_formed { WellFormed drawing.now.trace.now.run }
+    requires bearers { AreBearers drawing.now.trace.now.run (len drawing.now.trace.now.run) drawing.now.bearers.now }
+    requires stands { step_at drawing.now.trace.now.run place ≡ Some step.now }
+    ensures { OnOk result (Writes (IsLineTo drawing.now.program.now drawing.now.trace.now.run drawing.now.layout.now place step.now (met_by step.now)) out.old.items out.new.items) }
 {
     match met(step) {
-        Some(message) => put_receipt(
-            alloc, out, program, trace, layout, bearers, step, place, message,
-        ),
+        Some(message) => put_receipt(alloc, out, drawing, step, place, message),
         None => Ok(()),
     }
 }
@@ -53,33 +49,32 @@ fn put_line_to(
 fn put_line_of(
     alloc: Global,
     out: &mut Vec<u8>,
-    program: &Program,
-    trace: &Trace,
-    layout: &Layout,
-    bearers: &[Bearer],
-    met: &[bool],
+    drawing: &Drawing,
     step: &Step,
     place: u32,
     made: u32,
 ) -> Result<(), AllocError>
-    requires opening { trace.now.run.opening ≡ program_opening program.now }
-    requires plan { IsPlan trace.now.run layout.now.window layout.now }
-    requires well_formed { WellFormed trace.now.run }
-    requires bearers { AreBearers trace.now.run (len trace.now.run) bearers.now }
-    requires met { AreMarks (IsMet trace.now.run layout.now.window) (sent trace.now.run (len trace.now.run)) met.now }
-    requires stands { step_at trace.now.run place ≡ Some step.now }
-    requires made { IsMadeAt trace.now.run place made }
-    ensures { OnOk result (Writes (IsLineOf program.now trace.now.run layout.now place step.now) out.old.items out.new.items) }
+    requires opening { drawing.now.trace.now.run.opening ≡ program_opening drawing.now.program.now }
+    requires plan { IsPlan drawing.now.trace.now.run drawing.now.layout.now.window drawing.now.layout.now }
+    requires well_formed { WellFormed drawing.now.trace.now.run }
+    requires bearers { AreBearers drawing.now.trace.now.run (len drawing.now.trace.now.run) drawing.now.bearers.now }
+    requires met { AreMarks (IsMet drawing.now.trace.now.run drawing.now.layout.now.window) (sent drawing.now.trace.now.run (len drawing.now.trace.now.run)) drawing.now.met.now }
+    requires stands { step_at drawing.now.trace.now.run place ≡ Some step.now }
+    requires made { IsMadeAt drawing.now.trace.now.run place made }
+    ensures { OnOk result (Writes (IsLineOf drawing.now.program.now drawing.now.trace.now.run drawing.now.layout.now place step.now) out.old.items out.new.items) }
 {
     match step {
-        Step::Send { .. } => put_sent(
-            alloc, out, program, trace, layout, bearers, met, step, place, made,
-        ),
-        Step::Repeat { .. } => put_sent(
-            alloc, out, program, trace, layout, bearers, met, step, place, made,
-        ),
-        Step::New { who, .. } => put_new(alloc, out, trace, layout, place, *who, made),
-        _ => put_line_to(alloc, out, program, trace, layout, bearers, step, place),
+        Step::Send { .. } => put_sent(alloc, out, drawing, step, place, made),
+        Step::Repeat { .. } => put_sent(alloc, out, drawing, step, place, made),
+        Step::New { who, .. } => {
+            let birth = Birth {
+                place,
+                who: *who,
+                born: made,
+            };
+            put_new(alloc, out, drawing, birth)
+        }
+        _ => put_line_to(alloc, out, drawing, step, place),
     }
 }
 
@@ -87,29 +82,23 @@ fn put_line_of(
 fn put_line_at(
     alloc: Global,
     out: &mut Vec<u8>,
-    program: &Program,
-    trace: &Trace,
-    layout: &Layout,
-    bearers: &[Bearer],
-    met: &[bool],
+    drawing: &Drawing,
     place: u32,
 ) -> Result<(), AllocError>
-    requires opening { trace.now.run.opening ≡ program_opening program.now }
-    requires plan { IsPlan trace.now.run layout.now.window layout.now }
-    requires well_formed { WellFormed trace.now.run }
-    requires bearers { AreBearers trace.now.run (len trace.now.run) bearers.now }
-    requires met { AreMarks (IsMet trace.now.run layout.now.window) (sent trace.now.run (len trace.now.run)) met.now }
-    ensures { OnOk result (Writes (IsMessageLine program.now trace.now.run layout.now place) out.old.items out.new.items) }
+    requires opening { drawing.now.trace.now.run.opening ≡ program_opening drawing.now.program.now }
+    requires plan { IsPlan drawing.now.trace.now.run drawing.now.layout.now.window drawing.now.layout.now }
+    requires well_formed { WellFormed drawing.now.trace.now.run }
+    requires bearers { AreBearers drawing.now.trace.now.run (len drawing.now.trace.now.run) drawing.now.bearers.now }
+    requires met { AreMarks (IsMet drawing.now.trace.now.run drawing.now.layout.now.window) (sent drawing.now.trace.now.run (len drawing.now.trace.now.run)) drawing.now.met.now }
+    ensures { OnOk result (Writes (IsMessageLine drawing.now.program.now drawing.now.trace.now.run drawing.now.layout.now place) out.old.items out.new.items) }
 {
-    let Some(step) = trace.step(place) else {
+    let Some(step) = drawing.trace.step(place) else {
         return Ok(());
     };
-    let Some(made) = trace.made_at(place) else {
+    let Some(made) = drawing.trace.made_at(place) else {
         return Ok(());
     };
-    put_line_of(
-        alloc, out, program, trace, layout, bearers, met, step, place, made,
-    )?;
+    put_line_of(alloc, out, drawing, step, place, made)?;
     Ok(())
 }
 
@@ -129,8 +118,15 @@ pub fn put_messages(
     let window = layout.window();
     let bearers = bearers_of(alloc, trace)?;
     let met = meetings_in(alloc, trace, window)?;
+    let drawing = Drawing {
+        program,
+        trace,
+        layout,
+        bearers: &bearers,
+        met: &met,
+    };
     for place in window.from..window.to {
-        put_line_at(alloc, out, program, trace, layout, &bearers, &met, place)?;
+        put_line_at(alloc, out, &drawing, place)?;
     }
     Ok(())
 }

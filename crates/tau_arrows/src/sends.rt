@@ -9,15 +9,13 @@ ghost use Rattle.tau_layout.specs.Inner.Marking.{AreMarks};
 ghost use Rattle.tau_arrows.specs.Messages.{IsMet, IsSentLine};
 ghost use Rattle.tau_arrows.specs.Inner.Bearers.{AreBearers};
 
-use crate::bearers::{Bearer, bearer_at};
+use crate::bearers::bearer_at;
+use crate::drawing::{Drawing, Message, Sending};
 use crate::lines::put_sent_line;
 use crate::meetings::is_met;
-use crate::titles::Message;
 use std::alloc::{AllocError, Global};
-use tau_layout::Layout;
 use tau_spots::spot_at;
 use tau_trace::{Step, Trace};
-use tau_tree::Program;
 
 /// Whether no step of the trace takes a message out of flight.
 fn flies(trace: &Trace, message: u32) -> bool
@@ -30,34 +28,36 @@ fn flies(trace: &Trace, message: u32) -> bool
 pub(crate) fn put_sent(
     alloc: Global,
     out: &mut Vec<u8>,
-    program: &Program,
-    trace: &Trace,
-    layout: &Layout,
-    bearers: &[Bearer],
-    met: &[bool],
+    drawing: &Drawing,
     step: &Step,
     place: u32,
     number: u32,
 ) -> Result<(), AllocError>
-    requires opening { trace.now.run.opening ≡ program_opening program.now }
-    requires plan { IsPlan trace.now.run layout.now.window layout.now }
-    requires bearers { AreBearers trace.now.run (len trace.now.run) bearers.now }
-    requires met { AreMarks (IsMet trace.now.run layout.now.window) (sent trace.now.run (len trace.now.run)) met.now }
-    requires exists { number < sent trace.now.run (len trace.now.run) }
-    ensures { OnOk result (Writes (IsSentLine program.now trace.now.run layout.now place step.now number) out.old.items out.new.items) }
+    requires opening { drawing.now.trace.now.run.opening ≡ program_opening drawing.now.program.now }
+    requires plan { IsPlan drawing.now.trace.now.run drawing.now.layout.now.window drawing.now.layout.now }
+    requires bearers { AreBearers drawing.now.trace.now.run (len drawing.now.trace.now.run) drawing.now.bearers.now }
+    requires met { AreMarks (IsMet drawing.now.trace.now.run drawing.now.layout.now.window) (sent drawing.now.trace.now.run (len drawing.now.trace.now.run)) drawing.now.met.now }
+    requires exists { number < sent drawing.now.trace.now.run (len drawing.now.trace.now.run) }
+    ensures { OnOk result (Writes (IsSentLine drawing.now.program.now drawing.now.trace.now.run drawing.now.layout.now place step.now number) out.old.items out.new.items) }
 {
-    if is_met(met, number) {
+    if is_met(drawing.met, number) {
         return Ok(());
     }
-    let Some(to) = trace.target(number) else {
+    let Some(to) = drawing.trace.target(number) else {
         return Ok(());
     };
-    let Some(bearer) = bearer_at(bearers, number) else {
+    let Some(bearer) = bearer_at(drawing.bearers, number) else {
         unreachable!()
     };
     let message = Message { number, to, bearer };
-    let at = spot_at(trace, layout, place);
-    let flies = flies(trace, number);
-    put_sent_line(alloc, out, program, trace, step, place, message, flies, at)?;
+    let at = spot_at(drawing.trace, drawing.layout, place);
+    let flies = flies(drawing.trace, number);
+    let sending = Sending {
+        place,
+        message,
+        flies,
+        at,
+    };
+    put_sent_line(alloc, out, drawing, step, sending)?;
     Ok(())
 }

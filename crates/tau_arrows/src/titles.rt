@@ -7,6 +7,7 @@ ghost use Rattle.tau_arrows.specs.Titles as specs;
 ghost use Rattle.tau_arrows.specs.Inner.Bearers.{borne};
 
 use crate::bearers::{Bearer, put_borne};
+use crate::drawing::{Birth, Drawing, Message, Receipt, Sending};
 use std::alloc::{AllocError, Global};
 use tau_markup::{cut, number, plain, said};
 use tau_spots::{Origin, Source};
@@ -14,14 +15,6 @@ use tau_trace::{Step, Trace};
 use tau_tree::Program;
 use tau_value::Names;
 use tau_words::put_who;
-
-/// A message: its number, the transactor to which its line leads, and where its value stands.
-#[derive(Clone, Copy)]
-pub(crate) struct Message {
-    pub(crate) number: u32,
-    pub(crate) to: u32,
-    pub(crate) bearer: Bearer,
-}
 
 /// The name of a start, or the number of another transactor.
 fn said_who(alloc: Global, out: &mut Vec<u8>, names: &Names, who: u32) -> Result<(), AllocError>
@@ -115,19 +108,16 @@ fn receipt_word(step: &Step) -> &'static [u8]
 pub(crate) fn put_receipt_title(
     alloc: Global,
     out: &mut Vec<u8>,
-    program: &Program,
-    trace: &Trace,
+    drawing: &Drawing,
     step: &Step,
-    place: u32,
-    message: Message,
-    source: Source,
+    receipt: Receipt,
 ) -> Result<(), AllocError>
-    ensures { OnOk result (out.new.items ≡ with_pieces out.old.items (specs.receipt_title trace.now.run.opening.names place step.now message.number message.to (borne program.now trace.now.run message.bearer) source)) }
+    ensures { OnOk result (out.new.items ≡ with_pieces out.old.items (specs.receipt_title drawing.now.trace.now.run.opening.names receipt.place step.now receipt.message.number receipt.message.to (borne drawing.now.program.now drawing.now.trace.now.run receipt.message.bearer) receipt.source)) }
 {
-    put_message(alloc, out, program, trace, message)?;
-    put_source(alloc, out, &trace.opening().names, source)?;
+    put_message(alloc, out, drawing.program, drawing.trace, receipt.message)?;
+    put_source(alloc, out, &drawing.trace.opening().names, receipt.source)?;
     plain(out, receipt_word(step))?;
-    number(out, u64::from(place))
+    number(out, u64::from(receipt.place))
 }
 
 /// How a message was made.
@@ -154,19 +144,16 @@ fn later_word(flies: bool) -> &'static [u8]
 pub(crate) fn put_sent_title(
     alloc: Global,
     out: &mut Vec<u8>,
-    program: &Program,
-    trace: &Trace,
+    drawing: &Drawing,
     step: &Step,
-    place: u32,
-    message: Message,
-    flies: bool,
+    sending: Sending,
 ) -> Result<(), AllocError>
-    ensures { OnOk result (out.new.items ≡ with_pieces out.old.items (specs.sent_title trace.now.run.opening.names place step.now message.number message.to (borne program.now trace.now.run message.bearer) flies)) }
+    ensures { OnOk result (out.new.items ≡ with_pieces out.old.items (specs.sent_title drawing.now.trace.now.run.opening.names sending.place step.now sending.message.number sending.message.to (borne drawing.now.program.now drawing.now.trace.now.run sending.message.bearer) sending.flies)) }
 {
-    put_message(alloc, out, program, trace, message)?;
+    put_message(alloc, out, drawing.program, drawing.trace, sending.message)?;
     plain(out, send_word(step))?;
-    number(out, u64::from(place))?;
-    plain(out, later_word(flies))
+    number(out, u64::from(sending.place))?;
+    plain(out, later_word(sending.flies))
 }
 
 /// The title of the line from a transactor to the one that it creates.
@@ -174,15 +161,13 @@ pub(crate) fn put_new_title(
     alloc: Global,
     out: &mut Vec<u8>,
     names: &Names,
-    place: u32,
-    who: u32,
-    born: u32,
+    birth: Birth,
 ) -> Result<(), AllocError>
-    ensures { OnOk result (out.new.items ≡ with_pieces out.old.items (specs.new_title names.now place who born)) }
+    ensures { OnOk result (out.new.items ≡ with_pieces out.old.items (specs.new_title names.now birth.place birth.who birth.born)) }
 {
-    said_who(alloc, out, names, who)?;
+    said_who(alloc, out, names, birth.who)?;
     plain(out, b" creates ")?;
-    said_who(alloc, out, names, born)?;
+    said_who(alloc, out, names, birth.born)?;
     plain(out, b" at ")?;
-    number(out, u64::from(place))
+    number(out, u64::from(birth.place))
 }
