@@ -1,6 +1,6 @@
 -- The first step of a run that isn't legal for its last program is the first that isn't legal in the order of the records.
 use Rattle.std.proofs.Common.{◌≡◌, ◌⊎◌, ⊎_elim, inl, inr, ℕ, ◌+◌, ◌<◌, ◌≤◌, List, length, take, Option, Some, None, refl, sym, ap, ap₂, ◌∙◌, subst, arith, length-take}
-use Rattle.std.specs.Prelude.{slice_get, Result, Err, Bool, IsTrue, ◌↔◌}
+use Rattle.std.specs.Prelude.{Result, Ok, Err, Bool, IsErrAnd, IsTrue, ◌↔◌}
 use Rattle.std.proofs.lemmas.List.{take-take}
 use Rattle.std.proofs.lemmas.Option.{slice_get_within}
 use Rattle.tau_tree.specs.declared.programs.Program.{Program}
@@ -18,7 +18,7 @@ use Rattle.tau_check.specs.declared.checking.Legality.TheVariants as answers
 use Rattle.tau_journal.specs.Records.{going_on}
 use Rattle.tau_journal.specs.Room.{IsFaultOrFailure}
 use Rattle.tau_journal.specs.declared.errors.JournalError.{JournalError}
-use Rattle.tau_journal.specs.declared.errors.JournalError.TheVariants.{Fault, DiskFault, NoMemory}
+use Rattle.tau_journal.specs.declared.errors.JournalError.TheVariants.{Fault, NoMemory}
 use Rattle.tau_revival.specs.Laws.{RevivalKeepsSteps}
 use Rattle.tau_keeping.specs.declared.faults.RecordFault.{RecordFault}
 use Rattle.tau_keeping.specs.declared.faults.RecordFault.TheVariants.{Item, ScriptFull}
@@ -106,7 +106,7 @@ illegal_all : (rs : List (List ℕ)) (n : ℕ) (Q : Program) (U : Run) → HasIl
 illegal_all rs n Q U h = record { place = h.place; text = h.text; step = h.step; stand = to_all rs n h.place Q U h.text h.stand; is_text = h.is_text; legal = h.legal; illegal = h.illegal }
 
 -- a fault is read of the first n records too, where it is of one of them
-place_of : (rs : List (List ℕ)) (P : Program) (T : Run) (e : RecordFault) → IsReadAs rs P T (Some e) → ℕ
+abbrev place_of : (rs : List (List ℕ)) (P : Program) (T : Run) (e : RecordFault) → IsReadAs rs P T (Some e) → ℕ
 place_of rs P T (Item k) one = k
 place_of rs P T (ScriptFull m) one = one.0
 
@@ -198,6 +198,11 @@ pub first_faulty : {X : Type 0} (rs : List (List ℕ)) (r : Result X JournalErro
 first_faulty {X = X} rs r e is told fault at found =
     subst (λ q. IsFaultOrFailure fault at q) (sym is)
     (failed_or r e is (λ d. IsFaultOrFailure {X = X} fault at (Err d)) (inr (inl refl)) (inr (inr refl)) (λ f a same. lacks_faulty rs f a (told f a same) fault at found))
+
+-- or the check failed
+pub no_memory_told : {X : Type 0} (r : Result X JournalError) → IsErrAnd r (λ e. e ≡ NoMemory) → (fault at : ℕ) → IsFaultOrFailure fault at r
+no_memory_told (Ok x) is fault at = absurd is
+no_memory_told (Err e) is fault at = inr (inr (ap Err is))
 
 -- what the check answers
 pub is_legal : (P : Program) (T : Run) (l : Legality) (complete : Bool) → l ≡ answers.Legal complete → IsLegality P T l → Legal P T × (IsTrue complete ↔ Complete P T)

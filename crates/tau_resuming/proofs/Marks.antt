@@ -46,20 +46,20 @@ pub told_again : {X Y : Type 0} (r : Result X JournalError) (e d : JournalError)
 told_again {Y = Y} r e d is same = is ∙ ap Err (same_error {X = Y} e d same)
 
 -- the room of the disk, of an answer that has another type
-of_failure : {X Y : Type 0} (told : Option (List ℕ)) (need : ℕ) (e : JournalError) → IsUnlessSmall {X = Y} told need (Err e) → IsUnlessSmall {X = X} told need (Err e)
-of_failure None need e small = tt
-of_failure {X = X} {Y = Y} (Some file) need e small = λ at large. recast {X = X} {Y = Y} 8 at e (small at large)
+of_failure : (X Y : Type 0) (told : Option (List ℕ)) (need : ℕ) (e : JournalError) → IsUnlessSmall {X = Y} told need (Err e) → IsUnlessSmall {X = X} told need (Err e)
+of_failure X Y None need e small = tt
+of_failure X Y (Some file) need e small = λ at large. recast {X = X} {Y = Y} 8 at e (small at large)
 
-pub unless_failed : {X Y : Type 0} (r : Result X JournalError) (e : JournalError) → r ≡ Err e → (told : Option (List ℕ)) (need : ℕ) → IsUnlessSmall {X = Y} told need (Err e) → IsUnlessSmall told need r
-unless_failed {X = X} {Y = Y} r e is told need small = subst (λ q. IsUnlessSmall told need q) (sym is) (of_failure {X = X} {Y = Y} told need e small)
+pub unless_failed : {X : Type 0} (Y : Type 0) (r : Result X JournalError) (e : JournalError) → r ≡ Err e → (told : Option (List ℕ)) (need : ℕ) → IsUnlessSmall {X = Y} told need (Err e) → IsUnlessSmall told need r
+unless_failed {X = X} Y r e is told need small = subst (λ q. IsUnlessSmall told need q) (sym is) (of_failure X Y told need e small)
 
 pub unless_kept : {X Y : Type 0} (x : X) (y : Y) (told : Option (List ℕ)) (need : ℕ) → IsUnlessSmall {X = Y} told need (Ok y) → IsUnlessSmall {X = X} told need (Ok x)
 unless_kept x y None need small = tt
 unless_kept x y (Some file) need small = λ at large. absurd (no_failure y 8 at (small at large))
 
 -- and of one that fails before
-pub unless_revived : {X : Type 0} (P : Program) (e : JournalError) → ((fault at : ℕ) → e ≡ Fault fault at → IsScriptFull P at) → ((n : ℕ) → ¬ IsScriptFull P n) → (told : Option (List ℕ)) (need : ℕ) → IsUnlessSmall {X = X} told need (Err e)
-unless_revived P e full room None need = tt
-unless_revived P (Fault fault at) full room (Some file) need = λ size large. absurd (room at (full fault at refl))
-unless_revived P DiskFault full room (Some file) need = λ size large. inr (inl refl)
-unless_revived P NoMemory full room (Some file) need = λ size large. inr (inr refl)
+pub unless_revived : (X : Type 0) (P : Program) (e : JournalError) → ((fault at : ℕ) → e ≡ Fault fault at → IsScriptFull P at) → ((n : ℕ) → ¬ IsScriptFull P n) → (told : Option (List ℕ)) (need : ℕ) → IsUnlessSmall {X = X} told need (Err e)
+unless_revived X P e full room None need = tt
+unless_revived X P (Fault fault at) full room (Some file) need = λ size large. absurd (room at (full fault at refl))
+unless_revived X P DiskFault full room (Some file) need = λ size large. inr (inl refl)
+unless_revived X P NoMemory full room (Some file) need = λ size large. inr (inr refl)

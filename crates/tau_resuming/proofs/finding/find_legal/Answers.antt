@@ -1,4 +1,4 @@
-use Rattle.std.proofs.Common.{◌≡◌, ℕ, sym, subst}
+use Rattle.std.proofs.Common.{◌≡◌, ℕ, sym, subst, rules}
 use Rattle.std.specs.Prelude.{IfSome}
 use Rattle.tau_trace.specs.Run.{Run}
 use Rattle.tau_tree.specs.declared.programs.Program.{Program}

@@ -1,8 +1,8 @@
-use Rattle.std.proofs.Common.{ap}
+use Rattle.std.proofs.Common.{ap, rules}
 use Rattle.std.specs.Prelude.{Err}
 use Rattle.tau_keeping.proofs.Finds.{all_read, some_read, error_is, no_disk_error}
 use Rattle.tau_resuming.specs.Faults.{in_first, in_later}
-use Rattle.tau_resuming.proofs.Illegal.{illegal_read, illegal_faulty, legal_faulty, read_faulty, first_faulty, fault_told, is_legal, is_bad}
+use Rattle.tau_resuming.proofs.Illegal.{illegal_read, illegal_faulty, legal_faulty, read_faulty, first_faulty, fault_told, no_memory_told, is_legal, is_bad}
 use Rattle.tau_resuming.proofs.reading.legal_run.Goals as goal
 
 pub check-requires-clause-sound : goal.check-requires-clause-sound
@@ -19,6 +19,9 @@ returns-in_err-standing-clause-fault c fault at is =
 pub returns-in_err-standing-clause-faulty : goal.returns-in_err-standing-clause-faulty
 returns-in_err-standing-clause-faulty c =
     first_faulty c.args.records.now c.from_residual.result c.in_err-standing.field-0.0 (search rules) (λ f a made. c.in_err-standing.ensures.fault f a (search rules))
+
+pub returns-in_err-legality-clause-faulty : goal.returns-in_err-legality-clause-faulty
+returns-in_err-legality-clause-faulty c fault at found = no_memory_told c.from_residual-in_err-legality.result c.from_residual-in_err-legality.ensures.1 fault at
 
 pub returns-in-None-clause-stand : goal.returns-in-None-clause-stand
 returns-in-None-clause-stand c =

@@ -1,4 +1,4 @@
-use Rattle.std.proofs.Common.{◌≡◌, ◌+◌, inl, inr, length, sym, ◌∙◌, subst}
+use Rattle.std.proofs.Common.{◌≡◌, ◌+◌, inl, inr, length, sym, ◌∙◌, subst, rules}
 use Rattle.std.specs.Prelude.{Err, IfErr}
 use Rattle.tau_journal.specs.Records.{going_on}
 use Rattle.tau_journal.specs.Room.{IsTooLarge, IsUnlessSmall}
@@ -22,7 +22,7 @@ returns-in_err-revived-clause-faulty g c room =
     let told = g.D.Disk.bytes c.args.disk.now in
     let need = gate_of c.args.journal + 5 + length going_on + 1 in
     let is : c.from_residual.result ≡ Err c.in_err-revived.field-0.0 = search rules in
-    subst (λ q. IsUnlessSmall told need q) (sym is) (unless_revived c.args.program.now c.in_err-revived.field-0.0 (λ f a made. (c.in_err-revived.ensures.fault f a (search rules)).1) room told need)
+    subst (λ q. IsUnlessSmall told need q) (sym is) (unless_revived _ c.args.program.now c.in_err-revived.field-0.0 (λ f a made. (c.in_err-revived.ensures.fault f a (search rules)).1) room told need)
 
 pub returns-in_err-marked-clause-any_moment : goal.returns-in_err-marked-clause-any_moment
 returns-in_err-marked-clause-any_moment g c at =
@@ -43,7 +43,7 @@ returns-in_err-marked-clause-full g c n full = absurd (has_room c.args.program.n
 
 pub returns-in_err-marked-clause-faulty : goal.returns-in_err-marked-clause-faulty
 returns-in_err-marked-clause-faulty g c room =
-    unless_failed c.from_residual-in_err-marked.result c.in_err-marked.field-0.0 (search rules) (g.D.Disk.bytes c.args.disk.now) (gate_of c.args.journal + 5 + length going_on + 1) c.in_err-marked.ensures.faulty
+    unless_failed _ c.from_residual-in_err-marked.result c.in_err-marked.field-0.0 (search rules) (g.D.Disk.bytes c.args.disk.now) (gate_of c.args.journal + 5 + length going_on + 1) c.in_err-marked.ensures.faulty
 
 pub returns-clause-any_moment : goal.returns-clause-any_moment
 returns-clause-any_moment g c at =
