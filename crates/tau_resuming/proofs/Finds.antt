@@ -1,5 +1,5 @@
 -- What is found on a disk, by what its records stand for.
-use Rattle.std.proofs.Common.{◌≡◌, inl, inr, ℕ, ◌+◌, ◌<◌, ◌≤◌, List, [], ◌∷◌, length, Option, Some, None, IfSome, refl, sym, ap, ◌∙◌, subst, arith}
+use Rattle.std.proofs.Common.{◌≡◌, inl, inr, ℕ, ◌≤◌, List, [], ◌∷◌, length, Option, Some, None, IfSome, refl, sym, subst, arith}
 use Rattle.std.specs.Prelude.{Result, Ok, Err, IfErr}
 use Rattle.tau_tree.specs.declared.programs.Program.{Program}
 use Rattle.tau_trace.specs.Run.{Run}
@@ -11,10 +11,8 @@ use Rattle.tau_journal.specs.declared.errors.JournalError.{JournalError}
 use Rattle.tau_journal.specs.declared.errors.JournalError.TheVariants.{Fault, DiskFault, NoMemory}
 use Rattle.tau_journal.proofs.Unique.{one_list}
 use Rattle.tau_revival.specs.Laws.{RevivalKeepsSteps}
-use Rattle.tau_keeping.specs.declared.faults.RecordFault.{RecordFault}
 use Rattle.tau_keeping.specs.declared.faults.RecordFault.TheVariants.{Item, ScriptFull}
 use Rattle.tau_keeping.specs.Standing.{StandsFor, Stands}
-use Rattle.tau_keeping.specs.Reading.{IsReadAs}
 use Rattle.tau_keeping.proofs.Unique.{some_stand}
 use Rattle.tau_keeping.proofs.Once.{no_fault, no_program}
 use Rattle.tau_keeping.proofs.Finds.{no_bytes_fault, failed_or, recast}

@@ -1,5 +1,5 @@
 -- The first step of a run that isn't legal for its last program is the first that isn't legal in the order of the records.
-use Rattle.std.proofs.Common.{◌≡◌, ◌⊎◌, ⊎_elim, inl, inr, ℕ, ◌+◌, ◌<◌, ◌≤◌, List, length, take, Option, Some, None, refl, sym, ap, ap₂, ◌∙◌, subst, arith, length-take}
+use Rattle.std.proofs.Common.{◌≡◌, ◌⊎◌, ⊎_elim, inl, inr, ℕ, ◌+◌, ◌<◌, ◌≤◌, List, take, Option, Some, None, refl, sym, ap, ap₂, ◌∙◌, subst, arith, length-take}
 use Rattle.std.specs.Prelude.{Result, Ok, Err, Bool, IsErrAnd, IsTrue, ◌↔◌}
 use Rattle.std.proofs.lemmas.List.{take-take}
 use Rattle.std.proofs.lemmas.Option.{slice_get_within}
@@ -23,7 +23,7 @@ use Rattle.tau_revival.specs.Laws.{RevivalKeepsSteps}
 use Rattle.tau_keeping.specs.declared.faults.RecordFault.{RecordFault}
 use Rattle.tau_keeping.specs.declared.faults.RecordFault.TheVariants.{Item, ScriptFull}
 use Rattle.tau_keeping.specs.Standing.{StandsFor}
-use Rattle.tau_keeping.specs.Reading.{HasNoProgram, StandsTo, IsReadAs, error_of}
+use Rattle.tau_keeping.specs.Reading.{HasNoProgram, IsReadAs, error_of}
 use Rattle.tau_keeping.proofs.Runs.{run_of}
 use Rattle.tau_keeping.proofs.Unique.{some_stand}
 use Rattle.tau_keeping.proofs.Once.{one_fault, no_fault, no_program}

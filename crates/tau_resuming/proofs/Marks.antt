@@ -1,19 +1,19 @@
 -- What stands on a disk while a program is revived.
-use Rattle.std.proofs.Common.{◌≡◌, inl, inr, ℕ, ◌+◌, ◌<◌, ◌≤◌, List, length, Option, Some, None, refl, sym, ap, ◌∙◌, subst, arith}
+use Rattle.std.proofs.Common.{◌≡◌, inl, inr, ℕ, List, Option, Some, None, refl, sym, ap, ◌∙◌, subst, arith}
 use Rattle.std.specs.Prelude.{Result, Ok, Err}
 use Rattle.tau_tree.specs.declared.programs.Program.{Program}
 use Rattle.tau_trace.specs.Run.{Run}
 use Rattle.tau_disk.specs.Moments.{LeavesOnly}
 use Rattle.tau_disk.proofs.Moments.{weaker}
 use Rattle.tau_journal.specs.Records.{IsAtRest}
-use Rattle.tau_journal.specs.Room.{too_large, IsFaultOrFailure, IsTooLarge, IsUnlessSmall}
+use Rattle.tau_journal.specs.Room.{IsUnlessSmall}
 use Rattle.tau_journal.specs.declared.errors.JournalError.{JournalError}
 use Rattle.tau_journal.specs.declared.errors.JournalError.TheVariants.{Fault, DiskFault, NoMemory}
 use Rattle.tau_revival.specs.Revival.{IsRevival, IsScriptFull}
 use Rattle.tau_keeping.specs.Standing.{StandsAt, StandsForEither}
 use Rattle.tau_keeping.proofs.Kept.{leaves_at_first}
 use Rattle.tau_keeping.proofs.Finds.{recast, no_failure}
-use Rattle.tau_resuming.specs.Reviving.{StandsForRevival, IsReviveFault}
+use Rattle.tau_resuming.specs.Reviving.{StandsForRevival}
 
 -- a program that is revived has room for it
 pub has_room : (P Q : Program) (T : Run) → IsRevival P T Q → (n : ℕ) → ¬ IsScriptFull P n

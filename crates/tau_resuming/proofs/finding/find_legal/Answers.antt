@@ -1,7 +1,5 @@
-use Rattle.std.proofs.Common.{◌≡◌, ℕ, sym, subst, rules}
+use Rattle.std.proofs.Common.{ℕ, sym, subst, rules}
 use Rattle.std.specs.Prelude.{IfSome}
-use Rattle.tau_trace.specs.Run.{Run}
-use Rattle.tau_tree.specs.declared.programs.Program.{Program}
 use Rattle.tau_journal.specs.Gates.{gate_of}
 use Rattle.tau_journal.specs.Records.{IsAtRest}
 use Rattle.tau_keeping.specs.Standing.{StandsAt}

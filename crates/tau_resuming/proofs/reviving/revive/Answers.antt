@@ -1,5 +1,5 @@
-use Rattle.std.proofs.Common.{◌≡◌, ◌+◌, inl, inr, length, sym, ◌∙◌, subst, rules}
-use Rattle.std.specs.Prelude.{Err, IfErr}
+use Rattle.std.proofs.Common.{◌≡◌, ◌+◌, inl, inr, length, sym, subst, rules}
+use Rattle.std.specs.Prelude.{Err}
 use Rattle.tau_journal.specs.Records.{going_on}
 use Rattle.tau_journal.specs.Room.{IsTooLarge, IsUnlessSmall}
 use Rattle.tau_journal.specs.Gates.{gate_of}
