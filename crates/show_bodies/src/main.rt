@@ -7,9 +7,11 @@ mod operations;
 mod plain;
 mod writing;
 
+use crate::plain::next;
+use crate::writing::put_effect;
 use std::alloc::{AllocError, Global};
 use std::process::ExitCode;
-use tau_eval::{Effect, begin};
+use tau_eval::{Effect, Job, Pending, begin};
 use tau_forms::program_of;
 use tau_io::{StdSink, StdSource, read_all, write_all_of};
 use tau_sexpr::read_forms;
@@ -24,10 +26,7 @@ fn main(rt: HostRuntime) -> ExitCode {
     let Ok(bytes) = read_all(alloc, &mut StdSource::new(rt.stdin()), 1_048_576) else {
         return ExitCode::from(5);
     };
-    let Ok(forms) = read_forms(alloc, &bytes) else {
-        return ExitCode::from(3);
-    };
-    let Ok(program) = program_of(alloc, forms.items()) else {
+    let Some(program) = program_from(alloc, &bytes) else {
         return ExitCode::from(3);
     };
     let Ok(text) = text_of(alloc, &program) else {
@@ -36,6 +35,17 @@ fn main(rt: HostRuntime) -> ExitCode {
     match write_all_of(&mut StdSink::new(rt.stdout()), &text) {
         Ok(()) => ExitCode::from(0),
         Err(_) => ExitCode::from(6),
+    }
+}
+
+/// The program that bytes spell.
+fn program_from(alloc: Global, bytes: &[u8]) -> Option<Program> {
+    let Ok(forms) = read_forms(alloc, bytes) else {
+        return None;
+    };
+    match program_of(alloc, forms.items()) {
+        Ok(program) => Some(program),
+        Err(_) => None,
     }
 }
 
@@ -65,62 +75,125 @@ fn text_of(alloc: Global, program: &Program) -> Result<Vec<u8>, AllocError> {
     let mut text = Vec::new(alloc);
     for post in program.posts.items() {
         if let Some(turn) = turn_of(program, post) {
-            let start = turn.start;
-            text.extend_from_slice(start.name.bytes())?;
-            text.extend_from_slice(b"\n  job  ")?;
-            put_by_job(alloc, &mut text, turn)?;
-            text.extend_from_slice(b"\n  plain")?;
-            put_by_plain(alloc, &mut text, turn)?;
-            text.push(b'\n')?;
+            put_turn(alloc, &mut text, turn)?;
         }
     }
     Ok(text)
 }
 
+/// Adds the name of a turn's transactor, and its effects.
+fn put_turn(alloc: Global, text: &mut Vec<u8>, turn: Turn<'_>) -> Result<(), AllocError> {
+    text.extend_from_slice(turn.start.name.bytes())?;
+    text.extend_from_slice(b"\n  job  ")?;
+    put_by_job(alloc, text, turn)?;
+    text.extend_from_slice(b"\n  plain")?;
+    put_by_plain(alloc, text, turn)?;
+    text.push(b'\n')?;
+    Ok(())
+}
+
 /// The effects of a turn by its job.
 fn put_by_job(alloc: Global, text: &mut Vec<u8>, turn: Turn<'_>) -> Result<(), AllocError> {
-    if turn.start.behaviour as usize >= turn.program.behaviours.len() {
-        return Ok(());
-    }
-    let message = turn.message.copy()?;
-    let mut job = begin(
-        alloc,
-        turn.program,
-        turn.who,
-        turn.start.behaviour,
-        0,
-        message,
-    )?;
+    let mut job = job_of(alloc, turn)?;
     for number in 0..LIMIT {
-        match job.advance() {
-            Ok(pending) => {
-                writing::put_effect(alloc, text, &pending.effect().copy()?)?;
-                match reply_to(pending.effect(), turn.start, number)? {
-                    Some(reply) => job = pending.resume(reply),
-                    None => return Ok(()),
-                }
-            }
-            Err((_job, failed)) => return Err(failed),
-        }
+        job = put_next(alloc, text, turn.start, number, job)?;
     }
     Ok(())
 }
 
+/// The job of a turn; `None` where the program hasn't its behaviour.
+fn job_of<'p>(alloc: Global, turn: Turn<'p>) -> Result<Option<Job<'p>>, AllocError> {
+    let (program, number) = (turn.program, turn.start.behaviour);
+    if number as usize >= program.behaviours.len() {
+        return Ok(None);
+    }
+    let message = turn.message.copy()?;
+    Ok(Some(begin(alloc, program, turn.who, number, 0, message)?))
+}
+
+/// Adds the effect of this number, where a job is left that comes to one. The job that goes on with the reply.
+fn put_next<'p>(
+    alloc: Global,
+    text: &mut Vec<u8>,
+    start: &Start,
+    number: u32,
+    job: Option<Job<'p>>,
+) -> Result<Option<Job<'p>>, AllocError> {
+    let Some(job) = job else {
+        return Ok(None);
+    };
+    let pending = pending_of(job)?;
+    let reply = put_copy(alloc, text, start, number, pending.effect());
+    resumed(pending, reply)
+}
+
+/// The effect to which a job comes.
+fn pending_of(job: Job<'_>) -> Result<Pending<'_>, AllocError> {
+    match job.advance() {
+        Ok(pending) => Ok(pending),
+        Err((_job, failed)) => Err(failed),
+    }
+}
+
+/// The job that goes on with a reply, where there is one.
+fn resumed<'p>(
+    pending: Pending<'p>,
+    reply: Result<Option<Value>, AllocError>,
+) -> Result<Option<Job<'p>>, AllocError> {
+    match reply {
+        Ok(Some(reply)) => Ok(Some(pending.resume(reply))),
+        Ok(None) => Ok(None),
+        Err(failed) => Err(failed),
+    }
+}
+
 /// The effects of a turn by the plain evaluator.
 fn put_by_plain(alloc: Global, text: &mut Vec<u8>, turn: Turn<'_>) -> Result<(), AllocError> {
-    let behaviour = turn.behaviour;
-    let body = &behaviour.body;
     let mut replies = Vec::new(alloc);
     for number in 0..LIMIT {
-        let nodes = turn.program.nodes;
-        let effect = plain::next(alloc, nodes, turn.who, body, turn.message, &replies)?;
-        writing::put_effect(alloc, text, &effect)?;
-        match reply_to(&effect, turn.start, number)? {
+        match put_plain(alloc, text, turn, number, &replies)? {
             Some(reply) => replies.push(reply)?,
             None => return Ok(()),
         }
     }
     Ok(())
+}
+
+/// Adds the effect of this number, by the plain evaluator; the reply to it, where the turn goes on.
+fn put_plain(
+    alloc: Global,
+    text: &mut Vec<u8>,
+    turn: Turn<'_>,
+    number: u32,
+    replies: &[Value],
+) -> Result<Option<Value>, AllocError> {
+    let (program, behaviour) = (turn.program, turn.behaviour);
+    let body = &behaviour.body;
+    let effect = next(alloc, program.nodes, turn.who, body, turn.message, replies)?;
+    put_replied(alloc, text, turn.start, number, &effect)
+}
+
+/// Adds a copy of the effect of this number; the reply to it, where the turn goes on.
+fn put_copy(
+    alloc: Global,
+    text: &mut Vec<u8>,
+    start: &Start,
+    number: u32,
+    effect: &Effect,
+) -> Result<Option<Value>, AllocError> {
+    put_replied(alloc, text, start, number, &effect.copy()?)
+}
+
+/// Adds the effect of this number; the reply to it, where the turn goes on.
+fn put_replied(
+    alloc: Global,
+    text: &mut Vec<u8>,
+    start: &Start,
+    number: u32,
+    effect: &Effect,
+) -> Result<Option<Value>, AllocError> {
+    put_effect(alloc, text, effect)?;
+    reply_to(effect, start, number)
 }
 
 /// The reply to the effect of this number; `None` where the turn ends.

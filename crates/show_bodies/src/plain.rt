@@ -83,21 +83,9 @@ impl<'p> Plain<'p> {
         self.count += 1;
         let below = depth - 1;
         match expr {
-            Expr::Unit => Ok(Value::Unit),
-            Expr::Truth(truth) => Ok(Value::Truth(*truth)),
-            Expr::Int(number) => Ok(Value::Int(*number)),
-            Expr::Text(text) => Ok(Value::Text(text.copy()?)),
-            Expr::Msg => Ok(self.message.copy()?),
-            Expr::Own => Ok(Value::Name(self.own)),
-            Expr::Var(name) => self.variable(name),
-            Expr::Start(number) => Ok(Value::Name(*number)),
             Expr::List(items) => self.list(items, below),
             Expr::Let { name, value, body } => self.bound(name, value, body, below),
-            Expr::If { test, yes, no } => match self.value(test, below)? {
-                Value::Truth(true) => self.value(yes, below),
-                Value::Truth(false) => self.value(no, below),
-                _ => trap(1),
-            },
+            Expr::If { test, yes, no } => self.choice(test, yes, no, below),
             Expr::Seq(items) => self.seq(items, below),
             Expr::Fold {
                 list,
@@ -107,26 +95,45 @@ impl<'p> Plain<'p> {
                 body,
             } => self.fold(list, first, Round { sum, item, body }, below),
             Expr::Apply { prim, args } => self.apply(*prim, args, below),
-            Expr::Get => self.reply(Effect::Get),
-            Expr::Set(value) => {
-                let value = self.value(value, below)?;
-                self.reply(Effect::Set(value))
-            }
+            Expr::Set(value) => self.set(value, below),
             Expr::Send { to, value } => self.send(to, value, below),
             Expr::New {
                 behaviour,
                 node,
                 state,
             } => self.create(*behaviour, node, state, below),
+            _ => self.plain_value(expr),
+        }
+    }
+
+    /// The value of an expression without parts.
+    fn plain_value(&mut self, expr: &'p Expr) -> Result<Value, Stop> {
+        match expr {
+            Expr::Get => self.reply(Effect::Get),
             Expr::Stabilize => self.reply(Effect::Stabilize),
+            Expr::Dependent => self.reply(Effect::Ask),
             Expr::Checkpoint => Err(Stop::At(Effect::Checkpoint)),
             Expr::Rollback => Err(Stop::At(Effect::Rollback)),
-            Expr::Dependent => self.reply(Effect::Ask),
+            Expr::Var(name) => self.variable(name),
+            _ => self.constant(expr),
+        }
+    }
+
+    /// The value of an expression that is the same throughout the turn; unit for others.
+    fn constant(&self, expr: &Expr) -> Result<Value, Stop> {
+        match expr {
+            Expr::Truth(truth) => Ok(Value::Truth(*truth)),
+            Expr::Int(number) => Ok(Value::Int(*number)),
+            Expr::Text(text) => Ok(Value::Text(text.copy()?)),
+            Expr::Msg => Ok(self.message.copy()?),
+            Expr::Own => Ok(Value::Name(self.own)),
+            Expr::Start(number) => Ok(Value::Name(*number)),
+            _ => Ok(Value::Unit),
         }
     }
 
     /// The nearest variable of a name.
-    fn variable(&mut self, name: &Word) -> Result<Value, Stop> {
+    fn variable(&self, name: &Word) -> Result<Value, Stop> {
         for binding in self.bindings.iter().rev() {
             if binding.name.same(name) {
                 return Ok(binding.value.copy()?);
@@ -137,14 +144,19 @@ impl<'p> Plain<'p> {
 
     /// The next reply; without one the evaluation ends at the effect.
     fn reply(&mut self, effect: Effect) -> Result<Value, Stop> {
-        match self.replies.get(self.used) {
-            Some(reply) => {
-                let reply = reply.copy()?;
-                self.used = self.used.saturating_add(1);
-                Ok(reply)
-            }
-            None => Err(Stop::At(effect)),
+        match self.next_reply() {
+            Ok(Some(reply)) => Ok(reply),
+            Ok(None) => Err(Stop::At(effect)),
+            Err(_failed) => Err(Stop::NoMemory),
         }
+    }
+
+    fn next_reply(&mut self) -> Result<Option<Value>, AllocError> {
+        let Some(reply) = self.replies.get(self.used) else {
+            return Ok(None);
+        };
+        self.used = self.used.saturating_add(1);
+        Ok(Some(reply.copy()?))
     }
 
     fn bind(&mut self, name: &'p Word, value: Value) -> Result<(), Stop> {
@@ -227,6 +239,27 @@ impl<'p> Plain<'p> {
             }
             None => of_one(prim, one),
         }
+    }
+
+    #[cycle(value)]
+    fn choice(
+        &mut self,
+        test: &'p Expr,
+        yes: &'p Expr,
+        no: &'p Expr,
+        depth: u32,
+    ) -> Result<Value, Stop> {
+        match self.value(test, depth)? {
+            Value::Truth(true) => self.value(yes, depth),
+            Value::Truth(false) => self.value(no, depth),
+            _ => trap(1),
+        }
+    }
+
+    #[cycle(value)]
+    fn set(&mut self, value: &'p Expr, depth: u32) -> Result<Value, Stop> {
+        let value = self.value(value, depth)?;
+        self.reply(Effect::Set(value))
     }
 
     #[cycle(value)]

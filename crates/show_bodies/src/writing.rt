@@ -5,45 +5,60 @@ use tau_value::{Value, word_of_count, word_of_integer};
 
 /// Adds a blank and the effect, by its word, with its numbers and values.
 pub fn put_effect(alloc: Global, text: &mut Vec<u8>, effect: &Effect) -> Result<(), AllocError> {
+    text.extend_from_slice(b" (")?;
+    text.extend_from_slice(word_of(effect))?;
+    put_parts(alloc, text, effect)?;
+    text.push(b')')?;
+    Ok(())
+}
+
+/// The word of an effect.
+fn word_of(effect: &Effect) -> &'static [u8] {
     match effect {
-        Effect::Get => text.extend_from_slice(b" (get"),
-        Effect::Set(value) => {
-            text.extend_from_slice(b" (set ")?;
-            put_value(alloc, text, value, 70)
-        }
+        Effect::Get => b"get",
+        Effect::Set(_) => b"set",
+        Effect::Send(_, _) => b"send",
+        Effect::New { .. } => b"new",
+        Effect::Stabilize => b"stabilize",
+        Effect::Checkpoint => b"checkpoint",
+        Effect::Rollback => b"rollback",
+        Effect::Ask => b"dependent",
+        Effect::Done => b"done",
+        Effect::Trap(_) => b"trap",
+    }
+}
+
+/// Adds the numbers and values of an effect, each after a blank.
+fn put_parts(alloc: Global, text: &mut Vec<u8>, effect: &Effect) -> Result<(), AllocError> {
+    match effect {
+        Effect::Set(value) => put_part(alloc, text, value),
         Effect::Send(to, value) => {
-            text.extend_from_slice(b" (send ")?;
             put_count(alloc, text, *to)?;
-            text.push(b' ')?;
-            put_value(alloc, text, value, 70)
+            put_part(alloc, text, value)
         }
         Effect::New {
             behaviour,
             node,
             state,
         } => {
-            text.extend_from_slice(b" (new ")?;
             put_count(alloc, text, *behaviour)?;
-            text.push(b' ')?;
             put_count(alloc, text, *node)?;
-            text.push(b' ')?;
-            put_value(alloc, text, state, 70)
+            put_part(alloc, text, state)
         }
-        Effect::Stabilize => text.extend_from_slice(b" (stabilize"),
-        Effect::Checkpoint => text.extend_from_slice(b" (checkpoint"),
-        Effect::Rollback => text.extend_from_slice(b" (rollback"),
-        Effect::Ask => text.extend_from_slice(b" (dependent"),
-        Effect::Done => text.extend_from_slice(b" (done"),
-        Effect::Trap(code) => {
-            text.extend_from_slice(b" (trap ")?;
-            put_count(alloc, text, u32::from(*code))
-        }
-    }?;
-    text.push(b')')?;
-    Ok(())
+        Effect::Trap(code) => put_count(alloc, text, u32::from(*code)),
+        _ => Ok(()),
+    }
 }
 
+/// Adds a value after a blank.
+fn put_part(alloc: Global, text: &mut Vec<u8>, value: &Value) -> Result<(), AllocError> {
+    text.push(b' ')?;
+    put_value(alloc, text, value, 70)
+}
+
+/// Adds a number after a blank.
 fn put_count(alloc: Global, text: &mut Vec<u8>, count: u32) -> Result<(), AllocError> {
+    text.push(b' ')?;
     text.extend_from_slice(word_of_count(alloc, u64::from(count))?.bytes())
 }
 
@@ -60,18 +75,10 @@ fn put_value(
         Value::Truth(false) => text.extend_from_slice(b"false"),
         Value::Int(integer) => text.extend_from_slice(word_of_integer(alloc, *integer)?.bytes()),
         Value::Text(bytes) => put_bytes(alloc, text, bytes.bytes()),
-        Value::Name(number) => {
-            text.extend_from_slice(b"(name ")?;
-            put_count(alloc, text, *number)?;
-            text.push(b')')?;
-            Ok(())
-        }
+        Value::Name(number) => put_name(alloc, text, *number),
         Value::List(items) => {
             if depth == 0 || items.len() > 20 {
-                text.extend_from_slice(b"(list of ")?;
-                put_length(alloc, text, items.len())?;
-                text.push(b')')?;
-                return Ok(());
+                return put_length(alloc, text, b"(list of ", items.len());
             }
             text.extend_from_slice(b"(list")?;
             for item in items.items() {
@@ -84,12 +91,16 @@ fn put_value(
     }
 }
 
+fn put_name(alloc: Global, text: &mut Vec<u8>, number: u32) -> Result<(), AllocError> {
+    text.extend_from_slice(b"(name")?;
+    put_count(alloc, text, number)?;
+    text.push(b')')?;
+    Ok(())
+}
+
 fn put_bytes(alloc: Global, text: &mut Vec<u8>, bytes: &[u8]) -> Result<(), AllocError> {
     if bytes.len() > 20 {
-        text.extend_from_slice(b"(text of ")?;
-        put_length(alloc, text, bytes.len())?;
-        text.push(b')')?;
-        return Ok(());
+        return put_length(alloc, text, b"(text of ", bytes.len());
     }
     text.push(b'"')?;
     text.extend_from_slice(bytes)?;
@@ -97,6 +108,15 @@ fn put_bytes(alloc: Global, text: &mut Vec<u8>, bytes: &[u8]) -> Result<(), Allo
     Ok(())
 }
 
-fn put_length(alloc: Global, text: &mut Vec<u8>, length: usize) -> Result<(), AllocError> {
-    text.extend_from_slice(word_of_count(alloc, length as u64)?.bytes())
+/// Adds the opening words, the length and a closing parenthesis.
+fn put_length(
+    alloc: Global,
+    text: &mut Vec<u8>,
+    opening: &[u8],
+    length: usize,
+) -> Result<(), AllocError> {
+    text.extend_from_slice(opening)?;
+    text.extend_from_slice(word_of_count(alloc, length as u64)?.bytes())?;
+    text.push(b')')?;
+    Ok(())
 }

@@ -24,3 +24,9 @@ decreases-send l = 2 * l.depth + 1
 
 abbrev pub decreases-create : goal.decreases-create
 decreases-create l = 2 * l.depth + 1
+
+abbrev pub decreases-choice : goal.decreases-choice
+decreases-choice l = 2 * l.depth + 1
+
+abbrev pub decreases-set : goal.decreases-set
+decreases-set l = 2 * l.depth + 1
