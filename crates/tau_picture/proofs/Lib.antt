@@ -18,5 +18,6 @@ mod KeptLaws
 mod MarkLaws
 mod LaneLaws
 mod ArrowLaws
+mod EscapedTexts
 mod Elements
 mod MarkupLaws

@@ -47,6 +47,7 @@ use Rattle.tau_picture.specs.Pictures.{key_lines, said_lines, AreCauseLines, IsP
 use Rattle.tau_picture.specs.Markup.{is_text, is_element, IsElement, IsMarkup}
 use Rattle.tau_picture.specs.Laws.{PicturesAreMarkup}
 use Rattle.tau_picture.proofs.Whole.{window_within, step_there}
+use Rattle.tau_picture.proofs.EscapedTexts.{texts_inside}
 use Rattle.tau_picture.proofs.Elements.{Elements, each_element, item_elements, flat_elements, as_elements, cond_elements, cond_element, state_box, state_part, state_span, mark_use, row_text, end_use, end_mark, end_text, path_element, receipt_kind, receipt_way, receipt_said, sent_kind, sent_said}
 
 -- the heading
@@ -301,4 +302,4 @@ module _ (P : Program) (T : Run) (from to : ℕ) (ask : Option ℕ) (lines : Lis
   }
 
 pub pictures_are_markup : PicturesAreMarkup
-pictures_are_markup P T from to ask lines picture = markup P T from to ask lines picture
+pictures_are_markup = record { lines_are = markup; texts_are = texts_inside }

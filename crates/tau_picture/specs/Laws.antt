@@ -1,5 +1,6 @@
 -- Laws of pictures, each the contract of a function of the crate.
 use Rattle.std.specs.Prelude.{◌≡◌, ◌≢◌, ◌↔◌, ℕ, ◌+◌, ◌-◌, ◌*◌, ◌<◌, ◌≤◌, ◌⊎◌, List, [], ◌∷◌, ◌++◌, Option, Some, None, Contains, length, slice_get, codes}
+use Rattle.tau_markup.specs.Texts.{escaped}
 use Rattle.tau_markup.specs.Lines.{Piece, plain, Line, titled}
 use Rattle.tau_points.specs.declared.point.Point.{Point}
 use Rattle.tau_shapes.specs.declared.window.Window.{Window}
@@ -162,7 +163,8 @@ abbrev pub LegalRunsDrawSafe : Type 0
 LegalRunsDrawSafe = (P : Program) (T : Run) (from to : ℕ) (ask : Option ℕ) (lines : List Line) (picture : IsPicture P T from to ask lines)
     → WellFormed T → Fitting P T → ShowsNoneBroken picture.plan picture.looks
 
--- each picture is markup: no name, value or text in it has a quote, an ampersand or an angle bracket that would end it, but in the
--- fixed lines
-abbrev pub PicturesAreMarkup : Type 0
-PicturesAreMarkup = (P : Program) (T : Run) (from to : ℕ) (ask : Option ℕ) (lines : List Line) → IsPicture P T from to ask lines → IsMarkup lines
+pub record PicturesAreMarkup : Type 0 where
+  -- each picture is markup: no name, value or word in it has a quote, an ampersand or an angle bracket, but in the fixed lines
+  pub lines_are : (P : Program) (T : Run) (from to : ℕ) (ask : Option ℕ) (lines : List Line) → IsPicture P T from to ask lines → IsMarkup lines
+  -- and no text that stands in it, escaped, has an angle bracket
+  pub texts_are : (text : List ℕ) (b : ℕ) → Contains (escaped text) b → (b ≢ 60) × (b ≢ 62)
