@@ -3,7 +3,7 @@ ghost use Rattle.std.specs.Prelude.{◌≡◌, IfOk};
 ghost use Rattle.tau_tree.specs.Sound.{Sound};
 ghost use Rattle.tau_script.specs.Openings.{program_opening};
 
-use crate::answers::answer;
+use crate::answers::add_answer;
 use crate::errors::FactsError;
 use std::alloc::Global;
 use tau_forms::program_of;
@@ -14,7 +14,7 @@ use tau_trace::Trace;
 use tau_tree::Program;
 
 /// The texts of a section.
-#[derive(Drop)]
+#[derive(Clone, Copy)]
 struct Section<'t> {
     name: &'t str,
     program: &'t str,
@@ -39,11 +39,9 @@ pub(crate) fn add_case(alloc: Global, text: &mut String, section: &str) -> Resul
     let Some(section) = section_of(section) else {
         return Err(FactsError::Faulty);
     };
-    let program = program_in(alloc, section.program)?;
+    writeln!(text, "# {}", section.name)?;
     let steps = read_forms(alloc, section.steps.as_bytes())?;
-    text.push_str("# ")?;
-    text.push_str(section.name)?;
-    text.push_str("\n")?;
+    let program = program_in(alloc, section.program)?;
     add_answers(alloc, text, &program, &steps, section.questions)
 }
 
@@ -66,21 +64,21 @@ fn add_answers(
     requires { Sound program.now }
 {
     for line in questions.lines() {
-        text.push_str(line)?;
-        text.push_str(": ")?;
-        text.push_str(answer_to(alloc, program, steps, line)?.as_str())?;
-        text.push_str("\n")?;
+        write!(text, "{line}: ")?;
+        add_answer_to(alloc, text, program, steps, line)?;
+        text.push('\n')?;
     }
     Ok(())
 }
 
-/// The answer to the question of a line.
-fn answer_to(
+/// Adds the answer to the question of a line.
+fn add_answer_to(
     alloc: Global,
+    text: &mut String,
     program: &Program,
     steps: &Forms,
     line: &str,
-) -> Result<String, FactsError>
+) -> Result<(), FactsError>
     requires { Sound program.now }
 {
     let (question, count) = match line.split_once(" at ") {
@@ -88,7 +86,7 @@ fn answer_to(
         None => (line, steps.len()),
     };
     let trace = trace_of(alloc, program, steps, count)?;
-    answer(alloc, program, &trace, question)
+    add_answer(alloc, text, program, &trace, question)
 }
 
 fn count_in(word: &str) -> Result<usize, FactsError> {

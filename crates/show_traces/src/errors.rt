@@ -3,16 +3,13 @@ use std::alloc::AllocError;
 use tau_forms::ProgramError;
 use tau_sexpr::FormError;
 use tau_steps::StepError;
-use thiserror::Error;
 
 /// Why no facts are told.
-#[derive(Clone, Copy, Debug, PartialEq, Eq, Error)]
+#[derive(Clone, Copy)]
 pub(crate) enum FactsError {
     /// The input isn't of the shape that is told at the head of the program.
-    #[error("the input is faulty")]
     Faulty,
     /// Memory ran out.
-    #[error("out of memory")]
     NoMemory,
 }
 

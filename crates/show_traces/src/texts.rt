@@ -1,4 +1,7 @@
 //! The texts of answers.
+ghost use Rattle.std.specs.Prelude.{◌<◌};
+ghost use Rattle.tau_trace.specs.Run.{len};
+
 use std::alloc::{AllocError, Global};
 use tau_check::Legality;
 use tau_past::Audit;
@@ -7,85 +10,100 @@ use tau_sexpr::{Forms, print_forms};
 use tau_steps::form_of_step;
 use tau_trace::Trace;
 
-pub(crate) fn number_text(alloc: Global, number: Option<u32>) -> Result<String, AllocError> {
+/// Adds a number, `none` where there is none.
+pub(crate) fn add_number(text: &mut String, number: Option<u32>) -> Result<(), AllocError> {
     match number {
-        Some(number) => format!(in alloc; "{number}"),
-        None => String::from_str(alloc, "none"),
+        Some(number) => write!(text, "{number}"),
+        None => text.push_str("none"),
     }
 }
 
-pub(crate) fn truth_text(alloc: Global, truth: bool) -> Result<String, AllocError> {
-    String::from_str(alloc, if truth { "true" } else { "false" })
+pub(crate) fn add_truth(text: &mut String, truth: bool) -> Result<(), AllocError> {
+    text.push_str(if truth { "true" } else { "false" })
 }
 
-/// The version of a trace and how many steps it has.
-pub(crate) fn version_text(alloc: Global, trace: &Trace) -> Result<String, AllocError> {
+/// Adds the version of a trace and how many steps it has.
+pub(crate) fn add_version(text: &mut String, trace: &Trace) -> Result<(), AllocError> {
     let version = trace.opening().version;
     let steps = trace.len();
-    format!(in alloc; "version {version} {steps}")
+    write!(text, "version {version} {steps}")
 }
 
-fn point_text(alloc: Global, point: &Point) -> Result<String, AllocError> {
+fn add_point(text: &mut String, point: &Point) -> Result<(), AllocError> {
     let Point {
         who,
         interval,
         incarnation,
     } = point;
-    format!(in alloc; "({who} {interval} {incarnation})")
+    write!(text, "({who} {interval} {incarnation})")
 }
 
-/// The points in their order, `none` where there are none.
-pub(crate) fn points_text(alloc: Global, points: &[Point]) -> Result<String, AllocError> {
-    let mut text = String::from_str(alloc, if points.is_empty() { "none" } else { "" })?;
+/// Adds the points in their order, `none` where there are none.
+pub(crate) fn add_points(text: &mut String, points: &[Point]) -> Result<(), AllocError> {
+    if points.is_empty() {
+        return text.push_str("none");
+    }
     for (place, point) in points.iter().enumerate() {
         if place > 0 {
-            text.push_str(" ")?;
+            text.push(' ')?;
         }
-        text.push_str(point_text(alloc, point)?.as_str())?;
+        add_point(text, point)?;
     }
-    Ok(text)
+    Ok(())
 }
 
-pub(crate) fn audit_text(alloc: Global, found: Audit) -> Result<String, AllocError> {
+pub(crate) fn add_audit(text: &mut String, found: Audit) -> Result<(), AllocError> {
     match found {
-        Audit::Safe => String::from_str(alloc, "safe"),
+        Audit::Safe => text.push_str("safe"),
         Audit::Broken {
             checkpoint,
             point,
             fall,
         } => {
-            let point = point_text(alloc, &point)?;
-            format!(in alloc; "broken {checkpoint} {point} {fall}")
+            write!(text, "broken {checkpoint} ")?;
+            add_point(text, &point)?;
+            write!(text, " {fall}")
         }
     }
 }
 
-pub(crate) fn legality_text(alloc: Global, legality: Legality) -> Result<String, AllocError> {
+pub(crate) fn add_legality(text: &mut String, legality: Legality) -> Result<(), AllocError> {
     match legality {
-        Legality::Legal { complete: true } => String::from_str(alloc, "legal complete"),
-        Legality::Legal { complete: false } => String::from_str(alloc, "legal open"),
-        Legality::Bad { place } => format!(in alloc; "bad step {place}"),
+        Legality::Legal { complete: true } => text.push_str("legal complete"),
+        Legality::Legal { complete: false } => text.push_str("legal open"),
+        Legality::Bad { place } => write!(text, "bad step {place}"),
     }
 }
 
-/// The lines of a report, one after another.
-pub(crate) fn report_text(alloc: Global, report: &[u8]) -> Result<String, AllocError> {
-    let mut text = String::new(alloc);
-    for (place, line) in str::from_utf8(report).unwrap_or("").lines().enumerate() {
+/// Adds the lines of a text with a blank between them.
+pub(crate) fn add_lines(text: &mut String, bytes: &[u8]) -> Result<(), AllocError> {
+    for (place, line) in str::from_utf8(bytes).unwrap_or("").lines().enumerate() {
         if place > 0 {
-            text.push_str(" ")?;
+            text.push(' ')?;
         }
         text.push_str(line)?;
     }
-    Ok(text)
+    Ok(())
 }
 
-/// The form of the step at a place, `none` from the length on.
-pub(crate) fn step_text(alloc: Global, trace: &Trace, place: u32) -> Result<String, AllocError> {
+/// Adds the form of the step at a place, `none` from the length on.
+pub(crate) fn add_step(
+    alloc: Global,
+    text: &mut String,
+    trace: &Trace,
+    place: u32,
+) -> Result<(), AllocError> {
     if place >= trace.len() {
-        return String::from_str(alloc, "none");
+        return text.push_str("none");
     }
+    add_lines(text, &step_text(alloc, trace, place)?)
+}
+
+/// The line of the step at a place.
+fn step_text(alloc: Global, trace: &Trace, place: u32) -> Result<Vec<u8>, AllocError>
+    requires { place < len trace.now.run }
+{
     let mut forms = Forms::new(alloc);
     forms.add(form_of_step(alloc, trace, place)?)?;
-    report_text(alloc, &print_forms(alloc, &forms)?)
+    print_forms(alloc, &forms)
 }
