@@ -19,26 +19,45 @@ pub(crate) fn show_heard<V: Shown>(
     verb: &str,
     number: u32,
 ) -> Result<(), AllocError> {
-    let born = system.trace().born();
     match verb {
         "history" | "view" | "message" | "free" | "verdict" => {
             let views: Views<V> = system.views()?;
-            let own = views.view_of(number);
-            match verb {
-                "history" => {
-                    let history = own.and_then(|view| view.history_of(number));
-                    add_history_line(text, number, history)
-                }
-                "view" => add_view(text, born, own),
-                "message" => add_view(text, born, views.message_view(number)),
-                "free" => add_freedom(alloc, text, number, own),
-                _ => {
-                    let verdict = verdict_on(alloc, system, &views, number)?;
-                    add_verdict(text, verdict)
-                }
-            }
+            show_views(alloc, text, system, &views, verb, number)
         }
         _ => add_standing_or_state(text, system, verb, number),
+    }
+}
+
+/// Adds what a call asks of the views of a system.
+fn show_views<V: Shown>(
+    alloc: Global,
+    text: &mut String,
+    system: &System<'_, MarkedHearing>,
+    views: &Views<V>,
+    verb: &str,
+    number: u32,
+) -> Result<(), AllocError>
+    requires { AreViews V.drops_edge V.drops_root system.now.run (held_of V.held views.now.own.items) (letters_of V.held views.now.letters.items) }
+{
+    let own = views.view_of(number);
+    match verb {
+        "history" => add_history_of(text, number, own),
+        "view" => add_view(text, system.trace().born(), own),
+        "message" => add_view(text, system.trace().born(), views.message_view(number)),
+        "free" => add_freedom(alloc, text, number, own),
+        _ => add_verdict(text, verdict_on(alloc, system, views, number)?),
+    }
+}
+
+/// Adds the history of a transactor in its view.
+fn add_history_of<V: Shown>(
+    text: &mut String,
+    who: u32,
+    view: Option<&V>,
+) -> Result<(), AllocError> {
+    match view {
+        Some(view) => add_history_line(text, who, view.history_of(who)),
+        None => add_history_line(text, who, None),
     }
 }
 

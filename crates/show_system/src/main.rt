@@ -3,6 +3,8 @@
 //! was asked for. With `full` the system keeps full views. With `hearing` it keeps numbers of versions, and full views are made anew for
 //! each question. With `both` it keeps full views, and a line tells whether a system that keeps numbers of versions answers the same;
 //! then that one answers by pruned views.
+//!
+//! The status is 3 where the input is no text in UTF-8, 5 or 6 where reading or writing failed, and 7 without memory.
 #![tactic(auto)]
 
 ghost use Rattle.std.specs.Prelude.{IfSome};
@@ -31,105 +33,52 @@ use tau_views::Views;
 
 fn main(rt: HostRuntime) -> ExitCode {
     let alloc = rt.alloc();
-    let mut input = StdSource::new(rt.stdin());
-    let mut output = StdSink::new(rt.stdout());
-    let Ok(bytes) = read_all(alloc, &mut input, 16_777_216) else {
+    let Ok(bytes) = read_all(alloc, &mut StdSource::new(rt.stdin()), 16_777_216) else {
         return ExitCode::from(5);
     };
-    let Ok(text) = text_of(alloc, &bytes) else {
+    let Ok(input) = str::from_utf8(&bytes) else {
+        return ExitCode::from(3);
+    };
+    let Ok(text) = text_of(alloc, input) else {
         return ExitCode::from(7);
     };
-    match write_all_of(&mut output, text.as_bytes()) {
+    match write_all_of(&mut StdSink::new(rt.stdout()), text.as_bytes()) {
         Ok(()) => ExitCode::from(0),
         Err(_) => ExitCode::from(6),
     }
 }
 
 /// The text for all sections.
-fn text_of(alloc: Global, bytes: &[u8]) -> Result<String, AllocError> {
+fn text_of(alloc: Global, input: &str) -> Result<String, AllocError> {
     let mut text = String::new(alloc);
-    let mut rest = bytes;
-    for _ in 0..bytes.len() {
-        let Some((line, after)) = line_of(rest) else {
-            break;
-        };
-        let (section, next) = section_of(after);
-        add_section(alloc, &mut text, line, section)?;
-        rest = next;
+    for section in input.split("# ").skip(1) {
+        add_section(alloc, &mut text, section)?;
     }
     Ok(text)
 }
 
-/// The first line, without its line feed, and what follows it.
-fn line_of(bytes: &[u8]) -> Option<(&[u8], &[u8])> {
-    let end = bytes.iter().position(|byte| *byte == b'\n')?;
-    Some((&bytes[..end], &bytes[end + 1..]))
-}
-
-/// What stands before the first line that begins with `#`, and from there on.
-fn section_of(bytes: &[u8]) -> (&[u8], &[u8]) {
-    let mut at_start = true;
-    for (place, byte) in bytes.iter().enumerate() {
-        if at_start && *byte == b'#' {
-            return (&bytes[..place], &bytes[place..]);
-        }
-        at_start = *byte == b'\n';
-    }
-    (bytes, &bytes[bytes.len()..])
-}
-
-/// What stands before the line `(calls)`, and what follows it.
-fn parts_of(section: &[u8]) -> (&[u8], &[u8]) {
-    let mut at_start = true;
-    for (place, byte) in section.iter().enumerate() {
-        if at_start && *byte == b'(' {
-            if let Some(after) = after_mark(&section[place..]) {
-                return (&section[..place], after);
-            }
-        }
-        at_start = *byte == b'\n';
-    }
-    (section, &section[section.len()..])
-}
-
-/// What follows the first line, where it is `(calls)`.
-fn after_mark(bytes: &[u8]) -> Option<&[u8]> {
-    let (line, after) = line_of(bytes)?;
-    if line == b"(calls)".as_slice() {
-        Some(after)
-    } else {
-        None
-    }
-}
-
 /// Adds the line of a section, and what its calls answer.
-fn add_section(
-    alloc: Global,
-    text: &mut String,
-    line: &[u8],
-    section: &[u8],
-) -> Result<(), AllocError> {
-    let line = str::from_utf8(line).unwrap_or("");
-    writeln!(text, "{line}")?;
-    let (program, calls) = parts_of(section);
-    let Some(program) = program_from(alloc, program) else {
-        return text.push_str("(no program)\n");
-    };
-    let what = line.split_whitespace().nth(1).unwrap_or("");
-    add_answers(alloc, text, what, &program, calls)
+fn add_section(alloc: Global, text: &mut String, section: &str) -> Result<(), AllocError> {
+    let (line, rest) = section.split_once("\n").unwrap_or((section, ""));
+    let (spelled, calls) = rest.split_once("(calls)\n").unwrap_or((rest, ""));
+    writeln!(text, "# {line}")?;
+    match program_from(alloc, spelled.as_bytes()) {
+        Some(program) => add_answers(alloc, text, line, &program, calls),
+        None => text.push_str("(no program)\n"),
+    }
 }
 
-/// Adds what the calls answer on runs of the program of these kinds.
+/// Adds what the calls answer on runs of the program of the kinds that the line of a section names.
 fn add_answers(
     alloc: Global,
     text: &mut String,
-    what: &str,
+    line: &str,
     program: &Program,
-    calls: &[u8],
+    calls: &str,
 ) -> Result<(), AllocError>
     requires { Sound program.now }
 {
-    match what {
+    match line.split_whitespace().next().unwrap_or("") {
         "full" => {
             text.push_str("; full\n")?;
             add_viewed(alloc, text, program, calls)
@@ -166,7 +115,7 @@ fn add_both(
     alloc: Global,
     text: &mut String,
     program: &Program,
-    calls: &[u8],
+    calls: &str,
 ) -> Result<(), AllocError>
     requires { Sound program.now }
 {
@@ -193,12 +142,12 @@ fn add_viewed(
     alloc: Global,
     text: &mut String,
     program: &Program,
-    calls: &[u8],
+    calls: &str,
 ) -> Result<(), AllocError>
     requires { Sound program.now }
 {
     let mut run: Run<Views<FullView>> = Run::open(alloc, program)?;
-    view_calls(alloc, text, &mut run, str::from_utf8(calls).unwrap_or(""))
+    view_calls(alloc, text, &mut run, calls)
 }
 
 /// Makes calls on a run over full views, and adds what they answer.
@@ -222,12 +171,12 @@ fn add_heard<V: Shown>(
     alloc: Global,
     text: &mut String,
     program: &Program,
-    calls: &[u8],
+    calls: &str,
 ) -> Result<(), AllocError>
     requires { Sound program.now }
 {
     let mut run: Run<MarkedHearing> = Run::open(alloc, program)?;
-    hear_calls::<V>(alloc, text, &mut run, str::from_utf8(calls).unwrap_or(""))
+    hear_calls::<V>(alloc, text, &mut run, calls)
 }
 
 /// Makes calls on a run over numbers of versions, and adds what they answer.
@@ -250,11 +199,12 @@ fn hear_calls<V: Shown>(
 fn words_of(line: &str) -> (&str, u32, u32) {
     let mut words = line.split_whitespace();
     let verb = words.next().unwrap_or("");
-    let number = words.next().and_then(number_of).unwrap_or(0);
-    let value = words.next().and_then(number_of).unwrap_or(0);
+    let number = number_of(words.next().unwrap_or(""));
+    let value = number_of(words.next().unwrap_or(""));
     (verb, number, value)
 }
 
-fn number_of(word: &str) -> Option<u32> {
-    word.parse().ok()
+/// The number that a word spells; 0 where it spells none.
+fn number_of(word: &str) -> u32 {
+    word.parse().unwrap_or(0)
 }

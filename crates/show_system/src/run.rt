@@ -1,10 +1,13 @@
 //! A run, and the calls that make its steps.
+ghost use Rattle.std.specs.Prelude.{◌≡◌, ◌<◌, false};
 ghost use Rattle.tau_tree.specs.Sound.{Sound};
+ghost use Rattle.tau_trace.specs.Run.{len};
+ghost use Rattle.tau_value.specs.declared.limits.TheConstants.{STEP_LIMIT};
 
 use crate::answers::Answer;
 use crate::showing::add_step;
 use std::alloc::{AllocError, Global};
-use tau_eval::{Job, begin};
+use tau_eval::{Job, Pending, begin};
 use tau_knowledge::Knowledge;
 use tau_rules::{
     ActError, Acted, DeliverError, Delivered, FailError, LoseError, RepeatError, System,
@@ -43,24 +46,23 @@ impl<'p, K: Knowledge + Drop> Run<'p, K> {
         match verb {
             "run" => self.run(text, number)?,
             "begin" => self.begin(number, value)?,
-            "deliver" | "act" | "fail" | "lose" | "repeat" => {
-                let answer = self.step(verb, number)?;
-                self.tell(text, answer)?;
-            }
-            _ => return Ok(false),
+            _ => return self.step(text, verb, number),
         }
         Ok(true)
     }
 
-    /// Makes a call that makes a step.
-    fn step(&mut self, verb: &str, number: u32) -> Result<Answer, AllocError> {
-        match verb {
-            "deliver" => self.deliver(number),
-            "act" => self.act(number),
-            "fail" => self.fail(number),
-            "lose" => self.lose(number),
-            _ => self.repeat(number),
-        }
+    /// Makes a call that makes a step, and adds what it came to. `false` where the verb names none.
+    fn step(&mut self, text: &mut String, verb: &str, number: u32) -> Result<bool, AllocError> {
+        let answer = match verb {
+            "deliver" => self.deliver(number)?,
+            "act" => self.act(number)?,
+            "fail" => self.fail(number)?,
+            "lose" => self.lose(number)?,
+            "repeat" => self.repeat(number)?,
+            _ => return Ok(false),
+        };
+        self.tell(text, answer)?;
+        Ok(true)
     }
 
     /// Adds what a call came to.
@@ -78,14 +80,11 @@ impl<'p, K: Knowledge + Drop> Run<'p, K> {
 
     /// Delivers a message. The job of the turn that begins is kept.
     fn deliver(&mut self, message: u32) -> Result<Answer, AllocError> {
-        if message >= self.system.trace().sent() || self.system.trace().len() >= STEP_LIMIT {
+        if message >= self.system.trace().sent() || self.is_full() {
             return Ok(Answer::Nothing);
         }
         match self.system.deliver(message) {
-            Ok(Delivered::Began(job)) => {
-                self.jobs.push(job)?;
-                Ok(Answer::Made)
-            }
+            Ok(Delivered::Began(job)) => self.keep(job, Answer::Made),
             Ok(_) => Ok(Answer::Made),
             Err(DeliverError::NotInFlight { ended_by }) => Ok(Answer::NotInFlight { ended_by }),
             Err(DeliverError::Busy { turn }) => Ok(Answer::Busy { turn }),
@@ -104,31 +103,45 @@ impl<'p, K: Knowledge + Drop> Run<'p, K> {
 
     /// Makes the next step of a job. The job with its reply is kept.
     fn act_job(&mut self, job: Job<'p>) -> Result<Answer, AllocError> {
-        let pending = match job.advance() {
-            Ok(pending) => pending,
-            Err((_job, failed)) => return Err(failed),
-        };
-        if self.system.trace().len() >= STEP_LIMIT {
+        let pending = pending_of(job)?;
+        if self.is_full() {
             return Ok(Answer::Nothing);
         }
-        match self.system.act(&pending) {
-            Ok(Acted::Reply(reply)) => {
-                self.jobs.push(pending.resume(reply))?;
-                Ok(Answer::Made)
-            }
+        let acted = self.system.act(&pending);
+        self.go_on(pending, acted)
+    }
+
+    /// Keeps the job that goes on once its effect was brought, where one does.
+    fn go_on(
+        &mut self,
+        pending: Pending<'p>,
+        acted: Result<Acted<'p>, ActError>,
+    ) -> Result<Answer, AllocError> {
+        match acted {
+            Ok(Acted::Reply(reply)) => self.keep(pending.resume(reply), Answer::Made),
             Ok(Acted::TurnOver) => Ok(Answer::Made),
-            Ok(Acted::Redo(job)) => {
-                self.jobs.push(job)?;
-                Ok(Answer::Redone)
-            }
+            Ok(Acted::Redo(job)) => self.keep(job, Answer::Redone),
             Err(ActError::Stale { ended_by }) => Ok(Answer::Stale { ended_by }),
             Err(ActError::NoMemory) => Err(AllocError),
         }
     }
 
+    /// Keeps a job, and hands on the answer.
+    fn keep(&mut self, job: Job<'p>, answer: Answer) -> Result<Answer, AllocError> {
+        self.jobs.push(job)?;
+        Ok(answer)
+    }
+
+    /// Whether the run has as many steps as it may have.
+    fn is_full(&self) -> bool
+        ensures { result ≡ false → len self.now.system.run < STEP_LIMIT }
+    {
+        self.system.trace().len() >= STEP_LIMIT
+    }
+
     /// Lets a transactor fail.
     fn fail(&mut self, who: u32) -> Result<Answer, AllocError> {
-        if who >= self.system.trace().born() || self.system.trace().len() >= STEP_LIMIT {
+        if who >= self.system.trace().born() || self.is_full() {
             return Ok(Answer::Nothing);
         }
         match self.system.fail(who) {
@@ -140,7 +153,7 @@ impl<'p, K: Knowledge + Drop> Run<'p, K> {
 
     /// Loses a message.
     fn lose(&mut self, message: u32) -> Result<Answer, AllocError> {
-        if message >= self.system.trace().sent() || self.system.trace().len() >= STEP_LIMIT {
+        if message >= self.system.trace().sent() || self.is_full() {
             return Ok(Answer::Nothing);
         }
         match self.system.lose(message) {
@@ -155,7 +168,7 @@ impl<'p, K: Knowledge + Drop> Run<'p, K> {
         if self.system.trace().opening().version != 2 {
             return Ok(Answer::Nothing);
         }
-        if message >= self.system.trace().sent() || self.system.trace().len() >= STEP_LIMIT {
+        if message >= self.system.trace().sent() || self.is_full() {
             return Ok(Answer::Nothing);
         }
         match self.system.repeat(message) {
@@ -207,5 +220,13 @@ impl<'p, K: Knowledge + Drop> Run<'p, K> {
             }
         }
         trace.sent()
+    }
+}
+
+/// The effect to which a job comes.
+fn pending_of(job: Job<'_>) -> Result<Pending<'_>, AllocError> {
+    match job.advance() {
+        Ok(pending) => Ok(pending),
+        Err((_job, failed)) => Err(failed),
     }
 }

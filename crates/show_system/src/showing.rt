@@ -7,7 +7,7 @@ use tau_compact::PrunedView;
 use tau_fate::{Freedom, Verdict, free};
 use tau_history::History;
 use tau_knowledge::Knowledge;
-use tau_points::{Point, Relation};
+use tau_points::{Point, PointSet, Relation};
 use tau_rules::{Standing, System};
 use tau_sexpr::{Forms, print_forms};
 use tau_steps::form_of_step;
@@ -131,24 +131,41 @@ pub(crate) fn add_view<V: Shown>(
         return text.push_str("(no view)\n");
     };
     text.push_str("(view")?;
+    add_histories(text, born, view)?;
+    add_edges(text, &view.shown_edges()?)?;
+    add_roots(text, view.roots())?;
+    text.push_str(")\n")
+}
+
+/// Adds the histories of a view, of the transactors below a number.
+fn add_histories<V: Shown>(text: &mut String, born: u32, view: &V) -> Result<(), AllocError> {
     for who in 0..born {
         if view.history_of(who).is_some() {
             text.push(' ')?;
         }
         add_history(text, who, view.history_of(who))?;
     }
-    let edges = view.shown_edges()?;
+    Ok(())
+}
+
+/// Adds the edges of a view.
+fn add_edges(text: &mut String, edges: &Relation) -> Result<(), AllocError> {
     for pair in edges.pairs() {
         text.push_str(" (edge")?;
         add_point(text, &pair.0)?;
         add_point(text, &pair.1)?;
         text.push(')')?;
     }
+    Ok(())
+}
+
+/// Adds the roots of a view.
+fn add_roots(text: &mut String, roots: &PointSet) -> Result<(), AllocError> {
     text.push_str(" (roots")?;
-    for point in view.roots().points() {
+    for point in roots.points() {
         add_point(text, point)?;
     }
-    text.push_str("))\n")
+    text.push(')')
 }
 
 /// Adds whether a transactor is free, by its view.
