@@ -104,25 +104,36 @@ impl<'p, K: Knowledge + Drop> Run<'p, K> {
     /// Makes the next step of a job. The job with its reply is kept.
     fn act_job(&mut self, job: Job<'p>) -> Result<Answer, AllocError> {
         let pending = pending_of(job)?;
-        if self.is_full() {
-            return Ok(Answer::Nothing);
+        match self.bring(&pending) {
+            Ok((answer, reply)) => self.go_on(pending, reply, answer),
+            Err(failed) => Err(failed),
         }
-        let acted = self.system.act(&pending);
-        self.go_on(pending, acted)
     }
 
-    /// Keeps the job that goes on once its effect was brought, where one does.
+    /// Brings an effect. What that came to, and the reply, where the turn goes on with one.
+    fn bring(&mut self, pending: &Pending<'p>) -> Result<(Answer, Option<Value>), AllocError> {
+        if self.is_full() {
+            return Ok((Answer::Nothing, None));
+        }
+        match self.system.act(pending) {
+            Ok(Acted::Reply(reply)) => Ok((Answer::Made, Some(reply))),
+            Ok(Acted::TurnOver) => Ok((Answer::Made, None)),
+            Ok(Acted::Redo(job)) => Ok((self.keep(job, Answer::Redone)?, None)),
+            Err(ActError::Stale { ended_by }) => Ok((Answer::Stale { ended_by }, None)),
+            Err(ActError::NoMemory) => Err(AllocError),
+        }
+    }
+
+    /// Keeps the job that goes on with a reply, where there is one, and hands on the answer.
     fn go_on(
         &mut self,
         pending: Pending<'p>,
-        acted: Result<Acted<'p>, ActError>,
+        reply: Option<Value>,
+        answer: Answer,
     ) -> Result<Answer, AllocError> {
-        match acted {
-            Ok(Acted::Reply(reply)) => self.keep(pending.resume(reply), Answer::Made),
-            Ok(Acted::TurnOver) => Ok(Answer::Made),
-            Ok(Acted::Redo(job)) => self.keep(job, Answer::Redone),
-            Err(ActError::Stale { ended_by }) => Ok(Answer::Stale { ended_by }),
-            Err(ActError::NoMemory) => Err(AllocError),
+        match reply {
+            Some(reply) => self.keep(pending.resume(reply), answer),
+            None => Ok(answer),
         }
     }
 
