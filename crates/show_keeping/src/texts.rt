@@ -1,5 +1,7 @@
 //! Texts of programs, of runs and of records.
+ghost use Rattle.std.specs.Prelude.{◌<◌};
 ghost use Rattle.tau_tree.specs.Sound.{Sound};
+ghost use Rattle.tau_trace.specs.Run.{len};
 
 use std::alloc::{AllocError, Global};
 use tau_sexpr::{Forms, print_forms};
@@ -37,18 +39,21 @@ pub(crate) fn add_program(
 /// Adds the steps of a trace, each with `, ` behind it.
 fn add_steps(alloc: Global, text: &mut String, trace: &Trace) -> Result<(), AllocError> {
     for place in 0..trace.len() {
-        let mut forms = Forms::new(alloc);
-        forms.add(form_of_step(alloc, trace, place)?)?;
-        add_forms(alloc, text, &forms)?;
+        let printed = step_text(alloc, trace, place)?;
+        add_lines(text, &printed)?;
+        text.push_str(", ")?;
     }
     Ok(())
 }
 
-/// Adds forms as they are printed, their lines as one, with `, ` behind them.
-fn add_forms(alloc: Global, text: &mut String, forms: &Forms) -> Result<(), AllocError> {
-    let printed = print_forms(alloc, forms)?;
-    add_lines(text, &printed)?;
-    text.push_str(", ")
+/// The text of a step of a trace.
+fn step_text(alloc: Global, trace: &Trace, place: u32) -> Result<Vec<u8>, AllocError>
+    requires { place < len trace.now.run }
+{
+    let form = form_of_step(alloc, trace, place)?;
+    let mut forms = Forms::new(alloc);
+    forms.add(form)?;
+    print_forms(alloc, &forms)
 }
 
 /// Adds lines, with `; ` between them.
