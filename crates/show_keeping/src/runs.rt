@@ -27,12 +27,25 @@ pub(crate) fn find<D: Disk>(
 {
     match find_legal(alloc, disk) {
         Ok(found) => {
-            add_run(alloc, text, &found.program, &found.trace)?;
-            add_complete(text, found.complete)?;
+            add_judged(alloc, text, &found.program, &found.trace, found.complete)?;
             made(text, Ok(found.journal))
         }
         Err(error) => none(text, error),
     }
+}
+
+/// Adds a program and a run of it, and whether the run is complete.
+fn add_judged(
+    alloc: Global,
+    text: &mut String,
+    program: &Program,
+    trace: &Trace,
+    complete: bool,
+) -> Result<(), AllocError>
+    requires { Sound program.now }
+{
+    add_run(alloc, text, program, trace)?;
+    add_complete(text, complete)
 }
 
 /// Adds whether a run is complete.
