@@ -23,6 +23,7 @@ returns-in-Picture-clause-output c =
         program = input.program;
         run = input.trace.run;
         read = c.in_ok-input.ensures.text;
+        well_formed = c.len-length.ensures.well_formed;
         asked = drawn.0;
         is_text = drawn.1;
       },
