@@ -29,7 +29,7 @@ use Rattle.tau_trace.proofs.Lists.{slice_get-set_same, slice_get-set_other}
 use Rattle.tau_steps.specs.StepForms.{who_form, value_form, IsWritten}
 use Rattle.tau_states.specs.Opening.{opening_states}
 use Rattle.tau_states.proofs.Bounds.{saved_bounded}
-use Rattle.tau_links.specs.Inner.Marks.{IsMarked}
+use Rattle.tau_links.specs.Marks.{IsMarked}
 use Rattle.tau_links.proofs.DependentLemmas.{none_marked}
 use Rattle.tau_explain.specs.Texts.{point_form, chain_forms}
 use Rattle.tau_explain.proofs.TextLemmas as points

@@ -3,6 +3,7 @@
 
 mod cut;
 mod keeping;
+mod kept;
 mod kept_states;
 mod laws;
 mod marking;
@@ -10,6 +11,7 @@ mod parts;
 mod text;
 
 pub use cut::{Cut, Marked};
+pub use kept::kept_places;
 pub use laws::{cut_texts_are_unique, cuts_are_unique};
 pub use marking::greatest;
 pub use text::cut_text;

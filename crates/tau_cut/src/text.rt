@@ -1,19 +1,14 @@
 //! The lines that tell a cut.
-ghost use Rattle.std.specs.Prelude.{◌≡◌, ◌≤◌, ◌<◌, ◌^◌, ◌∷◌, ◌++◌, [], ◌↔◌, ℕ, All, Contains, length, IfOk, OnOk};
+ghost use Rattle.std.specs.Prelude.{◌≡◌, ◌≤◌, ◌<◌, ◌^◌, ◌∷◌, ◌++◌, [], All, length, IfOk, OnOk};
 ghost use Rattle.tau_sexpr.specs.Form.{tree_of};
 ghost use Rattle.tau_sexpr.specs.Printing.{printed};
 ghost use Rattle.tau_sexpr.specs.Tree.{depth_of, depths, HasWords};
 ghost use Rattle.tau_value.specs.Names.{AreNames};
 ghost use Rattle.tau_tree.specs.Sound.{Sound};
-ghost use Rattle.tau_trace.specs.Run.{len};
 ghost use Rattle.tau_script.specs.Openings.{program_opening};
 ghost use Rattle.tau_steps.specs.StepForms.{IsWritten};
 ghost use Rattle.tau_explain.specs.Texts as chains;
-ghost use Rattle.tau_links.specs.Inner.Marks.{IsMarked};
-ghost use Rattle.tau_cut.specs.declared.cut.Marked.TheVariants.{In};
-ghost use Rattle.tau_cut.specs.Cuts.{places_in};
 ghost use Rattle.tau_cut.specs.Texts.{mark_form, mark_forms, IsCutText};
-ghost use Rattle.tau_cut.specs.Inner.Marking.{MarksIn};
 ghost use Rattle.tau_cut.specs.Inner.Keeping as kept_specs;
 ghost use Rattle.tau_cut.specs.Inner.Keeping.{state_row, IsRowWritten, IsRowSmall, AreStateRows};
 
@@ -190,30 +185,6 @@ fn forms_of_states(
     Ok(forms)
 }
 
-/// Marks the place of a mark that is In.
-fn mark_in(mark: &Marked, marks: &mut Vec<bool>)
-    requires { (k : ℕ) → mark.now ≡ In k → k < length marks.old.items }
-    ensures { MarksIn mark.now marks.old.items marks.new.items }
-{
-    match mark {
-        Marked::In { place } => marks[*place as usize] = true,
-        Marked::Out { .. } => {}
-    }
-}
-
-/// A mark for each step: whether the cut has it In.
-fn marks_in(alloc: Global, trace: &Trace, cut: &Cut) -> Result<Vec<bool>, AllocError>
-    requires { All (λ k. k < len trace.now.run) (places_in cut.now) }
-    ensures length { IfOk result (λ v. length v.items ≡ len trace.now.run) }
-    ensures marked { IfOk result (λ v. (k : ℕ) → Contains (places_in cut.now) k ↔ IsMarked v.items k) }
-{
-    let mut marks = vec![in alloc; false; trace.len() as usize]?;
-    for mark in cut.items() {
-        mark_in(mark, &mut marks);
-    }
-    Ok(marks)
-}
-
 /// The text of the greatest consistent set of Checkpoints of a trace (docs/formats.md, "Cuts"), one form a line: the mark of each
 /// Checkpoint, by place, and then for each transactor that is a start or has a Checkpoint marked In the state that is kept of it, by
 /// number. The error is want of memory.
@@ -223,7 +194,7 @@ pub fn cut_text(alloc: Global, program: &Program, trace: &Trace) -> Result<Vec<u
     ensures { IfOk result (λ v. IsCutText program.now trace.now.run v.items) }
 {
     let cut = greatest(alloc, trace)?;
-    let marks = marks_in(alloc, trace, &cut)?;
+    let marks = kept_places(alloc, trace, &cut)?;
     let kept = states_kept(alloc, &program.starts, trace, &marks)?;
     let states = forms_of_states(alloc, trace.opening(), &kept)?;
     let mut text = lines_of_marks(alloc, trace.opening(), &cut)?;

@@ -17,7 +17,7 @@ use Rattle.tau_past.specs.Heard.{Heard, HeardBy, HeardTogether, IsCausallyClosed
 use Rattle.tau_past.specs.Pasts.{Is, FellIn, StabilizedIn, FirmIn}
 use Rattle.tau_past.proofs.HeardLemmas.{heard_sets_closed, sent_touched}
 use Rattle.tau_past.proofs.Safety.{nothing_at_opening}
-use Rattle.tau_links.specs.Inner.Marks.{IsMarked}
+use Rattle.tau_links.specs.Marks.{IsMarked}
 use Rattle.tau_links.specs.Inner.Dependents.{CameTo}
 use Rattle.tau_links.specs.Inner.Linking.{IsFirstChain}
 use Rattle.tau_explain.specs.declared.answers.Why.{Why}

@@ -17,7 +17,7 @@ use Rattle.tau_past.proofs.HeardLemmas.{carried_touched}
 use Rattle.tau_past.proofs.Safety.{no_link}
 use Rattle.tau_links.specs.Links.{Makes, IsLeastMaker, HaveMakers, IsTold, IsFirstTold}
 use Rattle.tau_links.specs.Links as links
-use Rattle.tau_links.specs.Inner.Marks.{IsMarked}
+use Rattle.tau_links.specs.Marks.{IsMarked}
 use Rattle.tau_links.specs.Inner.Dependents.{CameTo, IsLinked}
 use Rattle.tau_links.specs.Inner.Linking.{IsFirstByMarks}
 use Rattle.tau_links.proofs.PushLemmas.{came_at, takes_of, acts_within, makes_within}

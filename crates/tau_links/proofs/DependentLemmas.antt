@@ -15,7 +15,7 @@ use Rattle.tau_trace.proofs.Lists.{same_some, slice_get-set_same, slice_get-set_
 use Rattle.tau_past.specs.declared.carrying.Carrying.{Carrying}
 use Rattle.tau_past.specs.Carried.{Carried}
 use Rattle.tau_past.specs.Tables.{Lists, TellsCarried, CarriedFrom}
-use Rattle.tau_links.specs.Inner.Marks.{IsMarked}
+use Rattle.tau_links.specs.Marks.{IsMarked}
 use Rattle.tau_links.specs.Inner.Rows.{IsRow, TellsRow, touched_by, rests_of, AreRows}
 use Rattle.tau_links.specs.Inner.Dependents.{Takes, IsPassedOn, PassesPlace, known, fresh, Spreads, AddsTakers}
 

@@ -22,7 +22,7 @@ use Rattle.tau_past.specs.Carried.{Carried}
 use Rattle.tau_past.specs.Pasts.{ClosesAt, checkpoint, opening, Everywhere}
 use Rattle.tau_past.specs.Tables.{TakesAt, IsLast, ClosesBefore, TellsEarlier}
 use Rattle.tau_links.specs.Links.{Makes, takes, closes, HaveMakers, points_of}
-use Rattle.tau_links.specs.Inner.Marks.{IsMarked}
+use Rattle.tau_links.specs.Marks.{IsMarked}
 use Rattle.tau_links.specs.Inner.Dependents.{CameTo, IsLinked, Takes, TellsCheckpoint}
 use Rattle.tau_links.specs.Inner.Linking.{TellsNearest, IsUpToLink, IsUpToAny, IsLeastLink, IsLinkAt, TakesNearest, ClosesAtDistance, LinksAtDistance, AreLevels, GoesOnTo, GoOn, GoesTo, GoesDown, IsFirstByMarks}
 use Rattle.tau_links.proofs.PushLemmas.{taker_linked, taker_makes, takes_of, takes_within}

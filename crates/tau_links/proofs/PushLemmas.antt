@@ -29,7 +29,7 @@ use Rattle.tau_past.specs.Tables as tables
 use Rattle.tau_past.proofs.Known.{acts_known}
 use Rattle.tau_past.proofs.NextTables.{interval_small}
 use Rattle.tau_links.specs.Links.{Makes, takes, closes}
-use Rattle.tau_links.specs.Inner.Marks.{IsMarked}
+use Rattle.tau_links.specs.Marks.{IsMarked}
 use Rattle.tau_links.specs.Inner.Dependents.{CameTo, IsLinked, Takes, HasPassed, TellsCheckpoint, AddsTakers, IsBelowNumber, IsUpToNumber, IsAbove}
 
 came_of : (T : Run) (p : Point) → fates.IsReached p.interval p.incarnation (history T p.who (len T)) → CameTo T p

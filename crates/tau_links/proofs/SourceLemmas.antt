@@ -16,7 +16,7 @@ use Rattle.tau_past.specs.Heard.{IsCausallyClosed}
 use Rattle.tau_past.specs.Pasts.{Is, Everywhere}
 use Rattle.tau_past.specs.Tables.{same_point}
 use Rattle.tau_links.specs.Links.{IsMade, IsChainFrom, AreChainsFrom}
-use Rattle.tau_links.specs.Inner.Marks.{IsMarked}
+use Rattle.tau_links.specs.Marks.{IsMarked}
 use Rattle.tau_links.specs.Inner.Dependents.{CameTo, IsLinked}
 use Rattle.tau_links.specs.Inner.Linking.{GoesOnTo, AreNexts, IsDownFrom, AreDown, IsFirstChain, AreFirstChains}
 use Rattle.tau_links.proofs.PushLemmas.{came_at, acts_within}

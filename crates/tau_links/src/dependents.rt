@@ -7,7 +7,7 @@ ghost use Rattle.tau_trace.specs.Run.{len};
 ghost use Rattle.tau_trace.specs.Known.{WellFormed};
 ghost use Rattle.tau_past.specs.declared.carrying.Carrying.{Carrying};
 ghost use Rattle.tau_past.specs.Tables.{same_point};
-ghost use Rattle.tau_links.specs.Inner.Marks.{IsMarked};
+ghost use Rattle.tau_links.specs.Marks.{IsMarked};
 ghost use Rattle.tau_links.specs.Inner.Rows.{AreRows, HasRows};
 ghost use Rattle.tau_links.specs.Inner.Dependents.{IsLinked, Takes, HasPassed, TellsCheckpoint, PassesPlace, AddsTakers, IsUpToNumber, IsAbove, IsReady, CanSearch};
 

@@ -9,7 +9,7 @@ ghost use Rattle.tau_trace.specs.Points.{IsOpeningPoint};
 ghost use Rattle.tau_past.specs.Tables.{same_point};
 ghost use Rattle.tau_links.specs.Inner.Dependents.{IsLinked, TellsCheckpoint};
 ghost use Rattle.tau_links.specs.Links.{IsMade, AreChainsFrom};
-ghost use Rattle.tau_links.specs.Inner.Marks.{IsMarked};
+ghost use Rattle.tau_links.specs.Marks.{IsMarked};
 ghost use Rattle.tau_links.specs.Inner.Linking.{AreLevels, AreNexts, IsDownFrom, AreDown, IsFirstChain, AreFirstChains};
 
 use crate::dependents::{Dependents, checkpoints_of};

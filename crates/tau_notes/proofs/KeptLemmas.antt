@@ -24,7 +24,7 @@ use Rattle.tau_layout.specs.declared.lanes.Lane.{Lane}
 use Rattle.tau_layout.specs.Inner.Laying.{lane_of, lanes_of}
 use Rattle.tau_layout.specs.Lanes.{AreLanes}
 use Rattle.tau_layout.specs.Plans.{Plan, IsRank}
-use Rattle.tau_links.specs.Inner.Marks.{IsMarked}
+use Rattle.tau_links.specs.Marks.{IsMarked}
 use Rattle.tau_cut.specs.declared.cut.Marked.{Marked}
 use Rattle.tau_cut.specs.Cuts.{places_in}
 use Rattle.tau_looks.specs.declared.kinds.EndLook.{EndLook}

@@ -11,10 +11,9 @@ ghost use Rattle.tau_notes.specs.Inner.Keeping.{IsEndingOf, AreEndingsOf};
 
 use crate::keeping::{Kept, kept_of_lanes};
 use std::alloc::{AllocError, Global};
-use tau_cut::Cut;
+use tau_cut::{Cut, kept_places};
 use tau_layout::{Column, Layout};
 use tau_looks::{EndLook, Ending};
-use tau_seen::kept_places;
 use tau_trace::Trace;
 use tau_tree::{Program, Start, Starts};
 use tau_value::Names;

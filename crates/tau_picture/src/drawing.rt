@@ -7,6 +7,7 @@ ghost use Rattle.tau_script.specs.Openings.{program_opening};
 ghost use Rattle.tau_shapes.specs.Windows.{count};
 ghost use Rattle.tau_trace.specs.Run.{len};
 ghost use Rattle.tau_trace.specs.Known.{WellFormed};
+ghost use Rattle.tau_report.specs.Report.{counts_in as counts_of_run};
 ghost use Rattle.tau_layout.specs.Plans.{IsPlan};
 ghost use Rattle.tau_picture.specs.Pictures.{IsDrawn, begin_lines, said_lines, AreCauseLines};
 ghost use Rattle.tau_picture.specs.Inner.Asked.{IsWithin, place_asked, cause_asked};
@@ -27,6 +28,7 @@ use tau_looks::Looks;
 use tau_marks::{put_marks, put_rows};
 use tau_notes::looks_of;
 use tau_past::Index;
+use tau_report::{Counts, counts_in};
 use tau_shapes::{put_begin, put_legend, put_paper, put_style, put_symbols, put_title};
 use tau_spots::put_guides;
 use tau_trace::Trace;
@@ -111,18 +113,18 @@ fn put_top(
     alloc: Global,
     out: &mut Vec<u8>,
     trace: &Trace,
-    index: &Index,
+    counts: Counts,
     layout: &Layout,
     cut: &Cut,
     asked: &Asked,
 ) -> Result<(), AllocError>
-    requires index { index.now ≡ trace.now.run }
+    requires counts { counts ≡ counts_of_run trace.now.run }
     requires asked { IsWithin trace.now.run asked.now }
     ensures lines { OnOk result (out.new.items ≡ with_lines out.old.items (top_lines trace.now.run layout.now cut.now asked.now)) }
     ensures well_formed { OnOk result (WellFormed trace.now.run) }
 {
     put_begin_lines(out, trace, layout)?;
-    put_heading(out, trace, layout.window(), cut, index)?;
+    put_heading(out, trace, layout.window(), cut, counts)?;
     put_asked(alloc, out, trace, asked)?;
     Ok(())
 }
@@ -199,8 +201,9 @@ pub fn draw(
     let index = Index::of(alloc, trace)?;
     let layout = layout_of(alloc, trace, from, to)?;
     let looks = looks_of(alloc, program, trace, &index, &layout, &cut)?;
+    let counts = counts_in(alloc, program, trace)?;
     let mut out = Vec::new(alloc);
-    put_top(alloc, &mut out, trace, &index, &layout, &cut, &asked)?;
+    put_top(alloc, &mut out, trace, counts, &layout, &cut, &asked)?;
     put_middle(alloc, &mut out, program, trace, &index, &layout, &looks)?;
     put_rest(alloc, &mut out, trace, &layout, &looks, &asked)?;
     Ok(Drawn::Picture(out))

@@ -2,16 +2,16 @@
 ghost use Rattle.std.specs.Prelude.{◌≡◌, ◌≤◌, ◌<◌, length, OnOk};
 ghost use Rattle.tau_markup.specs.Lines.{with_pieces, with_line, with_lines};
 ghost use Rattle.tau_shapes.specs.Shapes as shapes;
+ghost use Rattle.tau_report.specs.Report.{counts_in};
 ghost use Rattle.tau_cut.specs.Cuts.{places_in};
 ghost use Rattle.tau_picture.specs.Headings as headings;
 ghost use Rattle.tau_picture.specs.Headings.{heading_lines, size_line};
 ghost use Rattle.tau_picture.specs.Inner.Counting.{one_in, counts_text};
 
-use crate::counts::{Counts, counts_in};
 use std::alloc::AllocError;
 use tau_cut::{Cut, Marked};
 use tau_markup::{close, number, plain};
-use tau_past::Index;
+use tau_report::Counts;
 use tau_shapes::{Window, text_at};
 use tau_trace::Trace;
 
@@ -124,11 +124,11 @@ pub(crate) fn put_heading(
     trace: &Trace,
     window: Window,
     cut: &Cut,
-    index: &Index,
+    counts: Counts,
 ) -> Result<(), AllocError>
-    requires { index.now ≡ trace.now.run }
+    requires { counts ≡ counts_in trace.now.run }
     ensures { OnOk result (out.new.items ≡ with_lines out.old.items (heading_lines trace.now.run window cut.now)) }
 {
     put_size_line(out, trace, window)?;
-    put_counts(out, counts_in(trace, index), kept_in(cut))
+    put_counts(out, counts, kept_in(cut))
 }

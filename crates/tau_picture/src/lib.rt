@@ -3,7 +3,6 @@
 
 mod asking;
 mod chain;
-mod counts;
 mod drawing;
 mod heading;
 pub mod laws;

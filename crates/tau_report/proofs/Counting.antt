@@ -14,8 +14,8 @@ use Rattle.tau_trace.proofs.Agreement.{agree_appended, agree_below, step_at-appe
 use Rattle.tau_trace.proofs.Indexing.{len-appended}
 use Rattle.tau_states.specs.Table.{opened_run}
 use Rattle.tau_report.specs.declared.counts.Counts.{Counts}
-use Rattle.tau_report.specs.Report.{steps_with, is_hold, is_drop, is_lose, falls_at, falling_steps}
-use Rattle.tau_report.specs.Inner.Counted.{counts_in, no_counts, one_if, counts_after, AreFew}
+use Rattle.tau_report.specs.Report.{steps_with, is_hold, is_drop, is_lose, falls_at, falling_steps, counts_in}
+use Rattle.tau_report.specs.Inner.Counted.{no_counts, one_if, counts_after, AreFew}
 
 abbrev passes : (Step → Bool) → Option Step → Bool
 passes test o = option_map_or test o false

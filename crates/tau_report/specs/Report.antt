@@ -17,6 +17,7 @@ use Rattle.tau_trace.specs.Histories.{history, IsLiving, move_at, is_fall}
 use Rattle.tau_steps.specs.StepForms.{who_form, value_form}
 use Rattle.tau_past.specs.States.{SavedWith}
 use Rattle.tau_states.specs.Opening.{opening_states}
+use Rattle.tau_report.specs.declared.counts.Counts.{Counts}
 
 -- transactor t has a saved state after the trace: it is at interval 1 or more, and it has not ended
 pub record HasSaved (T : Run) (t : ℕ) : Type 0 where
@@ -62,6 +63,16 @@ falls_at T k = option_map_or (λ t. is_fall (move_at T t k)) (option_and_then ac
 -- how many falling steps the trace has
 abbrev pub falling_steps : Run → ℕ
 falling_steps T = count_below (falls_at T) (len T)
+
+-- the counts of a run
+abbrev pub counts_in : Run → Counts
+counts_in T = record {
+  checkpoints = steps_with is_checkpoint T;
+  holds = steps_with is_hold T;
+  drops = steps_with is_drop T;
+  falls = falling_steps T;
+  losses = steps_with is_lose T;
+}
 
 -- one count with its word
 abbrev pub count_of : List ℕ → ℕ → Tree

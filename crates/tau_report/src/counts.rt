@@ -9,12 +9,12 @@ use tau_trace::Step;
 /// How many steps are a Checkpoint, a Hold, a Drop, a falling step of any kind, and a Lose (docs/definitions.md,
 /// "Report").
 #[derive(Clone, Copy)]
-pub(crate) struct Counts {
-    pub(crate) checkpoints: u32,
-    pub(crate) holds: u32,
-    pub(crate) drops: u32,
-    pub(crate) falls: u32,
-    pub(crate) losses: u32,
+pub struct Counts {
+    pub checkpoints: u32,
+    pub holds: u32,
+    pub drops: u32,
+    pub falls: u32,
+    pub losses: u32,
 }
 
 impl Counts {

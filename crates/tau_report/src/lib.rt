@@ -8,4 +8,6 @@ mod saved;
 mod survey;
 mod writing;
 
+pub use counts::Counts;
+pub use survey::counts_in;
 pub use writing::{counts_form, report, report_forms};

@@ -4,16 +4,17 @@ ghost use Rattle.tau_value.specs.declared.shared.Value.{Value};
 ghost use Rattle.tau_trace.specs.Run.{Run, len, appended};
 ghost use Rattle.tau_trace.specs.Histories.{move_of, is_fall};
 ghost use Rattle.tau_trace.specs.Known.{MayFollow, WellFormed};
+ghost use Rattle.tau_script.specs.Openings.{program_opening};
 ghost use Rattle.tau_states.specs.Opening.{opening_states};
 ghost use Rattle.tau_states.specs.Table.{Holds};
-ghost use Rattle.tau_report.specs.Report.{falls_at};
+ghost use Rattle.tau_report.specs.Report.{counts_in as counts_of_run, falls_at};
 ghost use Rattle.tau_report.specs.Inner.Counted.{AreFew, IsSurvey, AdvancesSurvey};
 
 use crate::counts::Counts;
 use std::alloc::{AllocError, Global};
 use tau_states::States;
 use tau_trace::{Step, Trace};
-use tau_tree::Starts;
+use tau_tree::{Program, Starts};
 
 /// The states and the counts after a run.
 #[derive(Drop)]
@@ -50,6 +51,16 @@ pub(crate) fn survey_of(alloc: Global, starts: &Starts, trace: &Trace) -> Result
         }
     }
     Ok(survey)
+}
+
+/// How many steps of a trace are a Checkpoint, a Hold, a Drop, a falling step of any kind, and a Lose (docs/definitions.md,
+/// "Report"). It passes over the trace once. The error is want of memory.
+pub fn counts_in(alloc: Global, program: &Program, trace: &Trace) -> Result<Counts, AllocError>
+    requires { trace.now.run.opening ≡ program_opening program.now }
+    ensures { IfOk result (λ c. c ≡ counts_of_run trace.now.run) }
+{
+    let survey = survey_of(alloc, &program.starts, trace)?;
+    Ok(survey.counts)
 }
 
 /// Whether a step, made next, is a falling step (docs/definitions.md, "Falling step").

@@ -17,7 +17,7 @@ use Rattle.tau_past.specs.declared.made.Made.{Made}
 use Rattle.tau_past.specs.Audits.{ChecksAt}
 use Rattle.tau_past.specs.Safety.{RolledBack}
 use Rattle.tau_past.specs.Tables.{TellsMade}
-use Rattle.tau_links.specs.Inner.Marks.{IsMarked}
+use Rattle.tau_links.specs.Marks.{IsMarked}
 use Rattle.tau_seen.proofs.Collecting.{longer}
 use Rattle.tau_trace.proofs.Lists.{slice_get-push_cases}
 use Rattle.tau_cut.specs.declared.cut.Marked.{Marked}

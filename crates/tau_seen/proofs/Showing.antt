@@ -15,7 +15,7 @@ use Rattle.tau_past.specs.Audits.{ChecksAt}
 use Rattle.tau_past.specs.Safety.{RolledBack}
 use Rattle.tau_layout.specs.declared.lanes.Lane.{Lane}
 use Rattle.tau_layout.specs.Plans.{Plan}
-use Rattle.tau_links.specs.Inner.Marks.{IsMarked}
+use Rattle.tau_links.specs.Marks.{IsMarked}
 use Rattle.tau_links.specs.Links.{IsMade}
 use Rattle.tau_links.proofs.PushLemmas.{checks_who}
 use Rattle.tau_trace.proofs.PointLemmas.{no_return}

@@ -8,11 +8,10 @@ ghost use Rattle.tau_cut.specs.Cuts.{IsCut};
 ghost use Rattle.tau_seen.specs.Inner.Resting.{AreGrounds, CarriesFallen, IsTold};
 
 use crate::fallen::fallen_points;
-use crate::kept::kept_places;
 use crate::resting::resting_among;
 use crate::sources::Source;
 use std::alloc::{AllocError, Global};
-use tau_cut::Cut;
+use tau_cut::{Cut, kept_places};
 use tau_past::{Index, carried};
 use tau_points::{Point, PointSet};
 use tau_trace::Trace;

@@ -5,7 +5,6 @@ mod asking;
 mod causes;
 mod fallen;
 mod grounds;
-mod kept;
 mod marks;
 mod resting;
 mod shown;
@@ -13,6 +12,5 @@ mod sources;
 mod states;
 
 pub use causes::cause_at;
-pub use kept::kept_places;
 pub use marks::StepMark;
 pub use shown::{Shown, show};

@@ -4,7 +4,7 @@ ghost use Rattle.tau_points.specs.declared.point.Point.{Point};
 ghost use Rattle.tau_trace.specs.Run.{Run};
 ghost use Rattle.tau_trace.specs.Known.{WellFormed};
 ghost use Rattle.tau_past.specs.Safety.{RolledBack};
-ghost use Rattle.tau_links.specs.Inner.Marks.{IsMarked};
+ghost use Rattle.tau_links.specs.Marks.{IsMarked};
 ghost use Rattle.tau_cut.specs.declared.cut.Marked.{Marked};
 ghost use Rattle.tau_courses.specs.States.{IsState};
 ghost use Rattle.tau_seen.specs.Looks.{IsStateLook, RestsOnFallen};

@@ -20,7 +20,7 @@ use Rattle.tau_states.specs.declared.state_record.StateRecord.{StateRecord}
 use Rattle.tau_states.specs.Opening.{opening_states}
 use Rattle.tau_chains.specs.declared.chained.Chained.{Chained}
 use Rattle.tau_explain.specs.Texts.{chain_forms}
-use Rattle.tau_links.specs.Inner.Marks.{IsMarked}
+use Rattle.tau_links.specs.Marks.{IsMarked}
 use Rattle.tau_cut.specs.declared.kept_states.Kept.{Kept}
 use Rattle.tau_cut.specs.KeptStates.{StateForms}
 

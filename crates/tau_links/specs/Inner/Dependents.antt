@@ -11,7 +11,7 @@ use Rattle.tau_past.specs.Carried.{Carried}
 use Rattle.tau_past.specs.Audits.{ChecksAt}
 use Rattle.tau_past.specs.Tables.{TakesAt}
 use Rattle.tau_links.specs.Links.{Makes}
-use Rattle.tau_links.specs.Inner.Marks.{IsMarked}
+use Rattle.tau_links.specs.Marks.{IsMarked}
 use Rattle.tau_links.specs.Inner.Rows.{touched_by, rests_of, AreRows}
 
 -- p's transactor came to p in the trace: at p's interval it had p's incarnation or a later one

@@ -12,7 +12,7 @@ use Rattle.tau_trace.specs.Points.{point_at}
 use Rattle.tau_past.specs.Carried.{Carried}
 use Rattle.tau_past.specs.Tables.{Lists}
 use Rattle.tau_links.specs.Links.{IsLeastMaker, IsTold, points_of}
-use Rattle.tau_links.specs.Inner.Marks.{IsMarked}
+use Rattle.tau_links.specs.Marks.{IsMarked}
 use Rattle.tau_links.specs.Inner.Dependents.{IsLinked, Takes, TellsCheckpoint}
 
 -- the nearest of the points that the step at place k carries

@@ -15,7 +15,7 @@ use Rattle.tau_layout.specs.declared.lanes.Lane.{Lane}
 use Rattle.tau_layout.specs.Plans.{Plan}
 use Rattle.tau_looks.specs.declared.looks.Ending.{Ending}
 use Rattle.tau_looks.specs.declared.kinds.EndLook.TheVariants as ends
-use Rattle.tau_links.specs.Inner.Marks.{IsMarked}
+use Rattle.tau_links.specs.Marks.{IsMarked}
 use Rattle.tau_words.specs.Texts.{kept_text, opened_text, nothing_text}
 use Rattle.tau_notes.specs.declared.keeping.Kept.{Kept}
 use Rattle.tau_notes.specs.Inner.Noting.{first_steps}

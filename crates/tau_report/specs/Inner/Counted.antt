@@ -9,17 +9,7 @@ use Rattle.tau_trace.specs.Known.{MayFollow, WellFormed}
 use Rattle.tau_states.specs.declared.state_record.StateRecord.{StateRecord}
 use Rattle.tau_states.specs.Table.{Holds}
 use Rattle.tau_report.specs.declared.counts.Counts.{Counts}
-use Rattle.tau_report.specs.Report.{steps_with, is_hold, is_drop, is_lose, falling_steps}
-
--- the counts of a run
-abbrev pub counts_in : Run → Counts
-counts_in T = record {
-  checkpoints = steps_with is_checkpoint T;
-  holds = steps_with is_hold T;
-  drops = steps_with is_drop T;
-  falls = falling_steps T;
-  losses = steps_with is_lose T;
-}
+use Rattle.tau_report.specs.Report.{is_hold, is_drop, is_lose, counts_in}
 
 abbrev pub no_counts : Counts
 no_counts = record { checkpoints = 0; holds = 0; drops = 0; falls = 0; losses = 0 }

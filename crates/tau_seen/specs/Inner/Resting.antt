@@ -9,7 +9,7 @@ use Rattle.tau_past.specs.Carried.{Carried}
 use Rattle.tau_past.specs.Audits.{ChecksAt}
 use Rattle.tau_past.specs.Safety.{RolledBack}
 use Rattle.tau_links.specs.Links.{IsMade}
-use Rattle.tau_links.specs.Inner.Marks.{IsMarked}
+use Rattle.tau_links.specs.Marks.{IsMarked}
 use Rattle.tau_cut.specs.declared.cut.Marked.{Marked}
 use Rattle.tau_cut.specs.Cuts.{places_in}
 use Rattle.tau_courses.specs.declared.states.State.{State}

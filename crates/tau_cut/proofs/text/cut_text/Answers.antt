@@ -6,11 +6,8 @@ use Rattle.tau_states.specs.Opening.{opening_states}
 use Rattle.tau_cut.specs.declared.kept_states.Kept.{Kept}
 use Rattle.tau_cut.specs.Texts.{mark_forms}
 use Rattle.tau_cut.specs.Inner.Keeping.{AreStateRows, AreKept}
-use Rattle.tau_cut.proofs.LineLemmas.{ins_fit, whole_text, rows_printable, few_kept}
+use Rattle.tau_cut.proofs.LineLemmas.{whole_text, rows_printable, few_kept}
 use Rattle.tau_cut.proofs.text.cut_text.Goals as goal
-
-pub marks_in-requires : goal.marks_in-requires
-marks_in-requires c = ins_fit c.args.trace.now.run c.in_ok-cut.cut c.in_ok-cut.ensures
 
 pub states_kept-requires-clause-marks : goal.states_kept-requires-clause-marks
 states_kept-requires-clause-marks c = ap (λ (l : List Bool). length l) c.deref.ensures.value ∙ c.in_ok-marks.ensures.length

@@ -1,9 +1,9 @@
 use Rattle.std.proofs.Common.{◌≡◌, ◌↔◌, ℕ, length, take}
 use Rattle.std.specs.Prelude.{Contains}
 use Rattle.tau_trace.specs.Run.{len}
-use Rattle.tau_links.specs.Inner.Marks.{IsMarked}
+use Rattle.tau_links.specs.Marks.{IsMarked}
 use Rattle.tau_cut.specs.declared.cut.Marked.TheVariants.{In}
-use Rattle.tau_seen.proofs.kept.kept_places.Given as goal
+use Rattle.tau_cut.proofs.kept.kept_places.Given as goal
 
 abbrev pub invariant-loop-mark : goal.invariant-loop-mark
 invariant-loop-mark l = record {

@@ -1,13 +1,13 @@
 //! The places that a cut holds.
 ghost use Rattle.std.specs.Prelude.{◌≡◌, ◌↔◌, ◌<◌, ℕ, Contains, IfOk, length};
 ghost use Rattle.tau_trace.specs.Run.{len};
-ghost use Rattle.tau_links.specs.Inner.Marks.{IsMarked};
+ghost use Rattle.tau_links.specs.Marks.{IsMarked};
 ghost use Rattle.tau_cut.specs.declared.cut.Marked.TheVariants.{In};
 ghost use Rattle.tau_cut.specs.Cuts.{places_in, IsCut};
 ghost use Rattle.tau_cut.specs.Inner.Marking.{MarksIn};
 
+use crate::{Cut, Marked};
 use std::alloc::{AllocError, Global};
-use tau_cut::{Cut, Marked};
 use tau_trace::Trace;
 
 /// Marks the place of a mark that is In.
