@@ -1,5 +1,5 @@
 //! Disks in memory.
-use crate::playing::find;
+use crate::playing::look;
 use std::alloc::{AllocError, Global};
 use tau_disk::MemoryDisk;
 
@@ -43,29 +43,31 @@ pub(crate) fn zeros_of(alloc: Global, title: &str) -> Result<MemoryDisk, AllocEr
     Ok(MemoryDisk::new(alloc, bytes, Vec::new(alloc)))
 }
 
-/// Adds what is found where each write among the first calls of a disk was stopped.
+/// Adds what the call that a title names finds where each write among the first calls of a disk was stopped.
 pub(crate) fn add_stops(
     alloc: Global,
     text: &mut String,
     title: &str,
     disk: &MemoryDisk,
 ) -> Result<(), AllocError> {
-    for call in 0..number_at(title, 1) {
+    let verb = title.split_whitespace().nth(1).unwrap_or("");
+    for call in 0..number_at(title, 2) {
         if let Some(len) = disk.write_len(call) {
-            add_stop(alloc, text, disk, call, 0)?;
+            add_stop(alloc, text, verb, disk, call, 0)?;
             if len > 1 {
-                add_stop(alloc, text, disk, call, 1)?;
+                add_stop(alloc, text, verb, disk, call, 1)?;
             }
-            add_stop(alloc, text, disk, call, len)?;
+            add_stop(alloc, text, verb, disk, call, len)?;
         }
     }
     Ok(())
 }
 
-/// Adds what is found where a write was stopped behind so many bytes, of which it may have fewer.
+/// Adds what a call finds where a write was stopped behind so many bytes, of which it may have fewer.
 fn add_stop(
     alloc: Global,
     text: &mut String,
+    verb: &str,
     disk: &MemoryDisk,
     call: u32,
     kept: usize,
@@ -74,7 +76,7 @@ fn add_stop(
         let kept = kept.min(len);
         let mut left = disk.stopped(call, kept)?;
         write!(text, "call {call} stopped behind {kept}: ")?;
-        find(alloc, text, &mut left)?;
+        look(alloc, text, &mut left, verb, "")?;
     }
     Ok(())
 }

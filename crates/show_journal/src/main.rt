@@ -1,20 +1,35 @@
-//! Journals on disks, with what they answer. Standard input has sections: a line `# DISK`, and calls, one a line. For each section
-//! the line is written, and each call with its answer. DISK is
+//! Journals on disks, of records and of runs, with what calls answer. Standard input has sections: a line `# DISK`, and calls, one
+//! a line. For each section the line is written, and each call with its answer. DISK is
 //! - `disk BYTE..`: a disk in memory of these bytes;
 //! - `fails CALL BYTE..`: the same, whose call CALL fails;
 //! - `zeros COUNT`: a disk in memory of so many zeros;
-//! - `stops CALLS BYTE..`: a disk in memory of these bytes; behind the answers, for each write among the first CALLS calls, what is
-//!   found where it was stopped before its first byte, behind it and behind its last;
+//! - `stops LOOK CALLS BYTE..`: a disk in memory of these bytes; behind the answers, for each write among the first CALLS calls, what
+//!   the call LOOK finds where it was stopped before its first byte, behind it and behind its last;
 //! - `file`: the file `tau.journal` of the present folder.
 //!
-//! The calls are `create`, `append`, `mark` and `find`; `create` and `append` have a record behind them, of lines with `; ` between
-//! them. A call for which there is no journal, since none was made or found, or since a call failed, answers `no journal`.
+//! The calls are:
+//! - `create PROGRAM`: makes a journal of the program, of forms with `; ` between them;
+//! - `full COUNT PROGRAM`: the same, of the program with so many entries `(at 9 (fail 0))` behind its forms;
+//! - `begin RECORD`: makes a journal whose one record has these lines, with `; ` between them;
+//! - `append RECORD`: appends a record, whatever it is;
+//! - `keep STEP`: finds the run, and keeps it with this step;
+//! - `mark`: appends the record that the run went on;
+//! - `records`: finds the records, whatever they are;
+//! - `read`: finds the run, whether its steps are legal or not;
+//! - `find`: finds the run, whose steps must be legal, and tells whether it is complete;
+//! - `revive`: finds the run, and where it isn't complete revives it.
+//!
+//! `append` and `mark` go on with the journal that the call before left; where it left none, they answer `no journal`.
 //!
 //! The status is 3 where the input is no text in UTF-8, 5 or 6 where reading or writing failed, and 7 without memory.
 #![tactic(auto)]
 
 mod disks;
+mod making;
 mod playing;
+mod records;
+mod runs;
+mod texts;
 
 use crate::disks::{add_stops, disk_of, zeros_of};
 use crate::playing::play;
@@ -68,12 +83,20 @@ fn add_section<R: Files<File = File>>(
         "disk" => play(alloc, text, &mut disk_of(alloc, title, 1, false)?, lines),
         "fails" => play(alloc, text, &mut disk_of(alloc, title, 2, true)?, lines),
         "zeros" => play(alloc, text, &mut zeros_of(alloc, title)?, lines),
-        "stops" => {
-            let mut disk = disk_of(alloc, title, 2, false)?;
-            play(alloc, text, &mut disk, lines)?;
-            add_stops(alloc, text, title, &disk)
-        }
+        "stops" => play_stopped(alloc, text, title, lines),
         "file" => play(alloc, text, &mut FileDisk::new(files), lines),
         _ => text.push_str("no such disk\n"),
     }
+}
+
+/// Adds what calls answer, and what is found where each write was stopped.
+fn play_stopped(
+    alloc: Global,
+    text: &mut String,
+    title: &str,
+    lines: &str,
+) -> Result<(), AllocError> {
+    let mut disk = disk_of(alloc, title, 3, false)?;
+    play(alloc, text, &mut disk, lines)?;
+    add_stops(alloc, text, title, &disk)
 }

@@ -1,11 +1,16 @@
-//! Calls of a journal on any disk.
+//! Calls of journals on any disk.
 ghost use Rattle.std.specs.Prelude.{◌≡◌, Ok, IfOk, IfSome};
 ghost use Rattle.tau_journal.specs.Records.{IsAtRest};
 ghost use Rattle.tau_journal.specs.Gates.{gate_of};
 
+use crate::making::{begin, create};
+use crate::records::records;
+use crate::runs::{find, keep, read, revive_found};
+use crate::texts::{full_of, lines_of};
 use std::alloc::{AllocError, Global};
 use tau_disk::Disk;
-use tau_journal::{Journal, JournalError, Records};
+use tau_journal::{Journal, JournalError};
+use tau_keeping::keep_mark;
 
 /// Makes the call of each line on a disk, and adds what it answers.
 pub(crate) fn play<D: Disk>(
@@ -34,17 +39,16 @@ fn call<D: Disk>(
     ensures { IfOk result (λ o. IfSome o (λ j. IsAtRest (D.bytes disk.new) (D.images disk.new) (gate_of j))) }
 {
     let (verb, rest) = line.split_once(" ").unwrap_or((line, ""));
-    let entry = entry_of(alloc, rest)?;
     match verb {
-        "create" => made(text, Journal::create(alloc, disk, entry.as_bytes())),
-        "find" => find(alloc, text, disk),
-        _ => match journal {
-            Some(journal) => go_on(alloc, text, disk, journal, verb, &entry),
+        "append" | "mark" => match journal {
+            Some(journal) => go_on(alloc, text, disk, journal, verb, rest),
             None => {
                 text.push_str("no journal\n")?;
                 Ok(None)
             }
         },
+        "create" | "full" | "begin" => make(alloc, text, disk, verb, rest),
+        _ => look(alloc, text, disk, verb, rest),
     }
 }
 
@@ -55,14 +59,51 @@ fn go_on<D: Disk>(
     disk: &mut D,
     journal: Journal,
     verb: &str,
-    entry: &String,
+    rest: &str,
 ) -> Result<Option<Journal>, AllocError>
     requires { IsAtRest (D.bytes disk.old) (D.images disk.old) (gate_of journal) }
     ensures { IfOk result (λ o. IfSome o (λ j. IsAtRest (D.bytes disk.new) (D.images disk.new) (gate_of j))) }
 {
+    if verb == "mark" {
+        return made(text, keep_mark(journal, alloc, disk));
+    }
+    let record = lines_of(alloc, rest)?;
+    made(text, journal.append(alloc, disk, record.as_bytes()))
+}
+
+/// Makes a journal.
+fn make<D: Disk>(
+    alloc: Global,
+    text: &mut String,
+    disk: &mut D,
+    verb: &str,
+    rest: &str,
+) -> Result<Option<Journal>, AllocError>
+    ensures { IfOk result (λ o. IfSome o (λ j. IsAtRest (D.bytes disk.new) (D.images disk.new) (gate_of j))) }
+{
     match verb {
-        "append" => made(text, journal.append(alloc, disk, entry.as_bytes())),
-        "mark" => made(text, journal.mark(alloc, disk)),
+        "create" => create(alloc, text, disk, &lines_of(alloc, rest)?),
+        "full" => create(alloc, text, disk, &full_of(alloc, rest)?),
+        _ => begin(alloc, text, disk, &lines_of(alloc, rest)?),
+    }
+}
+
+/// Makes a call that finds what is on the disk first.
+pub(crate) fn look<D: Disk>(
+    alloc: Global,
+    text: &mut String,
+    disk: &mut D,
+    verb: &str,
+    rest: &str,
+) -> Result<Option<Journal>, AllocError>
+    ensures { IfOk result (λ o. IfSome o (λ j. IsAtRest (D.bytes disk.new) (D.images disk.new) (gate_of j))) }
+{
+    match verb {
+        "records" => records(alloc, text, disk),
+        "find" => find(alloc, text, disk),
+        "read" => read(alloc, text, disk),
+        "keep" => keep(alloc, text, disk, rest),
+        "revive" => revive_found(alloc, text, disk),
         _ => {
             text.push_str("no such call\n")?;
             Ok(None)
@@ -70,8 +111,8 @@ fn go_on<D: Disk>(
     }
 }
 
-/// Adds the place of the gate of a journal that was made, or why none was.
-fn made(
+/// Adds the place of the gate of a journal that was left, or why none was.
+pub(crate) fn made(
     text: &mut String,
     answer: Result<Journal, JournalError>,
 ) -> Result<Option<Journal>, AllocError>
@@ -88,62 +129,4 @@ fn made(
             Ok(None)
         }
     }
-}
-
-/// Adds the records that are found on a disk, or why none are.
-pub(crate) fn find<D: Disk>(
-    alloc: Global,
-    text: &mut String,
-    disk: &mut D,
-) -> Result<Option<Journal>, AllocError>
-    ensures { IfOk result (λ o. IfSome o (λ j. IsAtRest (D.bytes disk.new) (D.images disk.new) (gate_of j))) }
-{
-    match Journal::find(alloc, disk) {
-        Ok((journal, records)) => {
-            add_records(text, &records)?;
-            let gate = journal.gate();
-            writeln!(text, "gate at {gate}")?;
-            Ok(Some(journal))
-        }
-        Err(error) => {
-            writeln!(text, "{error}")?;
-            Ok(None)
-        }
-    }
-}
-
-/// Adds records, each with `, ` behind it and its lines as one.
-fn add_records(text: &mut String, records: &Records) -> Result<(), AllocError> {
-    for k in 0..records.len() {
-        if let Some(record) = records.item(k) {
-            add_record(text, record)?;
-            text.push_str(", ")?;
-        }
-    }
-    Ok(())
-}
-
-/// Adds a record.
-fn add_record(text: &mut String, record: &[u8]) -> Result<(), AllocError> {
-    match str::from_utf8(record) {
-        Ok(lines) => {
-            for (k, line) in lines.lines().enumerate() {
-                if k > 0 {
-                    text.push_str("; ")?;
-                }
-                text.push_str(line)?;
-            }
-            Ok(())
-        }
-        Err(_) => text.push_str("bytes"),
-    }
-}
-
-/// The record of a line: each part with a line feed.
-fn entry_of(alloc: Global, parts: &str) -> Result<String, AllocError> {
-    let mut entry = String::new(alloc);
-    for part in parts.split("; ") {
-        writeln!(&mut entry, "{part}")?;
-    }
-    Ok(entry)
 }

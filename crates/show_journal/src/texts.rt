@@ -57,7 +57,7 @@ fn step_text(alloc: Global, trace: &Trace, place: u32) -> Result<Vec<u8>, AllocE
 }
 
 /// Adds lines, with `; ` between them.
-fn add_lines(text: &mut String, bytes: &[u8]) -> Result<(), AllocError> {
+pub(crate) fn add_lines(text: &mut String, bytes: &[u8]) -> Result<(), AllocError> {
     match str::from_utf8(bytes) {
         Ok(lines) => {
             for (k, line) in lines.lines().enumerate() {
