@@ -15,8 +15,11 @@ def place(name):
 def prove(name="tau"):
     """Proves and builds the program tau, and behind it the program of the crate `name`. What is built stays as it is.
 
-    Ends the script where that fails.
+    Ends the script where that fails, and where it is asked for help, which is what stands at its top.
     """
+    if {"-h", "--help"} & set(sys.argv[1:]):
+        print(sys.modules["__main__"].__doc__.strip())
+        sys.exit(0)
     done = subprocess.run([os.path.join(ROOT, "bin", "tau"), "prove"], stdin=subprocess.DEVNULL, check=False)
     if done.returncode == 0 and name != "tau":
         crate = os.path.join(ROOT, "crates", name)
