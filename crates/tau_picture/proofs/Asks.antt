@@ -11,18 +11,18 @@ use Rattle.tau_cut.specs.declared.cut.Marked.TheVariants.{In, Out}
 use Rattle.tau_cut.specs.Cuts.{place_of, places_in, IsCut}
 use Rattle.tau_cut.proofs.MarkLemmas.{in_place, mark_at, place_at}
 use Rattle.tau_seen.specs.Causes.{IsCauseAt}
-use Rattle.tau_picture.specs.Asking.{IsLost, MayAsk}
+use Rattle.tau_picture.specs.Asking.{IsLost, IsAskable}
 use Rattle.tau_picture.specs.declared.asking.Asked.{Asked}
 use Rattle.tau_picture.specs.Inner.Asked.{Tells, IsAsked, IsAskedWithout}
 
 -- a Checkpoint that is Out may be asked for
-out_asked : (T : Run) (cut : List Marked) (k : ℕ) (chain : List Chained) → IsCut T cut → Contains cut (Out k chain) → MayAsk T k
+out_asked : (T : Run) (cut : List Marked) (k : ℕ) (chain : List Chained) → IsCut T cut → Contains cut (Out k chain) → IsAskable T k
 out_asked T cut k chain is h =
     let checks = (is.all k).0 (place_at cut (Out k chain) h) in
     inr (record { point = checks.0; checks = checks.1; lost = λ steps c. is.exact k chain h steps c })
 
 -- a step that has a cause may be
-pub cause_asked_for : (T : Run) (cut : List Marked) (k : ℕ) (chain : List Chained) → IsCut T cut → IsCauseAt T cut k (Some chain) → MayAsk T k
+pub cause_asked_for : (T : Run) (cut : List Marked) (k : ℕ) (chain : List Chained) → IsCut T cut → IsCauseAt T cut k (Some chain) → IsAskable T k
 cause_asked_for T cut k chain is c = ⊎_elim (λ w. inl (w.0, w.1)) (λ h. out_asked T cut k chain is h) c
 
 -- a Checkpoint that no consistent set holds is Out
@@ -31,11 +31,11 @@ not_lost T cut k is none l (In j) h e = l.lost (places_in cut) is.consistent (su
 not_lost T cut k is none l (Out j chain) h e = none chain (inr (subst (λ i. Contains cut (Out i chain)) e h))
 
 -- one that has none and is no decision may not
-pub none_asked : (T : Run) (cut : List Marked) (k : ℕ) → IsCut T cut → IsCauseAt T cut k None → ¬ IsDecision T k → ¬ MayAsk T k
+pub none_asked : (T : Run) (cut : List Marked) (k : ℕ) → IsCut T cut → IsCauseAt T cut k None → ¬ IsDecision T k → ¬ IsAskable T k
 none_asked T cut k is none other m = ⊎_elim other (λ l. let marked = mark_at cut k ((is.all k).1 (l.point, l.checks)) in not_lost T cut k is none l marked.0 marked.1 marked.2) m
 
 -- nor may what stands behind the last step
-pub beyond_asked : (T : Run) (k : ℕ) → len T ≤ k → ¬ MayAsk T k
+pub beyond_asked : (T : Run) (k : ℕ) → len T ≤ k → ¬ IsAskable T k
 beyond_asked T k le m = ⊎_elim
     (λ (d : IsDecision T k). let within = slice_get_within T.steps k d.0 d.1.stands in omega (arith, le))
     (λ (l : IsLost T k). let within = slice_get_within T.steps k (Checkpoint l.checks.by) l.checks.closes in omega (arith, le)) m

@@ -16,13 +16,13 @@ pub record IsLost (T : Run) (k : ℕ) : Type 0 where
   pub lost : (steps : List ℕ) → IsConsistent T steps → ¬ Contains steps k
 
 -- of the step at place k the cause may be asked: it is a Hold, a Drop or a Fall, or such a Checkpoint
-abbrev pub MayAsk : Run → ℕ → Type 0
-MayAsk T k = IsDecision T k ⊎ IsLost T k
+abbrev pub IsAskable : Run → ℕ → Type 0
+IsAskable T k = IsDecision T k ⊎ IsLost T k
 
 -- what is asked, if anything is, may be
 abbrev pub Allows : Run → Option ℕ → Type 0
 Allows T None = Unit {0}
-Allows T (Some k) = MayAsk T k
+Allows T (Some k) = IsAskable T k
 
 -- the cause of the step that is asked for, if one is and it has one
 abbrev pub IsCauseOf : Run → List Marked → Option ℕ → Option (List Chained) → Type 0
