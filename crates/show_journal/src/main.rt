@@ -17,7 +17,9 @@
 //! - `records`: finds the records, whatever they are;
 //! - `read`: finds the run, whether its steps are legal or not;
 //! - `find`: finds the run, whose steps must be legal, and tells whether it is complete;
-//! - `revive`: finds the run, and where it isn't complete revives it.
+//! - `revive`: finds the run, and where it isn't complete revives it;
+//! - `run PROGRAM`: makes the serial run of the program, with one job, the seed 0 and at most 1,000 steps, and keeps it;
+//! - `resume`: goes on with the run, so too.
 //!
 //! `append` and `mark` go on with the journal that the call before left; where it left none, they answer `no journal`.
 //!
@@ -27,6 +29,7 @@
 mod disks;
 mod making;
 mod playing;
+mod recording;
 mod records;
 mod runs;
 mod texts;

@@ -25,7 +25,10 @@ pub(crate) fn create<D: Disk>(
 }
 
 /// Adds why a text is no program.
-fn no_program(text: &mut String, error: InputError) -> Result<Option<Journal>, AllocError>
+pub(crate) fn no_program(
+    text: &mut String,
+    error: InputError,
+) -> Result<Option<Journal>, AllocError>
     ensures { IfOk result (λ o. o ≡ None) }
 {
     writeln!(text, "{error}")?;

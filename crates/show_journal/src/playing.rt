@@ -4,6 +4,7 @@ ghost use Rattle.tau_journal.specs.Records.{IsAtRest};
 ghost use Rattle.tau_journal.specs.Gates.{gate_of};
 
 use crate::making::{begin, create};
+use crate::recording::{resume, run};
 use crate::records::records;
 use crate::runs::{find, keep, read, revive_found};
 use crate::texts::{full_of, lines_of};
@@ -47,7 +48,7 @@ fn call<D: Disk>(
                 Ok(None)
             }
         },
-        "create" | "full" | "begin" => make(alloc, text, disk, verb, rest),
+        "create" | "full" | "begin" | "run" => make(alloc, text, disk, verb, rest),
         _ => look(alloc, text, disk, verb, rest),
     }
 }
@@ -84,6 +85,7 @@ fn make<D: Disk>(
     match verb {
         "create" => create(alloc, text, disk, &lines_of(alloc, rest)?),
         "full" => create(alloc, text, disk, &full_of(alloc, rest)?),
+        "run" => run(alloc, text, disk, &lines_of(alloc, rest)?),
         _ => begin(alloc, text, disk, &lines_of(alloc, rest)?),
     }
 }
@@ -104,6 +106,7 @@ pub(crate) fn look<D: Disk>(
         "read" => read(alloc, text, disk),
         "keep" => keep(alloc, text, disk, rest),
         "revive" => revive_found(alloc, text, disk),
+        "resume" => resume(alloc, text, disk),
         _ => {
             text.push_str("no such call\n")?;
             Ok(None)

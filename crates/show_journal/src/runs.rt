@@ -35,7 +35,7 @@ pub(crate) fn find<D: Disk>(
 }
 
 /// Adds a program and a run of it, and whether the run is complete.
-fn add_judged(
+pub(crate) fn add_judged(
     alloc: Global,
     text: &mut String,
     program: &Program,
@@ -75,7 +75,7 @@ pub(crate) fn read<D: Disk>(
 }
 
 /// Adds why there is no journal.
-fn none(text: &mut String, error: JournalError) -> Result<Option<Journal>, AllocError>
+pub(crate) fn none(text: &mut String, error: JournalError) -> Result<Option<Journal>, AllocError>
     ensures { IfOk result (λ o. o ≡ None) }
 {
     writeln!(text, "{error}")?;
