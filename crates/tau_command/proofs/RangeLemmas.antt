@@ -1,6 +1,6 @@
 -- The numbers of a command lie in the ranges of their options.
-use Rattle.std.proofs.Common.{◌≡◌, ◌≢◌, ◌∙◌, ◌&&◌, ◌<◌, ◌≤◌, ◌^◌, ap, refl, sym, subst, inl, inr, ℕ, Bool, true, false, cond, List, [], ◌∷◌, Option, Some, None, codes, lit<}
-use Rattle.std.specs.Prelude.{IfOk, nat_lt, ok_or, option_and_then, option_map, pos, Result}
+use Rattle.std.proofs.Common.{◌≡◌, ◌≢◌, ◌∙◌, ◌&&◌, ◌||◌, ◌<◌, ◌≤◌, ◌^◌, ap, refl, sym, subst, inl, inr, ℕ, Bool, true, false, cond, List, [], ◌∷◌, Option, Some, None, codes, lit<}
+use Rattle.std.specs.Prelude.{IfOk, IfSome, nat_lt, ok_or, option_and_then, option_map, pos, Result}
 use Rattle.std.specs.Str.{bytes_eq}
 use Rattle.std.specs.Str.Parse.{ParsesUnsigned, digits_value, without_leading_plus}
 use Rattle.clap.specs.Kinds.{Kinds, value_kinds}
@@ -14,8 +14,11 @@ use Rattle.clap.proofs.CallerReads.{signed_reads}
 use Rattle.clap.proofs.OnLiterals.{clap_on_literals}
 use Rattle.clap.proofs.ValueTestLemmas.{accepts-Accepts}
 use Rattle.tau_command.specs.Arguments.{tau_command}
-use Rattle.tau_command.specs.Commands.{command_allowed, command_matched, command_named, command_of, draw_of, number_in, number_of, run_of, stands_amiss, where_faultless, IsInRange}
+use Rattle.tau_command.specs.Commands.{command_allowed, command_matched, command_named, command_of, draw_of, has_window_option, journal_allowed, journal_command_of, journal_matched, journal_named, number_in, number_of, run_numbers, run_of, stands, stands_amiss, where_faultless, IsInRange, IsInJournalRange}
 use Rattle.tau_command.specs.declared.commands.Command.{Command}
+use Rattle.tau_command.specs.declared.commands.JournalCommand.{JournalCommand}
+use Rattle.tau_command.specs.declared.commands.JournalCommand.TheVariants.{Keep, Resume}
+use Rattle.tau_command.specs.declared.matched.RunNumbers.{RunNumbers}
 use Rattle.tau_command.specs.declared.commands.WordsError.{WordsError}
 use Rattle.tau_command.specs.declared.commands.Command.TheVariants.{Run, Check, Audit, Report, Print, Gen, Drill, Migrate, Why, Cut, Draw}
 use Rattle.tau_command.proofs.NumberLemmas.{passed, passes}
@@ -81,25 +84,38 @@ steps_in_range words n none e =
     some_number 32 0 200000 false (one_of (codes "steps") (matches_of tau_command words)) n (lit< tt)
     (λ t found. let r = one_read (built tau_command).top.rules (codes "steps") (matches_of tau_command words) _ t (rows_pass words none) refl found in (r.written, r.passes, r.is)) e
 
--- `run` with four numbers, of which three lie in their ranges
-run_at : (workers jobs seed steps : Option ℕ) (c : Command) → ((n : ℕ) → workers ≡ Some n → (1 ≤ n) × (n ≤ 32)) → ((n : ℕ) → jobs ≡ Some n → (1 ≤ n) × (n ≤ 16))
-    → ((n : ℕ) → steps ≡ Some n → (0 ≤ n) × (n ≤ 200000))
-    → option_and_then (λ w. option_and_then (λ j. option_and_then (λ s. option_map (λ n. Run w j s n) steps) seed) jobs) workers ≡ Some c → IsInRange c
-run_at None jobs seed steps c a b d e = absurd (cc)
-run_at (Some w) None seed steps c a b d e = absurd (cc)
-run_at (Some w) (Some j) None steps c a b d e = absurd (cc)
-run_at (Some w) (Some j) (Some s) None c a b d e = absurd (cc)
-run_at (Some w) (Some j) (Some s) (Some n) c a b d e =
-    let same : Run w j s n ≡ c = cc in
+-- four numbers, of which three lie in their ranges
+abbrev AreInRange : RunNumbers → Type 0
+AreInRange n = (1 ≤ n.workers) × (n.workers ≤ 32) × (1 ≤ n.jobs) × (n.jobs ≤ 16) × (n.steps ≤ 200000)
+
+numbers_at : (workers jobs seed steps : Option ℕ) (n : RunNumbers) → ((m : ℕ) → workers ≡ Some m → (1 ≤ m) × (m ≤ 32)) → ((m : ℕ) → jobs ≡ Some m → (1 ≤ m) × (m ≤ 16))
+    → ((m : ℕ) → steps ≡ Some m → (0 ≤ m) × (m ≤ 200000))
+    → option_and_then (λ w. option_and_then (λ j. option_and_then (λ s. option_map (λ m. record { workers = w; jobs = j; seed = s; steps = m }) steps) seed) jobs) workers ≡ Some n → AreInRange n
+numbers_at None jobs seed steps n a b d e = absurd (cc)
+numbers_at (Some w) None seed steps n a b d e = absurd (cc)
+numbers_at (Some w) (Some j) None steps n a b d e = absurd (cc)
+numbers_at (Some w) (Some j) (Some s) None n a b d e = absurd (cc)
+numbers_at (Some w) (Some j) (Some s) (Some m) n a b d e =
+    let same : record { workers = w; jobs = j; seed = s; steps = m } ≡ n = cc in
     let x = a w refl in
     let y = b j refl in
-    subst IsInRange same (x.0, x.1, y.0, y.1, (d n refl).1)
+    subst AreInRange same (x.0, x.1, y.0, y.1, (d m refl).1)
+
+numbers_in_range : (words : List Text) (n : RunNumbers) → fault_of tau_command words ≡ [] → run_numbers (matches_of tau_command words) ≡ Some n → AreInRange n
+numbers_in_range words n none e =
+    let rows = matches_of tau_command words in
+    numbers_at (number_of 32 (codes "workers") rows) (number_of 32 (codes "jobs") rows) (number_of 64 (codes "seed") rows) (number_of 32 (codes "steps") rows) n
+    (λ m. workers_in_range words m none) (λ m. jobs_in_range words m none) (λ m. steps_in_range words m none) e
+
+-- `run` with such numbers
+run_at : (o : Option RunNumbers) (c : Command) → ((n : RunNumbers) → o ≡ Some n → AreInRange n) → option_map (λ n. Run n.workers n.jobs n.seed n.steps) o ≡ Some c → IsInRange c
+run_at None c f e = absurd (cc)
+run_at (Some n) c f e =
+    let same : Run n.workers n.jobs n.seed n.steps ≡ c = cc in
+    subst IsInRange same (f n refl)
 
 run_in_range : (words : List Text) (c : Command) → fault_of tau_command words ≡ [] → run_of (matches_of tau_command words) ≡ Some c → IsInRange c
-run_in_range words c none e =
-    let rows = matches_of tau_command words in
-    run_at (number_of 32 (codes "workers") rows) (number_of 32 (codes "jobs") rows) (number_of 64 (codes "seed") rows) (number_of 32 (codes "steps") rows) c
-    (λ n. workers_in_range words n none) (λ n. jobs_in_range words n none) (λ n. steps_in_range words n none) e
+run_in_range words c none e = run_at (run_numbers (matches_of tau_command words)) c (λ n. numbers_in_range words n none) e
 
 -- another command has no range
 gen_in_range : (o : Option ℕ) (c : Command) → option_map (λ n. Gen n) o ≡ Some c → IsInRange c
@@ -159,3 +175,43 @@ in_range words c e = faultless_at (fault_of tau_command words) (command_matched 
 pub ok_in_range : (words : List Text) (o : Option Command) (e : WordsError) (r : Result Command WordsError) → r ≡ ok_or o e → command_of words ≡ o → IfOk r IsInRange
 ok_in_range words None e r is named = subst (λ x. IfOk x IsInRange) (sym is) tt
 ok_in_range words (Some c) e r is named = subst (λ x. IfOk x IsInRange) (sym is) (in_range words c named)
+
+-- ---- and so of a command over a journal
+
+journal_named_at : (keeps resumes : Bool) (o : Option RunNumbers) (c : JournalCommand) → ((n : RunNumbers) → o ≡ Some n → AreInRange n)
+    → cond keeps (option_map (λ n. Keep n.jobs n.seed n.steps) o) (cond resumes (option_map (λ n. Resume n.jobs n.seed n.steps) o) None) ≡ Some c → IsInJournalRange c
+journal_named_at true resumes None c f e = absurd (cc)
+journal_named_at true resumes (Some n) c f e =
+    let same : Keep n.jobs n.seed n.steps ≡ c = cc in
+    let h = f n refl in
+    subst IsInJournalRange same (h.2, h.3, h.4)
+journal_named_at false true None c f e = absurd (cc)
+journal_named_at false true (Some n) c f e =
+    let same : Resume n.jobs n.seed n.steps ≡ c = cc in
+    let h = f n refl in
+    subst IsInJournalRange same (h.2, h.3, h.4)
+journal_named_at false false o c f e = absurd (cc)
+
+journal_allowed_at : (amiss : Bool) (o : Option JournalCommand) (c : JournalCommand) → (o ≡ Some c → IsInJournalRange c) → cond amiss None o ≡ Some c → IsInJournalRange c
+journal_allowed_at true o c f e = absurd (cc)
+journal_allowed_at false o c f e = f e
+
+journal_matched_at : (words : List Text) (name : Option Text) (c : JournalCommand) → fault_of tau_command words ≡ [] → option_and_then (journal_allowed (matches_of tau_command words)) name ≡ Some c
+    → IsInJournalRange c
+journal_matched_at words None c none e = absurd (cc)
+journal_matched_at words (Some name) c none e =
+    let rows = matches_of tau_command words in
+    journal_allowed_at (has_window_option rows || stands (codes "number") rows) (journal_named name rows) c
+    (journal_named_at (bytes_eq name (codes "keep")) (bytes_eq name (codes "resume")) (run_numbers rows) c (λ n. numbers_in_range words n none)) e
+
+journal_faultless_at : (kinds : Kinds) (o : Option JournalCommand) (c : JournalCommand) → (kinds ≡ [] → o ≡ Some c → IsInJournalRange c) → where_faultless kinds o ≡ Some c → IsInJournalRange c
+journal_faultless_at [] o c f e = f refl e
+journal_faultless_at (k ∷ kinds) o c f e = absurd (cc)
+
+pub in_journal_range : (words : List Text) → IfSome (journal_command_of words) IsInJournalRange
+unfolding journal_command_of
+in_journal_range words = some_in_range (journal_command_of words) (λ c e. journal_faultless_at (fault_of tau_command words) (journal_matched (matches_of tau_command words)) c (λ none. journal_matched_at words _ c none) e)
+  where
+    some_in_range : (o : Option JournalCommand) → ((c : JournalCommand) → o ≡ Some c → IsInJournalRange c) → IfSome o IsInJournalRange
+    some_in_range None f = tt
+    some_in_range (Some c) f = f c refl

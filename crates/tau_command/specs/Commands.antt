@@ -1,4 +1,4 @@
--- The command that the words of a command line name.
+-- The commands that the words of a command line name.
 use Rattle.std.specs.Prelude.{ℕ, ◌≤◌, Bool, true, false, not, ◌&&◌, ◌||◌, ◌^◌, List, [], ◌∷◌, Option, Some, None, find, codes}
 use Rattle.std.specs.Prelude.{if◌then◌else◌, nat_lt, option_map, option_and_then}
 use Rattle.std.specs.Str.{bytes_eq}
@@ -10,6 +10,9 @@ use Rattle.clap.specs.declared.parser.matches.ValueSource.TheVariants.{CommandLi
 use Rattle.tau_command.specs.Arguments.{tau_command}
 use Rattle.tau_command.specs.declared.commands.Command.{Command}
 use Rattle.tau_command.specs.declared.commands.Command.TheVariants.{Run, Check, Audit, Report, Print, Gen, Drill, Migrate, Why, Cut, Draw}
+use Rattle.tau_command.specs.declared.commands.JournalCommand.{JournalCommand}
+use Rattle.tau_command.specs.declared.commands.JournalCommand.TheVariants.{Keep, Resume}
+use Rattle.tau_command.specs.declared.matched.RunNumbers.{RunNumbers}
 
 -- ---- what the matches say
 
@@ -43,13 +46,17 @@ number_of bits id rows = option_and_then (number_in bits) (one_of id rows)
 
 -- ---- the command
 
--- `run`, with its four numbers
-abbrev pub run_of : List Row → Option Command
-run_of rows =
+-- the numbers of the options of `run`
+abbrev pub run_numbers : List Row → Option RunNumbers
+run_numbers rows =
     option_and_then (λ workers. option_and_then (λ jobs. option_and_then (λ seed. option_map (λ steps.
-    Run workers jobs seed steps)
+    record { workers = workers; jobs = jobs; seed = seed; steps = steps })
     (number_of 32 (codes "steps") rows)) (number_of 64 (codes "seed") rows))
     (number_of 32 (codes "jobs") rows)) (number_of 32 (codes "workers") rows)
+
+-- `run`, with its four numbers
+abbrev pub run_of : List Row → Option Command
+run_of rows = option_map (λ n. Run n.workers n.jobs n.seed n.steps) (run_numbers rows)
 
 -- `draw`, with the two numbers of its window, and its place where a number stands on the line
 abbrev pub draw_of : List Row → Option Command
@@ -91,7 +98,7 @@ abbrev pub command_matched : List Row → Option Command
 command_matched rows = option_and_then (command_allowed rows) (first_of (codes "command") rows)
 
 -- a command, where the words have no fault
-abbrev pub where_faultless : Kinds → Option Command → Option Command
+abbrev pub where_faultless : {A : Type 0} → Kinds → Option A → Option A
 where_faultless [] command = command
 where_faultless (kind ∷ kinds) command = None
 
@@ -100,7 +107,35 @@ unfoldable pub command_of : List Text → Option Command
 command_of words =
     where_faultless (fault_of tau_command words) (command_matched (matches_of tau_command words))
 
+-- ---- the commands over a journal
+
+-- `keep` and `resume`, with the numbers of the options of `run`; that of the workers is read and not used
+abbrev pub journal_named : Text → List Row → Option JournalCommand
+journal_named name rows = if bytes_eq name (codes "keep") then option_map (λ n. Keep n.jobs n.seed n.steps) (run_numbers rows)
+    else (if bytes_eq name (codes "resume") then option_map (λ n. Resume n.jobs n.seed n.steps) (run_numbers rows)
+    else None)
+
+-- the command with a name, where no number and no option of `draw` stands on the line
+abbrev pub journal_allowed : List Row → Text → Option JournalCommand
+journal_allowed rows name = if has_window_option rows || stands (codes "number") rows then None else journal_named name rows
+
+-- the command of the matches
+abbrev pub journal_matched : List Row → Option JournalCommand
+journal_matched rows = option_and_then (journal_allowed rows) (first_of (codes "command") rows)
+
+-- the command over a journal that the words name, by the same matches
+unfoldable pub journal_command_of : List Text → Option JournalCommand
+journal_command_of words =
+    where_faultless (fault_of tau_command words) (journal_matched (matches_of tau_command words))
+
+-- ---- the ranges
+
 -- the numbers of `run` lie in the ranges of its options
 abbrev pub IsInRange : Command → Type 0
 IsInRange (Run workers jobs seed steps) = (1 ≤ workers) × (workers ≤ 32) × (1 ≤ jobs) × (jobs ≤ 16) × (steps ≤ 200000)
 IsInRange command = Unit {0}
+
+-- and those of a command over a journal
+abbrev pub IsInJournalRange : JournalCommand → Type 0
+IsInJournalRange (Keep jobs seed steps) = (1 ≤ jobs) × (jobs ≤ 16) × (steps ≤ 200000)
+IsInJournalRange (Resume jobs seed steps) = (1 ≤ jobs) × (jobs ≤ 16) × (steps ≤ 200000)

@@ -1,12 +1,12 @@
 //! The commands, and the words that name them.
-ghost use Rattle.std.specs.Prelude.{◌≡◌, ◌≢◌, None, Some, [], IfOk, IsErrOf};
+ghost use Rattle.std.specs.Prelude.{◌≡◌, ◌≢◌, None, Some, [], IfOk, IfSome, IsErrOf};
 ghost use Rattle.clap.specs.Words.{fault_of, found_of, matches_of, rows_of};
 ghost use Rattle.tau_command.specs.Arguments.{tau_command};
-ghost use Rattle.tau_command.specs.Commands.{command_of, IsInRange};
+ghost use Rattle.tau_command.specs.Commands.{command_of, journal_command_of, IsInRange, IsInJournalRange};
 
 use crate::Words;
 use crate::arguments::tau_command;
-use crate::matched::command_matched;
+use crate::matched::{command_matched, journal_matched};
 use clap::ArgMatches;
 use clap::error::ErrorKind;
 use std::alloc::{AllocError, Global};
@@ -64,6 +64,29 @@ pub enum Command {
     },
 }
 
+/// A command over a journal with its numbers (docs/formats.md, "Command line").
+#[derive(Clone, Copy, Debug, PartialEq, Eq)]
+pub enum JournalCommand {
+    /// Runs a program by one worker, keeps each step in a journal before the next is made, and writes the run text.
+    Keep {
+        /// How many jobs the worker holds at most.
+        jobs: u32,
+        /// The seed of the worker's choices.
+        seed: u64,
+        /// The most steps that the run does.
+        steps: u32,
+    },
+    /// Goes on with the run that a journal keeps, and writes its run text.
+    Resume {
+        /// How many jobs the worker holds at most.
+        jobs: u32,
+        /// The seed of the worker's choices from here on.
+        seed: u64,
+        /// The most steps that the run does, those of the journal counted; no fewer than these.
+        steps: u32,
+    },
+}
+
 /// Why words name no command (docs/formats.md, "Error types").
 #[derive(Clone, Copy, Debug, PartialEq, Eq, Error)]
 pub enum WordsError {
@@ -94,6 +117,22 @@ pub fn read_words(alloc: Global, words: &Words) -> Result<Command, WordsError>
 {
     let matches = match_words(alloc, words)?;
     command_matched(&matches).ok_or(WordsError::Words)
+}
+
+/// The command over a journal that the words of a command line name (docs/formats.md, "Command line"); `None` where they name none.
+/// The error is want of memory.
+pub fn read_journal_words(
+    alloc: Global,
+    words: &Words,
+) -> Result<Option<JournalCommand>, AllocError>
+    ensures command { IfOk result (λ c. c ≡ journal_command_of words.now) }
+    ensures ranges { IfOk result (λ c. IfSome c IsInJournalRange) }
+{
+    match match_words(alloc, words) {
+        Ok(matches) => Ok(journal_matched(&matches)),
+        Err(WordsError::Words) => Ok(None),
+        Err(WordsError::NoMemory) => Err(AllocError),
+    }
 }
 
 /// The matches that `clap` has for the words.

@@ -6,5 +6,5 @@ mod commands;
 mod lines;
 mod matched;
 
-pub use commands::{Command, WordsError, read_words};
+pub use commands::{Command, JournalCommand, WordsError, read_journal_words, read_words};
 pub use lines::{Line, Words};

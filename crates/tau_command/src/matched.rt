@@ -1,11 +1,20 @@
 //! What the matches of `clap` say.
 ghost use Rattle.std.specs.Prelude.{◌≡◌};
 ghost use Rattle.clap.specs.Words.{found_of, rows_of};
-ghost use Rattle.tau_command.specs.Commands.{command_allowed, command_matched, command_named, draw_of, has_run_option, has_window_option, is_from_words, number_of, run_of, stands, stands_amiss, takes_number};
+ghost use Rattle.tau_command.specs.Commands.{command_allowed, command_matched, command_named, draw_of, has_run_option, has_window_option, is_from_words, journal_allowed, journal_matched, journal_named, number_of, run_numbers, run_of, stands, stands_amiss, takes_number};
 
-use crate::Command;
+use crate::{Command, JournalCommand};
 use clap::ArgMatches;
 use clap::parser::ValueSource;
+
+/// The numbers of the options of `run`.
+#[derive(Clone, Copy)]
+struct RunNumbers {
+    workers: u32,
+    jobs: u32,
+    seed: u64,
+    steps: u32,
+}
 
 /// The command of the matches.
 pub fn command_matched(matches: &ArgMatches<'_>) -> Option<Command>
@@ -65,12 +74,61 @@ fn command_named(name: &str, matches: &ArgMatches<'_>) -> Option<Command>
 fn run_of(matches: &ArgMatches<'_>) -> Option<Command>
     ensures { result ≡ run_of (rows_of (found_of matches.now)) }
 {
-    Some(Command::Run {
+    run_numbers(matches).map(|numbers| Command::Run {
+        workers: numbers.workers,
+        jobs: numbers.jobs,
+        seed: numbers.seed,
+        steps: numbers.steps,
+    })
+}
+
+/// The numbers of the options of `run`.
+fn run_numbers(matches: &ArgMatches<'_>) -> Option<RunNumbers>
+    ensures { result ≡ run_numbers (rows_of (found_of matches.now)) }
+{
+    Some(RunNumbers {
         workers: short_number(matches, "workers")?,
         jobs: short_number(matches, "jobs")?,
         seed: long_number(matches, "seed")?,
         steps: short_number(matches, "steps")?,
     })
+}
+
+/// The command over a journal of the matches.
+pub fn journal_matched(matches: &ArgMatches<'_>) -> Option<JournalCommand>
+    ensures { result ≡ journal_matched (rows_of (found_of matches.now)) }
+{
+    journal_allowed(matches.get_str("command")?, matches)
+}
+
+/// The command over a journal with this name, where no number and no option of `draw` stands on the line.
+fn journal_allowed(name: &str, matches: &ArgMatches<'_>) -> Option<JournalCommand>
+    ensures { result ≡ journal_allowed (rows_of (found_of matches.now)) name.now }
+{
+    if has_window_option(matches) || stands(matches, "number") {
+        None
+    } else {
+        journal_named(name, matches)
+    }
+}
+
+/// The command over a journal with this name. The number of workers is read and not used, since one makes the run.
+fn journal_named(name: &str, matches: &ArgMatches<'_>) -> Option<JournalCommand>
+    ensures { result ≡ journal_named name.now (rows_of (found_of matches.now)) }
+{
+    match name {
+        "keep" => run_numbers(matches).map(|numbers| JournalCommand::Keep {
+            jobs: numbers.jobs,
+            seed: numbers.seed,
+            steps: numbers.steps,
+        }),
+        "resume" => run_numbers(matches).map(|numbers| JournalCommand::Resume {
+            jobs: numbers.jobs,
+            seed: numbers.seed,
+            steps: numbers.steps,
+        }),
+        _ => None,
+    }
 }
 
 /// The command `draw` with its window, and the place of the step that is asked for, if one is.
