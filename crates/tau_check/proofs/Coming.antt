@@ -105,8 +105,9 @@ module _ (P : Program) (T : Run) (k : ℕ) (core : Core) (c : Cursor) (js : List
     last : (j : ℕ) → j ≡ k → step_at T j ≡ step_at new.run j
     last j same = ap (step_at T) same ∙ e ∙ sym (last_step core new s g.appended) ∙ ap (step_at new.run) (h.length ∙ sym same)
 
+module _ (P : Program) (T : Run) (k : ℕ) (core : Core) (c : Cursor) (js : List (Option jobs.TurnSoFar)) (h : HasCome P T k core c js) where
   -- at the end the run is the trace
-  whole : k ≡ len T → core.run ≡ T
+  pub whole : k ≡ len T → core.run ≡ T
   whole ends =
       let steps : core.run.steps ≡ T.steps = same_items core.run.steps T.steps (h.length ∙ ends) (λ j l. sym (h.agree.steps j (omega (arith, h.length)))) in
       let opening : core.run.opening ≡ T.opening = sym h.agree.opening in

@@ -6,7 +6,7 @@ ghost use Rattle.tau_trace.specs.declared.step.Step.TheVariants as steps;
 ghost use Rattle.tau_trace.specs.Run.{len};
 ghost use Rattle.tau_trace.specs.Known.{MayFollow};
 ghost use Rattle.tau_trace.specs.Numbering.{sent};
-ghost use Rattle.tau_script.specs.Cursors.{first_cursor};
+ghost use Rattle.tau_script.specs.Cursors.{first_cursor, CursorAt};
 ghost use Rattle.tau_script.specs.Openings.{program_opening};
 ghost use Rattle.tau_legal.specs.Traces.{Complete};
 ghost use Rattle.tau_rules.specs.Answers.{IsOpenJob};
@@ -74,6 +74,16 @@ impl<'p> Checker<'p> {
             return false;
         }
         nothing_left(self.system.trace())
+    }
+
+    /// The system, and the cursor of the script, which has passed over the entries that aren't due.
+    pub(crate) fn into_parts(mut self) -> (System<'p, MarkedHearing>, Cursor)
+        requires { IsChecker self.system.program self.system.run self.cursor self.jobs.items }
+        ensures system { result.0 ≡ self.entry.system }
+        ensures cursor { CursorAt self.entry.system.program.script self.entry.system.run (len self.entry.system.run) result.1 }
+    {
+        let _due = self.due();
+        (self.system, self.cursor)
     }
 
     /// The due step of the script.

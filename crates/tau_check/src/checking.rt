@@ -4,7 +4,7 @@ ghost use Rattle.tau_tree.specs.Sound.{Sound};
 ghost use Rattle.tau_script.specs.Openings.{program_opening};
 ghost use Rattle.tau_check.specs.Legality.{IsLegality};
 
-use crate::checker::Checker;
+use crate::following::step_through;
 use std::alloc::{AllocError, Global};
 use tau_trace::Trace;
 use tau_tree::Program;
@@ -25,18 +25,11 @@ pub fn check(alloc: Global, program: &Program, trace: &Trace) -> Result<Legality
     requires opening { trace.now.run.opening ≡ program_opening program.now }
     ensures { IfOk result (IsLegality program.now trace.now.run) }
 {
-    let mut checker = Checker::open(alloc, program)?;
-    let length = trace.len();
-    for place in 0..length {
-        let Some(step) = trace.step(place) else {
-            unreachable!()
-        };
-        let is_legal = checker.step(step)?;
-        if !is_legal {
-            return Ok(Legality::Bad { place });
-        }
+    let (mut checker, bad) = step_through(alloc, program, trace)?;
+    match bad {
+        Some(place) => Ok(Legality::Bad { place }),
+        None => Ok(Legality::Legal {
+            complete: checker.is_complete(),
+        }),
     }
-    Ok(Legality::Legal {
-        complete: checker.is_complete(),
-    })
 }

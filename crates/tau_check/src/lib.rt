@@ -5,6 +5,7 @@ mod checker;
 mod checking;
 mod ends;
 mod families;
+mod following;
 mod jobs;
 mod laws;
 mod making;
@@ -12,4 +13,5 @@ mod reading;
 mod same;
 
 pub use checking::{Legality, check};
+pub use following::{Followed, follow};
 pub use laws::one_step_of_a_family_fits;

@@ -1,5 +1,5 @@
 -- What the checker keeps of the steps before a place, and what it finds of the step there.
-use Rattle.std.specs.Prelude.{◌≡◌, ℕ, Bool, true, false, List, Option}
+use Rattle.std.specs.Prelude.{◌≡◌, ℕ, Bool, true, false, List, Option, Some, None}
 use Rattle.tau_tree.specs.declared.programs.Program.{Program}
 use Rattle.tau_tree.specs.Sound.{Sound}
 use Rattle.tau_trace.specs.declared.step.Step.{Step}
@@ -13,6 +13,7 @@ use Rattle.tau_legal.specs.Traces.{IsLegal, Legal}
 use Rattle.tau_eval.specs.Turn as jobs
 use Rattle.tau_rules.specs.System.{Core, with_step}
 use Rattle.tau_check.specs.Inner.Jobs.{HasJobs}
+use Rattle.tau_check.specs.Legality.{IsFirstIllegal}
 
 -- the run is legal, the cursor is the script's, and the job of each open turn is kept
 pub record IsChecker (P : Program) (T : Run) (cursor : Cursor) (js : List (Option jobs.TurnSoFar)) : Type 0 where
@@ -46,6 +47,11 @@ pub record HasCome (P : Program) (T : Run) (k : ℕ) (core : Core) (cursor : Cur
   pub length : len core.run ≡ k
   pub agree : Agree T core.run k
   pub checker : IsChecker core.program core.run cursor js
+
+-- the checker has stepped through a trace to its end; or the first step that isn't legal stands at the place
+abbrev pub HasSteppedTo : Program → Run → Core → Cursor → List (Option jobs.TurnSoFar) → Option ℕ → Type 0
+HasSteppedTo P T core cursor js None = HasCome P T (len T) core cursor js
+HasSteppedTo P T core cursor js (Some place) = IsFirstIllegal P T place
 
 -- no turn is open after the run, and no message is in flight
 pub record NothingLeft (T : Run) : Type 0 where
