@@ -19,7 +19,7 @@ use Rattle.tau_book.specs.Hands.{Held, is_earlier, is_of, IsNumbered}
 use Rattle.tau_book.specs.Offers.{open_jobs, without, taken_up, jobs_with, store_without, options}
 use Rattle.tau_book.specs.SerialRun.{Choosable, turn, message}
 use Rattle.tau_book.specs.Adopted.{HasJobFrom}
-use Rattle.tau_book.specs.Inner.Working.{AreJobs}
+use Rattle.tau_book.specs.Working.{AreJobs}
 use Rattle.tau_book.proofs.Counts.{AreDistinct, count_none, count_map, count_all, same_counts, place_of, ascending_distinct}
 
 -- elements of two lists in a row
@@ -62,7 +62,7 @@ has_any ts q c = list_any_at (λ p. eqb p q) ts c.0 q c.1 (eq-eqb (get_or ts c.0
 abbrev pub AreApart : List jobs.TurnSoFar → Type 0
 AreApart js = AllPairs (λ a b. a.place ≢ b.place) js
 
-apart_tail : (x : jobs.TurnSoFar) (xs : List jobs.TurnSoFar) → AreApart (x ∷ xs) → AreApart xs
+pub apart_tail : (x : jobs.TurnSoFar) (xs : List jobs.TurnSoFar) → AreApart (x ∷ xs) → AreApart xs
 apart_tail x xs h i j d l k = h (suc i) (suc j) d (omega (arith, l)) (omega (arith, k))
 
 pub apart_head : (x q : jobs.TurnSoFar) (xs : List jobs.TurnSoFar) → AreApart (x ∷ xs) → Contains xs q → x.place ≢ q.place

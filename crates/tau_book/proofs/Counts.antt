@@ -43,7 +43,7 @@ is_other-true x y ne = by (eqb y x) refl where
 is_other-false : (x y : ℕ) → y ≡ x → is_other x y ≡ false
 is_other-false x y e = ap not (eq-eqb y x e)
 
-is_other-not : (x y : ℕ) → is_other x y ≡ true → y ≢ x
+pub is_other-not : (x y : ℕ) → is_other x y ≡ true → y ≢ x
 is_other-not x y says same =
     let both : false ≡ true = sym (is_other-false x y same) ∙ says in
     cc

@@ -1,6 +1,6 @@
 -- The jobs of a hand after one more step.
 use Rattle.std.proofs.Common.{◌≡◌, ◌≢◌, ◌⊎◌, inl, inr, ⊎_elim, ℕ, suc, ◌+◌, ◌<◌, ◌≤◌, IsTrue, Option, Some, None, List, [], ◌∷◌, ◌++◌, length, get_or, refl, sym, ap, ◌∙◌, subst, arith}
-use Rattle.std.specs.List.{Contains, AllPairs}
+use Rattle.std.specs.List.{Contains}
 use Rattle.std.proofs.lemmas.List.Quantifiers.{all_pairs_push}
 use Rattle.std.proofs.lemmas.List.Elements.{Contains-append_left, Contains-append_right, Contains-append_cases, Contains-push, Contains-push_cases, Contains-get_or}
 use Rattle.tau_tree.specs.declared.programs.Program.{Program}
@@ -19,7 +19,8 @@ use Rattle.tau_check.proofs.Turns.{BeginsNone, earlier, ended}
 use Rattle.tau_check.proofs.JobLemmas.{job_kept}
 use Rattle.tau_scripted.specs.OpenTurns.{IsOpenFrom}
 use Rattle.tau_book.specs.Adopted.{HasJobFrom}
-use Rattle.tau_book.specs.Inner.Working.{AreJobs, AreOtherJobs}
+use Rattle.tau_book.specs.Working.{AreJobs}
+use Rattle.tau_book.specs.Inner.Working.{AreOpenJobs, AreOtherJobs}
 
 -- one job more
 pub with_more : (js : List jobs.TurnSoFar) (job : jobs.TurnSoFar) (place : ℕ) → HasJobFrom js place → HasJobFrom (js ++ job ∷ []) place
@@ -53,12 +54,12 @@ module _ (P : Program) (T : Run) (s : Step) (v : WellFormed T) (w : WellFormed (
 
   -- where a Take opens a turn of one that was in none
   pub jobs_begun : (js : List jobs.TurnSoFar) (job : jobs.TurnSoFar) (m : ℕ) → s ≡ Take job.who m → job.place ≡ len T → IsOpenTurn T job.who (len T) None → IsOpenJob P (appended T s) job
-      → AllPairs (λ a b. a.place ≢ b.place) js → ((j : jobs.TurnSoFar) → Contains js j → IsOpenJob P T j) → ((place : ℕ) → IsOpenFrom T place → HasJobFrom js place) → AreJobs P (appended T s) (js ++ job ∷ [])
-  jobs_begun js job m is at idle begun apart are each = record {
-    one_each = all_pairs_push (λ a b. a.place ≢ b.place) js job apart (λ k d lt. λ e. omega (arith, (are (get_or js k d) (Contains-get_or js k d lt)).turn.before, e, at));
-    records = λ j c f. ⊎_elim (λ d. kept j (are j d)) (λ (e : job ≡ j). subst (λ x. IsOpenJob P (appended T s) x) e begun) (Contains-push_cases js job j c);
+      → AreOpenJobs P T js → AreJobs P (appended T s) (js ++ job ∷ [])
+  jobs_begun js job m is at idle begun h = record {
+    one_each = all_pairs_push (λ a b. a.place ≢ b.place) js job h.one_each (λ k d lt. λ e. omega (arith, (h.records (get_or js k d) (Contains-get_or js k d lt)).turn.before, e, at));
+    records = λ j c f. ⊎_elim (λ d. kept j (h.records j d)) (λ (e : job ≡ j). subst (λ x. IsOpenJob P (appended T s) x) e begun) (Contains-push_cases js job j c);
     each = λ place f. ⊎_elim
-        (λ u. with_more js job place (each place (record { who = f.who; message = f.message; turn = u })))
+        (λ u. with_more js job place (h.each place (record { who = f.who; message = f.message; turn = u })))
         (λ e. with_last js job place (at ∙ sym e.0))
         (earlier T s f.who place f.message f.turn);
   } where

@@ -1,6 +1,8 @@
 pub mod Counts
 pub mod Chosen
 pub mod Kept
+pub mod Together
+pub mod AllJobs
 pub mod Works
 pub mod OneRun
 pub mod JobLists

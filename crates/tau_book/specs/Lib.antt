@@ -8,4 +8,6 @@ pub mod Adopted
 pub mod Laws
 pub mod Places
 pub mod Lefts
+pub mod Onward
+pub mod Working
 pub mod Inner

@@ -17,7 +17,7 @@ use Rattle.tau_book.specs.Books.{Booked}
 use Rattle.tau_book.specs.Nexts.{IsNext}
 use Rattle.tau_book.specs.Tolds.{IsTold, goes_on, is_over}
 use Rattle.tau_book.specs.Adopted.{IsAdopted}
-use Rattle.tau_workers.specs.Alone.{GoesOnFrom}
+use Rattle.tau_book.specs.Onward.{GoesOnFrom}
 
 pub goes_nowhere : (b : Booked) → GoesOnFrom b b
 goes_nowhere b = record { program = refl; limit = refl; begins = ([], sym (append-nil b.system.run.steps)) }

@@ -3,7 +3,7 @@ ghost use Rattle.std.specs.Prelude.{◌≡◌, ◌<◌, ◌≤◌, IfOk, IfSome,
 ghost use Rattle.tau_legal.specs.Ends.{EndsAt};
 ghost use Rattle.tau_book.specs.declared.limits.TheConstants.{JOB_LIMIT};
 ghost use Rattle.tau_book.specs.Places.{LeavesRoom, ComesBack};
-ghost use Rattle.tau_workers.specs.Alone.{BeginsWith, GoesOnFrom};
+ghost use Rattle.tau_book.specs.Onward.{BeginsWith, GoesOnFrom};
 
 use std::alloc::{AllocError, Global};
 use tau_book::{Book, Hand, Next, Ran, Told};

@@ -2,14 +2,13 @@
 #![tactic(auto)]
 
 mod alone;
-mod gates;
 mod locked;
 mod running;
 mod seats;
 mod workers;
 
 pub use alone::finish;
-pub use gates::{Gate, OpenGate};
 pub use locked::LockedBook;
 pub use running::{Settings, run_workers};
+pub use tau_book::{Gate, OpenGate};
 pub use workers::{Task, Worker, run};

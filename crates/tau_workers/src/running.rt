@@ -6,12 +6,11 @@ ghost use Rattle.tau_legal.specs.Ends.{EndsAt};
 ghost use Rattle.tau_book.specs.declared.limits.TheConstants.{JOB_LIMIT};
 
 use crate::alone::finish;
-use crate::gates::Gate;
 use crate::seats::work;
 use std::alloc::{AllocError, Global};
 use std::sync::Wait;
 use std::thread::Threads;
-use tau_book::{Book, Ran};
+use tau_book::{Book, Gate, Ran};
 use tau_clean::MarkedHearing;
 use tau_seat::SeatBook;
 use tau_tree::Program;

@@ -4,13 +4,12 @@ ghost use Rattle.tau_book.specs.declared.limits.TheConstants.{JOB_LIMIT};
 ghost use Rattle.tau_workers.specs.Inner.Hands.{opening_hand, opening_hands};
 ghost use Rattle.tau_workers.specs.Inner.Seats.{IsSeatOf, HasOne};
 
-use crate::gates::Gate;
 use crate::running::Settings;
 use crate::workers::{Worker, run};
 use std::alloc::{AllocError, Global};
 use std::sync::Wait;
 use std::thread::Threads;
-use tau_book::Hand;
+use tau_book::{Gate, Hand};
 use tau_clean::MarkedHearing;
 use tau_seat::{BookSeat, SeatBook, SeatPlace};
 

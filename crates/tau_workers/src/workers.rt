@@ -2,12 +2,11 @@
 ghost use Rattle.std.specs.Prelude.{◌≡◌, ◌<◌, ℕ, [], IsSome, IsTrue, IsFalse, IfOk, OnErr, length, slice_index_or};
 ghost use Rattle.tau_book.specs.Hands.{joined};
 
-use crate::gates::Gate;
 use std::alloc::AllocError;
 use std::sync::Wait;
 use std::thread;
 use std::thread::Threads;
-use tau_book::{Hand, Next, StepPlace, Told};
+use tau_book::{Gate, Hand, Next, StepPlace, Told};
 use tau_eval::{Job, Pending};
 
 /// A worker: its number, its place on a book, and its hand; and whether it has ended for want of memory.

@@ -1,5 +1,5 @@
--- What one hand over a book keeps of a run.
-use Rattle.std.specs.Prelude.{◌≡◌, ◌≢◌, ◌⊎◌, ◌%◌, ◌≤◌, ℕ, List, [], Some, length, slice_get}
+-- What one hand over a book keeps while a job of it is evaluated.
+use Rattle.std.specs.Prelude.{◌≡◌, ◌≢◌, ◌⊎◌, ◌%◌, ◌≤◌, ℕ, List, [], ◌++◌, Some, length, slice_get}
 use Rattle.std.specs.List.{AllPairs, Contains}
 use Rattle.rand_pcg.specs.Lcg.{Lcg}
 use Rattle.rand_pcg.specs.Pcg.{pcg32}
@@ -13,10 +13,10 @@ use Rattle.tau_book.specs.Books.{Booked, GoesOn}
 use Rattle.tau_book.specs.Adopted.{HasJobFrom}
 use Rattle.tau_book.specs.SerialRun.{Choosable, turn, AreOptions, ComesAbout}
 
--- the jobs are of different turns, those of open turns are their records, and each open turn has one
-pub record AreJobs (P : Program) (T : Run) (js : List jobs.TurnSoFar) : Type 0 where
+-- the jobs are the records of the open turns, one of each
+pub record AreOpenJobs (P : Program) (T : Run) (js : List jobs.TurnSoFar) : Type 0 where
   pub one_each : AllPairs (λ a b. a.place ≢ b.place) js
-  pub records : (job : jobs.TurnSoFar) → Contains js job → IsOpenFrom T job.place → IsOpenJob P T job
+  pub records : (job : jobs.TurnSoFar) → Contains js job → IsOpenJob P T job
   pub each : (place : ℕ) → IsOpenFrom T place → HasJobFrom js place
 
 -- the jobs are the records of all open turns but that of one job
@@ -25,33 +25,22 @@ pub record AreOtherJobs (P : Program) (T : Run) (job : jobs.TurnSoFar) (js : Lis
   pub records : (j : jobs.TurnSoFar) → Contains js j → IsOpenJob P T j × (j.place ≢ job.place)
   pub each : (place : ℕ) → IsOpenFrom T place → (place ≡ job.place) ⊎ HasJobFrom js place
 
--- the book's run comes about as the serial run with this seed, and the hand has the jobs of the open turns
-pub record IsAtWork (seed : ℕ) (b : Booked) (h : Held) : Type 0 where
-  pub none_back : b.store ≡ []
-  pub some : 1 ≤ h.size
-  pub comes_about : ComesAbout b.system.program h.size seed b.system.run h.generator
-  pub jobs_are : AreJobs b.system.program b.system.run h.jobs
-
--- the word before the hand's generator has chosen the turn of the job, which the hand has handed out
-pub record HasChosen (seed : ℕ) (b : Booked) (h : Held) (job : jobs.TurnSoFar) : Type 0 where
-  pub none_back : b.store ≡ []
+-- the job that the hand has handed out is the record of an open turn, and the hand and the returned jobs together are those of the others
+pub record HasHandedOut (b : Booked) (h : Held) (job : jobs.TurnSoFar) : Type 0 where
   pub some : 1 ≤ h.size
   pub goes_on : GoesOn b
+  pub is_open : IsOpenJob b.system.program b.system.run job
+  pub others : AreOtherJobs b.system.program b.system.run job (h.jobs ++ b.store)
+
+-- the word before the hand's generator has chosen the turn of the job in the serial run with this seed
+pub record HasChosen (seed : ℕ) (b : Booked) (h : Held) (job : jobs.TurnSoFar) : Type 0 where
+  pub none_back : b.store ≡ []
   pub before : Lcg
   pub comes_about : ComesAbout b.system.program h.size seed b.system.run before
   pub after : h.generator ≡ (pcg32 before).1
   pub options : List Choosable
   pub options_are : AreOptions b.system.run h.size options
   pub chosen : slice_get options ((pcg32 before).0 % length options) ≡ Some (turn job.place)
-  pub is_open : IsOpenJob b.system.program b.system.run job
-  pub others : AreOtherJobs b.system.program b.system.run job h.jobs
-
--- so it is for some seed
-abbrev pub Works : Booked → Held → Type 0
-Works b h = (seed : ℕ) × IsAtWork seed b h
-
-abbrev pub WorksOn : Booked → Held → jobs.TurnSoFar → Type 0
-WorksOn b h job = (seed : ℕ) × HasChosen seed b h job
 
 -- the same program, limit and room
 pub record IsSameWork (old new : Booked) (h k : Held) : Type 0 where

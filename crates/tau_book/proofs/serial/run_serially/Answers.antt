@@ -3,13 +3,13 @@ use Rattle.tau_trace.specs.Run.{Run, len}
 use Rattle.tau_legal.specs.Traces.{Legal, Complete}
 use Rattle.tau_book.specs.Books.{Booked}
 use Rattle.tau_book.specs.SerialRun.{IsSerialRun}
-use Rattle.tau_book.specs.Inner.Working.{IsAtWork}
-use Rattle.tau_book.proofs.Works.{begins_work, is_serial, finished_complete, finished_stopped}
+use Rattle.tau_book.specs.Working.{IsAtWork}
+use Rattle.tau_book.proofs.Works.{has_all_jobs, begins_work, is_serial, finished_complete, finished_stopped}
 use Rattle.tau_book.proofs.serial.run_serially.Goals as goal
 
-pub work-requires-clause-works : goal.work-requires-clause-works
-work-requires-clause-works c =
-    (c.args.seed, begins_work c.args.program.now c.args.seed c.in_ok-book.book c.in_ok-hand.hand c.in_ok-book.ensures.program c.in_ok-book.ensures.run c.in_ok-book.ensures.store c.in_ok-hand.ensures.generator (omega (arith, c.in_ok-hand.ensures.size, c.requires.some)) c.in_ok-hand.ensures.jobs)
+pub work-requires-clause-all : goal.work-requires-clause-all
+work-requires-clause-all c =
+    has_all_jobs c.args.seed c.in_ok-book.book c.in_ok-hand.hand (begins_work c.args.program.now c.args.seed c.in_ok-book.book c.in_ok-hand.hand c.in_ok-book.ensures.program c.in_ok-book.ensures.run c.in_ok-book.ensures.store c.in_ok-hand.ensures.generator (omega (arith, c.in_ok-hand.ensures.size, c.requires.some)) c.in_ok-hand.ensures.jobs)
 
 pub returns-clause-serial : goal.returns-clause-serial
 returns-clause-serial c =

@@ -1,7 +1,7 @@
 use Rattle.std.proofs.Common.{ap, ◌∙◌, subst}
 use Rattle.tau_trace.specs.Run.{Run}
 use Rattle.tau_legal.specs.Ends.{EndsAt}
-use Rattle.tau_workers.specs.Alone.{GoesOnFrom}
+use Rattle.tau_book.specs.Onward.{GoesOnFrom}
 use Rattle.tau_workers.proofs.alone.finish.Goals as goal
 
 pub returns-in-Some-clause-ends : goal.returns-in-Some-clause-ends

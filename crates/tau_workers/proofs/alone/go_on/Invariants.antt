@@ -1,4 +1,4 @@
-use Rattle.tau_workers.specs.Alone.{GoesOnFrom}
+use Rattle.tau_book.specs.Onward.{GoesOnFrom}
 use Rattle.tau_workers.proofs.alone.go_on.Given as goal
 
 abbrev pub invariant-loop : goal.invariant-loop

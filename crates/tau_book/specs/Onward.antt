@@ -1,4 +1,4 @@
--- What one hand alone makes of a book that workers have left (docs/rules.md, "Workers").
+-- What is made of a book that has steps (docs/rules.md, "Workers").
 use Rattle.std.specs.Prelude.{◌≡◌, List, ◌++◌}
 use Rattle.tau_trace.specs.declared.step.Step.{Step}
 use Rattle.tau_trace.specs.Run.{Run}
