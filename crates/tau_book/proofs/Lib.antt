@@ -10,3 +10,4 @@ pub mod StoreLemmas
 pub mod Choices
 pub mod HandsLeft
 pub mod AdoptLemmas
+pub mod FirstJobs

@@ -8,6 +8,7 @@ pub mod Adopted
 pub mod Laws
 pub mod Places
 pub mod Lefts
-pub mod Onward
 pub mod Working
+pub mod Beginnings
+pub mod Onward
 pub mod Inner

@@ -3,6 +3,7 @@
 
 mod adopting;
 mod answers;
+mod beginnings;
 mod book;
 mod choosing;
 mod gates;
@@ -18,6 +19,7 @@ mod stepping;
 mod tidying;
 
 pub use answers::{Next, Told};
+pub use beginnings::{adopted_has_all_jobs, opened_has_all_jobs, opened_is_at_work};
 pub use book::Book;
 pub use gates::{Gate, OpenGate};
 pub use hand::Hand;
