@@ -28,9 +28,7 @@ use Rattle.tau_scripted.proofs.Members.{contains_here, contains_filter}
 use Rattle.tau_book.specs.Hands.{Held, IsNumbered}
 use Rattle.tau_book.specs.Books.{Booked, IsBook}
 use Rattle.tau_book.specs.Offers.{Offer, open_jobs, taken_up, jobs_with, store_without, options, number_drawn, generator_after}
-use Rattle.tau_book.specs.declared.answers.Next.{Next}
-use Rattle.tau_book.specs.declared.answers.Next.TheVariants as nexts
-use Rattle.tau_book.specs.Nexts.{IsNext, IsDueMade, IsIdle, IsHandedOut, IsReceived, begun_with}
+use Rattle.tau_book.specs.Nexts.{IsDueMade, IsIdle, IsHandedOut, IsReceived, begun_with}
 use Rattle.tau_book.specs.Tolds.{IsTurnStep as IsTurnMade, goes_on, is_over, IsStale, IsRedoneWith}
 use Rattle.tau_book.specs.Adopted.{HasJobFrom}
 use Rattle.tau_book.specs.Working.{AreJobs, HasAllJobs}
@@ -200,37 +198,11 @@ module _ (old new : Booked) (h k : Held) (job : TurnSoFar) (was : IsBook old) (i
       jobs_ended Q U s was.well_formed (stepped_well s a.1.appended) job (h.jobs ++ old.store) x.is_open x.others a.1.step.by (of_turn_begins_none s a.1.step.of_turn) a.2 in
       subst (λ (y : Held). HasAllJobs new y) (sym hand_is) (all_after old new h s h.jobs old.store x.some a.1.appended tried.store_is refl over)
 
--- what is the same after a call, and the step that it made
-pub next_limit : (old new : Booked) (h k : Held) (a : Next) → IsNext old new h k a → new.limit ≡ old.limit
-next_limit old new h k nexts.Complete n = ap (λ (b : Booked). b.limit) n.1
-next_limit old new h k nexts.Stopped n = ap (λ (b : Booked). b.limit) n.2
-next_limit old new h k (nexts.Idle out) n = ap (λ (b : Booked). b.limit) n.book_is
-next_limit old new h k (nexts.Work job) n = ap (λ (b : Booked). b.limit) n.book_is
-next_limit old new h k nexts.Stepped n = ⊎_elim (λ d. d.appended.limit_is) (λ r. r.limit_is) n
-
-pub handed_system : (old new : Booked) (h k : Held) (job : TurnSoFar) → IsHandedOut old new h k job → new.system ≡ old.system
-handed_system old new h k job d = ap (λ (b : Booked). b.system) d.book_is
-
-delivered_step : (old new : Core) (m : ℕ) (a : Delivered) → IsDelivered old new m a → (s : Step) × (new ≡ with_step old s)
-delivered_step old new m (Began job) d = (steps.Take job.who m, d.appended)
-delivered_step old new m Dropped d = (steps.Drop d.0 m, d.1)
-delivered_step old new m Fell d = (steps.Fall d.0 m, d.1)
-delivered_step old new m Voided d = (steps.Void d.0 m, d.1)
-delivered_step old new m Echoed d = (steps.Echo d.0 m, d.1)
-delivered_step old new m Heeded d = (steps.Heed d.0 m, d.1)
-
-pub next_step_made : (old new : Booked) (h k : Held) → IsNext old new h k nexts.Stepped → (s : Step) × (new.system ≡ with_step old.system s)
-next_step_made old new h k n = ⊎_elim (λ d. (d.step, d.appended.system_is)) (λ r. delivered_step old.system new.system r.message r.answer r.delivered) n
-
+-- what is known of a step of a turn that was made
 pub turn_made : (old new : Booked) (h k : Held) (job : TurnSoFar) → IsTurnMade old new h k job → (s : Step) × IsStepped old.system new.system job s
 turn_made old new h k job (goes_on tried hand_is) = (tried.acted.0, tried.acted.1)
 turn_made old new h k job (is_over tried hand_is) = (tried.acted.0, tried.acted.1)
 
-pub turn_limit : (old new : Booked) (h k : Held) (job : TurnSoFar) → IsTurnMade old new h k job → new.limit ≡ old.limit
-turn_limit old new h k job (goes_on tried hand_is) = tried.limit_is
-turn_limit old new h k job (is_over tried hand_is) = tried.limit_is
-
--- the book of a step that was made has its jobs, its store and its generator
 pub turn_store : (old new : Booked) (h k : Held) (job : TurnSoFar) → IsTurnMade old new h k job → (new.store ≡ old.store) × (k.generator ≡ h.generator) × (k.size ≡ h.size)
 turn_store old new h k job (goes_on tried hand_is) = (tried.store_is, ap (λ (x : Held). x.generator) hand_is, ap (λ (x : Held). x.size) hand_is)
 turn_store old new h k job (is_over tried hand_is) = (tried.store_is, ap (λ (x : Held). x.generator) hand_is, ap (λ (x : Held). x.size) hand_is)
