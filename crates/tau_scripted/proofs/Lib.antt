@@ -5,5 +5,5 @@ pub mod Homes
 pub mod DeliverableLemmas
 pub mod Ends
 pub mod Steps
-pub mod PostLemmas
+pub mod ScanLemmas
 pub mod TurnCounts

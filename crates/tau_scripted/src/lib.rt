@@ -4,10 +4,11 @@
 mod cursors;
 mod due;
 mod index;
+mod indexing;
 mod letters;
 mod making;
-mod posts;
 mod receipts;
+mod resuming;
 mod scripted;
 mod turns;
 

@@ -14,7 +14,7 @@ ghost use Rattle.tau_scripted.specs.Flight.{AreInFlight, AreDeliverable};
 
 use crate::cursors::due_by;
 use crate::index::Index;
-use crate::posts::post_all;
+use crate::indexing::index_of;
 use std::alloc::{AllocError, Global};
 use std::marker::Model;
 use tau_knowledge::Knowledge;
@@ -57,11 +57,24 @@ impl<'p, K: Knowledge + Drop> Scripted<'p, K> {
         ensures turns { IfOk result (λ s. s.turns ≡ []) }
     {
         let system = System::open(alloc, program)?;
-        let trace = system.trace();
-        let mut index = Index::new(alloc, trace.opening().nodes);
-        post_all(&mut index.mailboxes, trace)?;
         let mut cursor = Cursor::first();
         let _due = due_by(&system, &mut cursor);
+        Scripted::over(alloc, system, cursor)
+    }
+
+    /// A system whose run is legal and the cursor of its script there, with what a worker chooses from. The error is want of memory.
+    pub(crate) fn over(
+        alloc: Global,
+        system: System<'p, K>,
+        cursor: Cursor,
+    ) -> Result<Scripted<'p, K>, AllocError>
+        requires sound { Sound system.program }
+        requires legal { Legal system.program system.run }
+        requires cursor { CursorAt system.program.script system.run (len system.run) cursor }
+        ensures system { IfOk result (λ s. s.system ≡ system.entry) }
+        ensures turns { IfOk result (λ s. AreOpenTurns system.entry.run s.turns) }
+    {
+        let index = index_of(alloc, system.trace())?;
         Ok(Scripted {
             system,
             cursor,

@@ -1,10 +1,10 @@
 use Rattle.std.proofs.Common.{◌≡◌}
-use Rattle.tau_scripted.specs.Inner.Posted.{ArePosted}
-use Rattle.tau_scripted.proofs.posts.post_all.Given as goal
+use Rattle.tau_scripted.specs.Inner.Scans.{AreLettersBelow}
+use Rattle.tau_scripted.proofs.indexing.put_letters.Given as goal
 
 abbrev pub invariant-loop-message : goal.invariant-loop-message
 invariant-loop-message l = record {
   nodes : l.mailboxes.nodes ≡ l.initial.mailboxes.nodes;
-  posted : ArePosted l.trace.run l.message l.mailboxes.letters;
+  letters : AreLettersBelow l.trace.run l.message l.mailboxes.letters;
   busy : l.mailboxes.busy ≡ l.initial.mailboxes.busy;
 }
