@@ -13,6 +13,7 @@ mod laws;
 mod limits;
 mod place;
 mod ran;
+mod resuming;
 mod returns;
 mod serial;
 mod stepping;
