@@ -1,5 +1,5 @@
 -- How many elements of a list pass a test, where none stands there twice.
-use Rattle.std.proofs.Common.{◌≡◌, ◌≢◌, ◌⊎◌, ◌↔◌, inl, inr, ⊎_elim, ℕ, zero, suc, ◌+◌, ◌<◌, ◌≤◌, Bool, true, false, not, cond, eqb, eqb-true, eq-eqb, lt-ltb, le-ltb, Some, List, [], ◌∷◌, ◌++◌, length, filter, map, refl, sym, ap, ◌∙◌, subst, arith}
+use Rattle.std.proofs.Common.{◌≡◌, ◌≢◌, ◌↔◌, ⊎_elim, ℕ, suc, ◌+◌, ◌<◌, Bool, true, false, not, cond, eqb, eqb-true, eq-eqb, lt-ltb, le-ltb, Some, List, [], ◌∷◌, length, filter, map, refl, sym, ap, ◌∙◌, arith}
 use Rattle.std.specs.List.{Contains, AllPairs}
 use Rattle.std.specs.Prelude.{count_by, nat_lt, slice_get}
 use Rattle.std.proofs.lemmas.List.Kept.{AllPairs-filter}

@@ -1,6 +1,6 @@
 -- The jobs of a hand and the returned jobs, together.
-use Rattle.std.proofs.Common.{◌≡◌, ◌≢◌, ◌⊎◌, inl, inr, ⊎_elim, ℕ, ◌+◌, ◌<◌, ◌≤◌, Bool, true, false, not, cond, eqb, eqb-true, Option, Some, None, List, [], ◌∷◌, ◌++◌, length, get_or, filter, refl, sym, ap, ◌∙◌, subst, arith, append-nil, append_assoc}
-use Rattle.std.specs.List.{Contains, AllPairs, list_any}
+use Rattle.std.proofs.Common.{◌≡◌, ◌≢◌, ◌⊎◌, inl, inr, ⊎_elim, ℕ, Bool, true, false, not, cond, eqb, eqb-true, Option, Some, None, List, [], ◌∷◌, ◌++◌, length, get_or, refl, sym, ap, ◌∙◌, subst, arith, append-nil}
+use Rattle.std.specs.List.{Contains, list_any}
 use Rattle.std.specs.Prelude.{nat_lt, nat_le}
 use Rattle.std.specs.Option.{option_to_list}
 use Rattle.std.proofs.lemmas.List.Kept.{AllPairs-cons}
@@ -9,8 +9,7 @@ use Rattle.std.proofs.lemmas.List.Elements.{filter-append, Contains-append_left,
 use Rattle.tau_tree.specs.declared.programs.Program.{Program}
 use Rattle.tau_trace.specs.Run.{Run}
 use Rattle.tau_eval.specs.Turn.{TurnSoFar}
-use Rattle.tau_rules.specs.Answers.{IsOpenJob}
-use Rattle.tau_scripted.specs.OpenTurns.{IsOpenFrom, AreOpenTurns}
+use Rattle.tau_scripted.specs.OpenTurns.{AreOpenTurns}
 use Rattle.tau_scripted.proofs.Members.{contains_nothing, contains_here, contains_there, contains_cases, contains_filter, filter_contains}
 use Rattle.tau_book.specs.Hands.{Held, is_of}
 use Rattle.tau_book.specs.Offers.{open_jobs, earlier_of, earliest, without, taken_up, jobs_with, store_without}

@@ -1,5 +1,5 @@
-use Rattle.std.proofs.Common.{◌≡◌, ◌∙◌, ℕ, ◌≤◌, true, false, arith, ap, sym, subst}
-use Rattle.tau_trace.specs.Run.{Run, len}
+use Rattle.std.proofs.Common.{◌≡◌, ◌∙◌, ◌≤◌, arith, sym, subst}
+use Rattle.tau_trace.specs.Run.{len}
 use Rattle.tau_legal.specs.Traces.{Legal, Complete}
 use Rattle.tau_book.specs.Books.{Booked}
 use Rattle.tau_book.specs.SerialRun.{IsSerialRun}

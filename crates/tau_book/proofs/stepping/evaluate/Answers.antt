@@ -1,4 +1,4 @@
-use Rattle.std.proofs.Common.{◌≡◌, ap, subst}
+use Rattle.std.proofs.Common.{subst}
 use Rattle.tau_eval.specs.Turn.{TurnSoFar}
 use Rattle.tau_book.specs.Tolds.{IsTold, IsTurnStep, IsStale, IsRedoneWith}
 use Rattle.tau_book.proofs.AllJobs.{not_later, never_stale, never_redone, jobs_made, turn_made}

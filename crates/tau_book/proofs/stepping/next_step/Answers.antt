@@ -1,4 +1,4 @@
-use Rattle.std.proofs.Common.{◌≡◌, ⊎_elim, subst}
+use Rattle.std.proofs.Common.{⊎_elim, subst}
 use Rattle.tau_book.specs.Nexts.{IsNext}
 use Rattle.tau_book.proofs.AllJobs.{jobs_due, jobs_received, handed_out, not_idle}
 use Rattle.tau_book.proofs.Works.{works_due, works_received, works_handed_out}
