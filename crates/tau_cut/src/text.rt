@@ -13,6 +13,7 @@ ghost use Rattle.tau_cut.specs.Inner.Keeping as kept_specs;
 ghost use Rattle.tau_cut.specs.Inner.Keeping.{state_row, IsRowWritten, IsRowSmall, AreStateRows};
 
 use crate::cut::{Cut, Marked};
+use crate::kept::kept_places;
 use crate::kept_states::{Kept, states_kept};
 use crate::marking::greatest;
 use crate::parts::{add_count, add_who, headed};
