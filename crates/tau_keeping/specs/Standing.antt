@@ -36,6 +36,10 @@ pub record IsStepText (T : Run) (s : Step) (r : List ℕ) : Type 0 where
   pub spelled : IsSpelling r (form_behind T s ∷ [])
   pub means : MeansStep T.opening (born T (len T)) (sent T (len T)) (form_behind T s) s
 
+-- the step has a text there
+abbrev pub HasStepText : Run → Step → Type 0
+HasStepText T s = (r : List ℕ) × IsStepText T s r
+
 -- the run of a program before its first step
 abbrev pub opened : Program → Run
 opened P = record { opening = program_opening P; steps = [] }

@@ -9,7 +9,7 @@ ghost use Rattle.tau_journal.specs.Records.{IsAtRest, going_on};
 ghost use Rattle.tau_journal.specs.Room.{most_bytes, IsTooLarge, IsUnlessSmall};
 ghost use Rattle.tau_journal.specs.Gates.{gate_of};
 ghost use Rattle.tau_revival.specs.Revival.{IsRevival};
-ghost use Rattle.tau_keeping.specs.Standing.{IsStepText, StandsAt, StandsForEither};
+ghost use Rattle.tau_keeping.specs.Standing.{IsStepText, HasStepText, StandsAt, StandsForEither};
 
 use crate::texts::text_at;
 use std::alloc::{AllocError, Global};
@@ -41,6 +41,9 @@ pub fn keep_step<D: Disk>(
         → StandsAt (D.bytes disk.old) (gate_of journal) P T
         → LeavesOnly D.moment D.left_since disk.old disk.new (StandsForEither P T P trace.now.run) }
 
+    // Where a fault is told, the step has a text.
+    ensures text { (fault at : ℕ) → IsErrOf result (JournalError.Fault fault at) → (T : Run) (s : Step)
+        → trace.now.run ≡ appended T s → HasStepText T s }
     ensures fault { (fault at : ℕ) → IsErrOf result (JournalError.Fault fault at) → (T : Run) (s : Step) (r : List ℕ)
         → trace.now.run ≡ appended T s → IsStepText T s r
         → IsTooLarge (D.bytes disk.old) (gate_of journal + 5 + length r + 1) (JournalError.Fault fault at) }
