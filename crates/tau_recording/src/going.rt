@@ -1,6 +1,7 @@
 //! Going on with a run, each step of which is kept before the next is made.
-ghost use Rattle.std.specs.Prelude.{◌≡◌, ◌⊎◌, ◌≤◌, ℕ, IfOk, IfSome, IsErrOf, OnOk, length};
+ghost use Rattle.std.specs.Prelude.{◌≡◌, ◌⊎◌, ◌≤◌, ℕ, suc, IfOk, IfSome, IsErrOf, IsFalse, IsTrue, OnOk, length};
 ghost use Rattle.tau_io.specs.Faults.{HasRisen};
+ghost use Rattle.tau_trace.specs.Run.{len};
 ghost use Rattle.tau_disk.specs.Moments.{LeavesOnly};
 ghost use Rattle.tau_journal.specs.Records.{IsAtRest};
 ghost use Rattle.tau_journal.specs.Room.{most_bytes};
@@ -12,10 +13,11 @@ ghost use Rattle.tau_book.specs.Working.{HasAllJobs, IsAtWork};
 ghost use Rattle.tau_recording.specs.Going.{StandsBetween, HasNoRoom};
 
 use std::alloc::Global;
-use tau_book::{Book, Gate, Hand};
+use tau_book::{Book, Gate, Hand, next_step};
 use tau_clean::MarkedHearing;
 use tau_disk::Disk;
 use tau_journal::{Journal, JournalError};
+use tau_keeping::keep_step;
 
 /// Makes steps of a book by its one hand until its run is complete or has as many steps as the limit, and appends each to a
 /// journal before the next is made (docs/journal.md, "Going on"). Each evaluation stands between a call of the gate's `enter`
@@ -58,5 +60,55 @@ pub fn go_on<'p, G: Gate, D: Disk>(
     ensures disk_fault { IsErrOf result JournalError.DiskFault → HasRisen (D.faults disk.old) (D.faults disk.new) }
     ensures never_falls { D.faults disk.old ≤ D.faults disk.new }
 {
-    unreachable!()
+    let mut journal = journal;
+    for _ in 0..book.limit() {
+        let (kept, made) = keep_next(alloc, book, hand, journal, disk, gate)?;
+        journal = kept;
+        if !made {
+            return Ok(journal);
+        }
+    }
+    // That its run has no more steps than the limit.
+    let _system = book.system();
+    Ok(journal)
+}
+
+/// Makes the next step and appends it. `false` where there is none to make, since the run is complete or has as many steps as
+/// the limit. After an error the run may be a step longer than the journal.
+fn keep_next<'p, G: Gate, D: Disk>(
+    alloc: Global,
+    book: &mut Book<'p, MarkedHearing>,
+    hand: &mut Hand<'p>,
+    journal: Journal,
+    disk: &mut D,
+    gate: &G,
+) -> Result<(Journal, bool), JournalError>
+    requires jobs { HasAllJobs book.old hand.old }
+    requires rest { IsAtRest (D.bytes disk.old) (D.images disk.old) (gate_of journal) }
+    ensures jobs { OnOk result (HasAllJobs book.new hand.new) }
+    ensures grows { GoesOnFrom book.old book.new }
+    ensures size { hand.new.size ≡ hand.old.size }
+    ensures stepped { IfOk result (λ p. IsTrue p.1 → len book.new.system.run ≡ suc (len book.old.system.run)) }
+    ensures over { IfOk result (λ p. IsFalse p.1 → IsComplete book.new ⊎ IsAtLimit book.new) }
+    ensures serial { OnOk result ((seed : ℕ) → IsAtWork seed book.old hand.old → IsAtWork seed book.new hand.new) }
+    ensures rest { IfOk result (λ p. IsAtRest (D.bytes disk.new) (D.images disk.new) (gate_of p.0)) }
+    ensures stands { IfOk result (λ p. StandsAt (D.bytes disk.old) (gate_of journal) book.old.system.program book.old.system.run
+        → StandsAt (D.bytes disk.new) (gate_of p.0) book.old.system.program book.new.system.run) }
+    ensures within { OnOk result (IfSome (D.bytes disk.old) (λ file. length file ≤ most_bytes)
+        → IfSome (D.bytes disk.new) (λ file. length file ≤ most_bytes)) }
+    ensures any_moment { StandsAt (D.bytes disk.old) (gate_of journal) book.old.system.program book.old.system.run
+        → LeavesOnly D.moment D.left_since disk.old disk.new (StandsBetween book.old.system.program book.old.system.run book.new.system.run) }
+    ensures fault { (fault at : ℕ) → IsErrOf result (JournalError.Fault fault at) → fault ≡ 8 }
+    ensures full { (fault at : ℕ) → IsErrOf result (JournalError.Fault fault at)
+        → StandsAt (D.bytes disk.old) (gate_of journal) book.old.system.program book.old.system.run
+        → HasNoRoom book.old.system.program book.new.system.run (D.bytes disk.new) at }
+    ensures disk_fault { IsErrOf result JournalError.DiskFault → HasRisen (D.faults disk.old) (D.faults disk.new) }
+    ensures never_falls { D.faults disk.old ≤ D.faults disk.new }
+{
+    let made = next_step(book, hand, gate)?;
+    if !made {
+        return Ok((journal, false));
+    }
+    let kept = keep_step(journal, alloc, disk, book.system().trace())?;
+    Ok((kept, true))
 }
