@@ -8,3 +8,4 @@ pub mod TogetherLemmas
 pub mod DrillLemmas
 pub mod SerialLemmas
 pub mod MigrationLemmas
+pub mod SpellingLemmas

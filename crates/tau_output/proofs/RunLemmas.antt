@@ -51,29 +51,34 @@ pub ends : (limit : ℕ) (P : Program) (T : Run) (is_complete : Bool) → EndsAt
 ends limit P T true e = e.complete refl
 ends limit P T false e = e.stopped refl
 
--- what is written for a program is the text of a legal run
+-- what is written for a program is the text of a legal run of it
 pub runs_as : (limit : ℕ) (P : Program) (T : Run) (is_complete : Bool) (bytes text : List ℕ) → IsProgram bytes P → EndsAt limit P T is_complete → IsRunText P T text → IsReadBack P T text
-    → RunsAs limit bytes (end_of_run is_complete) text
-runs_as limit P T is_complete bytes text spelled e is_text read_back = record {
-  program = P;
-  spelled = spelled;
-  run = T;
-  well_formed = e.well_formed;
-  is_text = is_text;
-  read_back = read_back;
-  legal = e.legal;
-  ends = ends limit P T is_complete e;
-  safe = legal_safe P T e.well_formed e.legal;
-  decided = decided P T e.legal;
-  saved = report_lines P T is_text.are.report is_text.are.report_is;
-}
+    → (r : RunsAs limit bytes (end_of_run is_complete) text) × (r.program ≡ P) × (r.run ≡ T)
+runs_as limit P T is_complete bytes text spelled e is_text read_back = (
+  record {
+    program = P;
+    spelled = spelled;
+    run = T;
+    well_formed = e.well_formed;
+    is_text = is_text;
+    read_back = read_back;
+    legal = e.legal;
+    ends = ends limit P T is_complete e;
+    safe = legal_safe P T e.well_formed e.legal;
+    decided = decided P T e.legal;
+    saved = report_lines P T is_text.are.report is_text.are.report_is;
+  },
+  refl,
+  refl,
+)
 
 -- and where the run is the serial one
-pub runs_serially : (jobs seed limit : ℕ) (P : Program) (T : Run) (is_complete : Bool) (bytes text : List ℕ) → IsProgram bytes P → IsSerialRun P jobs seed limit T → EndsAt limit P T is_complete
-    → IsRunText P T text → IsReadBack P T text → RunsBy 1 jobs seed limit bytes (end_of_run is_complete) text
-unfolding runs_as
-runs_serially jobs seed limit P T is_complete bytes text spelled serial e is_text read_back =
-    record { runs = runs_as limit P T is_complete bytes text spelled e is_text read_back; serial = λ l. serial }
+pub runs_serially : (jobs seed limit : ℕ) (P : Program) (T : Run) (end : End) (bytes text : List ℕ) → IsSerialRun P jobs seed limit T → (r : RunsAs limit bytes end text) → r.program ≡ P → r.run ≡ T
+    → RunsBy 1 jobs seed limit bytes end text
+runs_serially jobs seed limit P T end bytes text serial r p t = record {
+  runs = r;
+  serial = λ l. subst (λ X. IsSerialRun X jobs seed limit r.run) (sym p) (subst (λ X. IsSerialRun P jobs seed limit X) (sym t) serial);
+}
 
 -- a run ends in one way
 pub ends_once : (limit other : ℕ) (P : Program) (T : Run) (end another : End) → EndsAs limit P T end → EndsAs other P T another → end ≡ another

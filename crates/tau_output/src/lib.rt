@@ -22,4 +22,5 @@ pub use laws::{
 };
 pub use outputs::{End, INPUT_LIMIT, Output, output_of, reads_input};
 pub use refusals::Refusal;
+pub use running::write_run;
 pub use together::output_by_workers;

@@ -11,13 +11,13 @@ ghost use Rattle.tau_output.specs.Runs.{RunsAs};
 ghost use Rattle.tau_output.specs.Writing.{Writes, HasLimit};
 
 use crate::outputs::refused_by;
-use crate::running::end_of;
+use crate::running::write_run;
 use crate::{Output, Refusal, output_of};
 use std::alloc::Global;
 use std::sync::Wait;
 use std::thread::Threads;
 use tau_command::Command;
-use tau_text::{InputError, read_program, run_text};
+use tau_text::{InputError, read_program};
 use tau_workers::{Gate, Settings, run_workers};
 
 /// What a command writes for the bytes of its input, as [`output_of`] says, but `run` with two workers or more starts a thread for
@@ -77,8 +77,5 @@ fn write_workers_run<R: Threads + Wait + Sync, G: Gate + Sync>(
 {
     let program = read_program(alloc, bytes)?;
     let ran = run_workers(rt, alloc, &program, settings, gate)?;
-    Ok(Output {
-        text: run_text(alloc, &program, &ran.trace)?,
-        end: end_of(ran.is_complete),
-    })
+    Ok(write_run(alloc, &program, &ran.trace, ran.is_complete)?)
 }

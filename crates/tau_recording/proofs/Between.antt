@@ -14,7 +14,7 @@ use Rattle.tau_rules.specs.System.{with_step}
 use Rattle.tau_book.specs.Books.{Booked}
 use Rattle.tau_book.specs.Onward.{BeginsWith}
 use Rattle.tau_recording.specs.Going.{StandsBetween, HasNoRoom}
-use Rattle.tau_recording.proofs.Onward.{begins_itself, begins_further, one_step_more, last_is}
+use Rattle.tau_recording.proofs.Onward.{begins_itself, begins_further, one_step_more}
 
 module _ {D : Type 0} (images : D → List ℕ → Type 0) (moment : D → ℕ) (left_since : D → ℕ → List ℕ → Type 0) (P : Program) where
   between : (T U : Run) → BeginsWith T U → (c : List ℕ) → StandsForEither P T P U c → StandsBetween P T U c

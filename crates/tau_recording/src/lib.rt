@@ -2,5 +2,11 @@
 #![tactic(auto)]
 
 mod going;
+mod keeping;
+mod resuming;
+mod reviving;
+mod running;
 
 pub use going::go_on;
+pub use keeping::keep_run;
+pub use resuming::{Resumed, resume_run};

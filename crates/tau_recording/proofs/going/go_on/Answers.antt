@@ -1,5 +1,4 @@
-use Rattle.std.proofs.Common.{◌≡◌, ◌+◌, ◌≤◌, inl, inr, refl, sym, ap, ◌∙◌, subst, arith, rules}
-use Rattle.tau_trace.specs.Run.{len}
+use Rattle.std.proofs.Common.{inr, refl, ◌∙◌, arith, rules}
 use Rattle.tau_journal.specs.Gates.{gate_of}
 use Rattle.tau_recording.proofs.Onward.{begins_itself, goes_nowhere, goes_further, risen_later}
 use Rattle.tau_recording.proofs.Between.{leaves_itself, leaves_more, stands_more, no_room_more}

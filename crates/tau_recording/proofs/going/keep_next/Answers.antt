@@ -1,5 +1,4 @@
-use Rattle.std.proofs.Common.{◌≡◌, IsTrue, sym, ap, ◌∙◌, subst, rules}
-use Rattle.tau_trace.specs.Run.{Run}
+use Rattle.std.proofs.Common.{◌≡◌, ap, ◌∙◌, rules}
 use Rattle.tau_rules.specs.System.{Core}
 use Rattle.tau_journal.specs.Gates.{gate_of}
 use Rattle.tau_recording.proofs.Onward.{last_is}

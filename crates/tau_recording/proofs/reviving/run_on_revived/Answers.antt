@@ -1,0 +1,54 @@
+use Rattle.std.proofs.Common.{inl, inr, ◌+◌, length, rules}
+use Rattle.tau_journal.specs.Records.{going_on}
+use Rattle.tau_journal.specs.Gates.{gate_of}
+use Rattle.tau_keeping.proofs.Finds.{no_failure}
+use Rattle.tau_recording.proofs.Faulted.{failed_told, unrevived_told}
+use Rattle.tau_recording.proofs.ResumedRuns.{leaves_marked, leaves_gone_on, leaves_fronts}
+use Rattle.tau_recording.proofs.reviving.run_on_revived.Goals as goal
+
+pub returns-in_err-revived-clause-any_moment : goal.returns-in_err-revived-clause-any_moment
+returns-in_err-revived-clause-any_moment g c at =
+    let P = c.args.found.program in
+    let T = c.args.found.trace.run in
+    leaves_marked g.D.Disk.images g.D.Disk.moment g.D.Disk.left_since P T c.revival_keeps_legality.ensures c.requires.sound c.requires.legal c.args.disk.now c.revive.new.disk (c.revive.ensures.any_moment at)
+
+pub returns-in_err-revived-clause-fault : goal.returns-in_err-revived-clause-fault
+returns-in_err-revived-clause-fault g c fault at is stands = inl (c.in_err-revived.ensures.fault fault at (search rules))
+
+pub returns-in_err-revived-clause-faulty : goal.returns-in_err-revived-clause-faulty
+returns-in_err-revived-clause-faulty g c fault at stands found =
+    let told = g.D.Disk.bytes c.args.disk.now in
+    let need = gate_of c.args.found.journal + 5 + length going_on + 1 in
+    failed_told _ c.from_residual.result c.in_err-revived.field-0.0 (search rules) fault at
+    (unrevived_told _ c.args.found.program told stands.told.file need stands.told.told c.in_err-revived.ensures.full c.in_err-revived.ensures.faulty fault at found)
+
+pub returns-in_err-ran-clause-any_moment : goal.returns-in_err-ran-clause-any_moment
+returns-in_err-ran-clause-any_moment g c at =
+    let P = c.args.found.program in
+    let T = c.args.found.trace.run in
+    leaves_gone_on g.D.Disk.images g.D.Disk.moment g.D.Disk.left_since P T c.revival_keeps_legality.ensures c.requires.sound c.requires.legal c.in_ok-revived.revived.program c.in_ok-revived.ensures.revival
+    c.args.disk.now c.revive.new.disk c.run_on_trace.new.disk (c.revive.ensures.any_moment at) (c.run_on_trace.ensures.any_moment (c.in_ok-revived.ensures.stands at))
+
+pub returns-in_err-ran-clause-fault : goal.returns-in_err-ran-clause-fault
+returns-in_err-ran-clause-fault g c fault at is stands =
+    inr (c.in_err-ran.ensures.fault fault at (search rules), c.in_ok-revived.revived.program, c.in_ok-revived.ensures.revival, c.in_err-ran.ensures.full fault at (search rules) (c.in_ok-revived.ensures.stands stands))
+
+pub returns-clause-any_moment : goal.returns-clause-any_moment
+returns-clause-any_moment g c at =
+    let P = c.args.found.program in
+    let T = c.args.found.trace.run in
+    leaves_gone_on g.D.Disk.images g.D.Disk.moment g.D.Disk.left_since P T c.revival_keeps_legality.ensures c.requires.sound c.requires.legal c.in_ok-revived.revived.program c.in_ok-revived.ensures.revival
+    c.args.disk.now c.revive.new.disk c.run_on_trace.new.disk (c.revive.ensures.any_moment at) (c.run_on_trace.ensures.any_moment (c.in_ok-revived.ensures.stands at))
+
+pub returns-clause-front : goal.returns-clause-front
+returns-clause-front g c at =
+    let P = c.args.found.program in
+    let T = c.args.found.trace.run in
+    leaves_fronts g.D.Disk.images g.D.Disk.moment g.D.Disk.left_since P T c.in_ok-ran.ran.trace.run c.in_ok-ran.ensures.begins c.in_ok-revived.revived.program
+    c.args.disk.now c.revive.new.disk c.run_on_trace.new.disk (c.revive.ensures.any_moment at) (c.in_ok-ran.ensures.front (c.in_ok-revived.ensures.stands at))
+
+pub returns-clause-faulty : goal.returns-clause-faulty
+returns-clause-faulty g c fault at stands found =
+    let told = g.D.Disk.bytes c.args.disk.now in
+    let need = gate_of c.args.found.journal + 5 + length going_on + 1 in
+    absurd (no_failure _ fault at (unrevived_told _ c.args.found.program told stands.told.file need stands.told.told c.in_ok-revived.ensures.full c.in_ok-revived.ensures.faulty fault at found))
