@@ -5,4 +5,5 @@ pub mod MarkLemmas
 pub mod ReadBack
 pub mod MarkedForms
 pub mod Telling
+pub mod SpellingLemmas
 pub mod Writing

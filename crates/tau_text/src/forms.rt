@@ -1,11 +1,15 @@
-//! The forms of a run text, and the text.
-ghost use Rattle.std.specs.Prelude.{◌≡◌, ◌∷◌, ◌++◌, [], All, IfOk, OnOk};
+//! The text of a program and a trace, made part by part.
+ghost use Rattle.std.specs.Prelude.{◌≡◌, ◌≢◌, ◌≤◌, ◌∷◌, [], All, IfOk, OnOk};
 ghost use Rattle.tau_sexpr.specs.Bytes.{IsWordByte};
+ghost use Rattle.tau_sexpr.specs.Form.{tree_of};
+ghost use Rattle.tau_sexpr.specs.Tree.{depth_of, depths, HasWords};
 ghost use Rattle.tau_tree.specs.Sound.{Sound};
+ghost use Rattle.tau_forms.specs.Printed as program_forms;
+ghost use Rattle.tau_forms.specs.Meaning.{Means};
 ghost use Rattle.tau_trace.specs.Run.{len};
 ghost use Rattle.tau_script.specs.Openings.{program_opening};
 ghost use Rattle.tau_text.specs.RunText.{mark as mark_of, IsRunText, IsReadBack};
-ghost use Rattle.tau_text.specs.Inner.Written.{AddsSteps, AreWritten};
+ghost use Rattle.tau_text.specs.Inner.Written.{AddsForms, AddsSteps, AddsReport};
 
 use std::alloc::{AllocError, Global};
 use tau_forms::forms_of;
@@ -16,59 +20,87 @@ use tau_trace::Trace;
 use tau_tree::Program;
 
 /// The run text of a program and a trace (docs/formats.md, "Run text"), from which both can be read back. It passes over the
-/// trace once for the steps and once for the report. The error is want of memory.
+/// trace once for the steps and once for the report. Beside the text, the forms of one part at a time take memory: those of the
+/// program, of a step or of the report. The error is want of memory.
+#[tactic(auto, using(tau_sexpr::proofs::Literals::word_literal), unfolding(tau_sexpr::specs::Bytes::is_word_byte, tau_sexpr::specs::Bytes::is_letter_or_digit, tau_sexpr::specs::Bytes::is_word_sign))]
 pub fn run_text(alloc: Global, program: &Program, trace: &Trace) -> Result<Vec<u8>, AllocError>
     requires opening { trace.now.run.opening ≡ program_opening program.now }
     requires sound { Sound program.now }
     ensures text { IfOk result (λ v. IsRunText program.now trace.now.run v.items) }
     ensures read_back { IfOk result (λ v. IsReadBack program.now trace.now.run v.items) }
 {
-    let forms = run_forms(alloc, program, trace)?;
-    print_forms(alloc, &forms)
+    let mut text = Vec::new(alloc);
+    add_program(alloc, &mut text, program)?;
+    add_mark(alloc, &mut text, b"trace")?;
+    add_steps(alloc, &mut text, trace)?;
+    add_mark(alloc, &mut text, b"report")?;
+    add_report(alloc, &mut text, program, trace)?;
+    Ok(text)
 }
 
-/// The forms of a run text: those of the program, the steps and the report, with their marks.
-#[tactic(auto, using(tau_sexpr::proofs::Literals::word_literal), unfolding(tau_sexpr::specs::Bytes::is_word_byte, tau_sexpr::specs::Bytes::is_letter_or_digit, tau_sexpr::specs::Bytes::is_word_sign))]
-fn run_forms(alloc: Global, program: &Program, trace: &Trace) -> Result<Forms, AllocError>
-    requires opening { trace.now.run.opening ≡ program_opening program.now }
-    requires sound { Sound program.now }
-    ensures { IfOk result (AreWritten program.now trace.now.run) }
+/// Adds the text of a program.
+fn add_program(alloc: Global, text: &mut Vec<u8>, program: &Program) -> Result<(), AllocError>
+    requires { Sound program.now }
+    ensures forms { OnOk result (AddsForms (program_forms.printed program.now) text.old.items text.new.items) }
+    ensures read_back { OnOk result (Means (program_forms.printed program.now) program.now) }
 {
-    let mut forms = forms_of(alloc, program)?;
-    add_mark(alloc, &mut forms, b"trace")?;
-    add_steps(alloc, &mut forms, trace)?;
-    add_mark(alloc, &mut forms, b"report")?;
-    let report = report_forms(alloc, program, trace)?;
-    add_copies(&mut forms, &report)?;
-    Ok(forms)
+    let forms = forms_of(alloc, program)?;
+    add_forms(alloc, text, &forms)
 }
 
-/// Adds a mark: a list of one word.
-fn add_mark(alloc: Global, forms: &mut Forms, word: &[u8]) -> Result<(), AllocError>
-    requires { All IsWordByte word.now }
-    ensures { OnOk result (forms.new ≡ forms.old ++ mark_of word.now ∷ []) }
+/// Adds the text of a mark: a list of one word.
+fn add_mark(alloc: Global, text: &mut Vec<u8>, word: &[u8]) -> Result<(), AllocError>
+    requires bytes { All IsWordByte word.now }
+    requires some { word.now ≢ [] }
+    ensures { OnOk result (AddsForms (mark_of word.now ∷ []) text.old.items text.new.items) }
 {
     let mut items = Forms::new(alloc);
     items.add(Form::Word(Word::of(alloc, word)?))?;
-    forms.add(Form::List(items))
+    add_form(alloc, text, Form::List(items))
 }
 
-/// Adds the forms of the steps of a trace, in order.
-fn add_steps(alloc: Global, forms: &mut Forms, trace: &Trace) -> Result<(), AllocError>
-    ensures { OnOk result (AddsSteps trace.now.run (len trace.now.run) forms.old forms.new) }
+/// Adds the texts of the steps of a trace, in order.
+fn add_steps(alloc: Global, text: &mut Vec<u8>, trace: &Trace) -> Result<(), AllocError>
+    ensures { OnOk result (AddsSteps trace.now.run (len trace.now.run) text.old.items text.new.items) }
 {
     for place in 0..trace.len() {
-        forms.add(form_of_step(alloc, trace, place)?)?;
+        add_form(alloc, text, form_of_step(alloc, trace, place)?)?;
     }
     Ok(())
 }
 
-/// Adds copies of forms, in order.
-fn add_copies(forms: &mut Forms, more: &Forms) -> Result<(), AllocError>
-    ensures { OnOk result (forms.new ≡ forms.old ++ more.now) }
+/// Adds the text of the report of a program and a trace.
+fn add_report(
+    alloc: Global,
+    text: &mut Vec<u8>,
+    program: &Program,
+    trace: &Trace,
+) -> Result<(), AllocError>
+    requires opening { trace.now.run.opening ≡ program_opening program.now }
+    requires sound { Sound program.now }
+    ensures { OnOk result (AddsReport program.now trace.now.run text.old.items text.new.items) }
 {
-    for form in more.items() {
-        forms.add(form.copy()?)?;
-    }
-    Ok(())
+    let forms = report_forms(alloc, program, trace)?;
+    add_forms(alloc, text, &forms)
+}
+
+/// Adds the text of a form.
+fn add_form(alloc: Global, text: &mut Vec<u8>, form: Form) -> Result<(), AllocError>
+    requires depth { depth_of (tree_of form) ≤ 200 }
+    requires words { HasWords (tree_of form) }
+    ensures { OnOk result (AddsForms (tree_of form ∷ []) text.old.items text.new.items) }
+{
+    let mut forms = Forms::new(alloc);
+    forms.add(form)?;
+    add_forms(alloc, text, &forms)
+}
+
+/// Adds the text of forms.
+fn add_forms(alloc: Global, text: &mut Vec<u8>, forms: &Forms) -> Result<(), AllocError>
+    requires depth { depths forms.now ≤ 200 }
+    requires words { All HasWords forms.now }
+    ensures { OnOk result (AddsForms forms.now text.old.items text.new.items) }
+{
+    let more = print_forms(alloc, forms)?;
+    text.extend_from_slice(&more)
 }

@@ -1,27 +1,28 @@
--- What is added to a list of forms, where a run text is made.
-use Rattle.std.specs.Prelude.{◌≡◌, ℕ, ◌<◌, ◌≤◌, List, ◌++◌, length, slice_get, All}
-use Rattle.tau_sexpr.specs.Tree.{Tree, depths, HasWords}
+-- What is added to a text, where a run text is made.
+use Rattle.std.specs.Prelude.{◌≡◌, ℕ, ◌<◌, List, ◌++◌, length, slice_get}
+use Rattle.tau_sexpr.specs.Tree.{Tree}
+use Rattle.tau_sexpr.specs.Printing.{printed}
+use Rattle.tau_sexpr.specs.Spelling.{IsSpelling}
 use Rattle.tau_tree.specs.declared.programs.Program.{Program}
-use Rattle.tau_forms.specs.Printed as program_forms
-use Rattle.tau_forms.specs.Meaning.{Means}
 use Rattle.tau_trace.specs.Run.{Run}
 use Rattle.tau_steps.specs.StepForms.{step_form_at, IsWrittenAt}
-use Rattle.tau_text.specs.RunText.{AreRunForms}
+use Rattle.tau_report.specs.Report.{IsReport}
 
--- the new list is the old one and the forms of the first n steps
-pub record AddsSteps (T : Run) (n : ℕ) (old new : List Tree) : Type 0 where
+-- the new text is the old one and that of these forms, which spells them
+pub record AddsForms (forms : List Tree) (old new : List ℕ) : Type 0 where
+  pub new_is : new ≡ old ++ printed forms
+  pub spelled : IsSpelling (printed forms) forms
+
+-- the new text is the old one and that of the forms of the first n steps
+pub record AddsSteps (T : Run) (n : ℕ) (old new : List ℕ) : Type 0 where
   pub steps : List Tree
-  pub new_is : new ≡ old ++ steps
   pub count : length steps ≡ n
   pub each : (k : ℕ) → k < n → slice_get steps k ≡ step_form_at T k
   pub values : (k : ℕ) → k < n → IsWrittenAt T k
-  pub depth : depths steps ≤ 65
-  pub words : All HasWords steps
+  pub added : AddsForms steps old new
 
--- the forms of a program, its run and their report, which can be printed and read back
-pub record AreWritten (P : Program) (T : Run) (forms : List Tree) : Type 0 where
-  pub are : AreRunForms P T forms
-  pub program : Means (program_forms.printed P) P
-  pub values : (k : ℕ) → IsWrittenAt T k
-  pub depth : depths forms ≤ 200
-  pub words : All HasWords forms
+-- the new text is the old one and that of the report
+pub record AddsReport (P : Program) (T : Run) (old new : List ℕ) : Type 0 where
+  pub report : List Tree
+  pub report_is : IsReport P T report
+  pub added : AddsForms report old new
