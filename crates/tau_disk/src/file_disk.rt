@@ -45,6 +45,14 @@ impl<'r, R: Files<File = File>> FileDisk<'r, R> {
     }
 }
 
+/// The file, locked, by a handle that is none of the three standard ones, also where one of these is closed: what is written there
+/// must not come into the file. The handle of a clone never is.
+fn locked(file: File) -> io::Result<File> {
+    let file = file.try_clone()?;
+    file.try_lock()?;
+    Ok(file)
+}
+
 /// Where the file is, and the file once it is open.
 #[derive(Drop)]
 struct Place<'r, R: Files<File = File>> {
@@ -61,10 +69,7 @@ impl<'r, R: Files<File = File>> Place<'r, R> {
                 .write(true)
                 .open(self.files, NAME)
             {
-                Ok(file) => {
-                    file.try_lock()?;
-                    self.file = Some(file);
-                }
+                Ok(file) => self.file = Some(locked(file)?),
                 Err(error) if error.kind() == ErrorKind::NotFound => return Ok(None),
                 Err(error) => return Err(error),
             }
@@ -80,7 +85,7 @@ impl<'r, R: Files<File = File>> Place<'r, R> {
                 .write(true)
                 .create_new(true)
                 .open(self.files, NAME)?;
-            file.try_lock()?;
+            let file = locked(file)?;
             File::open(self.files, ".")?.sync_all()?;
             self.file = Some(file);
         }
