@@ -1,8 +1,8 @@
 //! What commands write, and their statuses.
 use crate::words::words_of;
 use std::alloc::{AllocError, Global};
-use tau_cli::{Status, number, tau_still};
 use tau_io::{SteadySink, SteadySource};
+use tau_kept::{Status, number, tau_still};
 
 /// Adds how many lines a text has, and so many of the last ones.
 pub(crate) fn add_last_lines(

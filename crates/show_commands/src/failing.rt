@@ -1,7 +1,7 @@
 //! Commands of which one read or one write fails.
 use std::alloc::{AllocError, Global};
-use tau_cli::{Status, Words, number, tau_still};
 use tau_io::{MemorySink, MemorySource, SteadySink, SteadySource};
+use tau_kept::{Status, Words, number, tau_still};
 
 /// The most reads and the most writes of a command that are tried.
 const CALLS: u32 = 1_000;

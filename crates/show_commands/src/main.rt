@@ -8,28 +8,34 @@
 //! - a number: the number of lines that the command writes stands in place of them, and behind it so many of the last ones;
 //! - `=`: for each line `;? TEXT` of the input, how many of the lines that the command writes hold the text stands in place of them;
 //! - `!`: what comes where a read or a write fails (`failing.rt`);
-//! - `?`: what comes where the read behind the last byte that an input may have fails.
+//! - `?`: what comes where the read behind the last byte that an input may have fails;
+//! - `@`: several commands with ` | ` between them, over one disk in memory (`kept.rt`);
+//! - `*`: what comes where a call of the disk fails, and of `resume` then;
+//! - `&`: which evaluations began and which records were kept, one after another (`events.rt`), in place of what the command writes.
 //!
 //! The last line is that of a want of memory.
 #![tactic(auto)]
 
 mod answers;
 mod counted;
+mod events;
 mod failing;
 mod inputs;
+mod kept;
 mod words;
 
 use crate::answers::{add_check, add_last_lines, add_last_steps, add_status};
 use crate::counted::add_counts;
 use crate::failing::{Tried, add_failures, add_late_failure};
 use crate::inputs::{input_of, line_of};
+use crate::kept::{add_events, add_failing_disk, add_kept};
 use crate::words::{starts_one_worker, words_of};
 use std::alloc::{AllocError, Global};
 use std::process::ExitCode;
 use std::sync::Wait;
 use std::thread::Threads;
-use tau_cli::{OpenGate, Status, Words, tau, tau_still};
 use tau_io::{StdSink, StdSource, SteadySink, SteadySource, read_all, write_all_of};
+use tau_kept::{OpenGate, Status, Words, tau, tau_still};
 
 fn main(rt: HostRuntime) -> ExitCode {
     let alloc = rt.alloc();
@@ -91,10 +97,13 @@ fn add_section<R: Threads + Wait + Sync>(
     text.push(b'\n')?;
     let line = str::from_utf8(line).unwrap_or("");
     let (command, _title) = line.split_once(" ; ").unwrap_or((line, ""));
-    let (mark, words) = command.split_once(" ").unwrap_or((command, ""));
-    let words = words_of(alloc, words)?;
+    let (mark, commands) = command.split_once(" ").unwrap_or((command, ""));
+    let words = words_of(alloc, commands)?;
     let input = input_of(alloc, section)?;
     match mark {
+        "#@" => add_kept(alloc, text, commands, &input),
+        "#*" => add_failing_disk(alloc, text, commands, &input),
+        "#&" => add_events(alloc, text, commands, &input),
         "#!" => add_failures(alloc, text, Tried::new(&words, &input)),
         "#?" => {
             let status = add_late_failure(alloc, text, &words)?;

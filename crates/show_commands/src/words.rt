@@ -1,6 +1,6 @@
 //! The words of commands.
 use std::alloc::{AllocError, Global};
-use tau_cli::{Command, Line, Words, read_words};
+use tau_kept::{Command, Line, Words, read_words};
 
 /// The words of a line.
 pub(crate) fn words_of(alloc: Global, line: &str) -> Result<Words, AllocError> {

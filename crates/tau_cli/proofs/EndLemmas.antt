@@ -16,10 +16,10 @@ use Rattle.tau_output.specs.Asking.{AsksInVain}
 use Rattle.tau_cli.specs.declared.calls.Asked.{Asked}
 use Rattle.tau_cli.specs.declared.statuses.Status.{Status}
 use Rattle.tau_cli.specs.declared.statuses.Status.TheVariants.{Words, Input, ReadFault, WriteFault, NoMemory, Place}
-use Rattle.tau_cli.specs.Status.{of_end, of_refusal, IsRefusal, IsResult}
+use Rattle.tau_cli.specs.Status.{of_end, of_refusal, IsRefusal, IsResult, TellsOfDisk}
 use Rattle.tau_cli.specs.Output.{Writing, IsEndOf, IsOutput, Stops, IsUnlessUnread}
 use Rattle.tau_cli.specs.Ends.{Effect, Asks, Tells, Ends}
-use Rattle.tau_cli.proofs.OutputLemmas.{Refuses, asked_reads, output_left, left_told, never_told, place_told, stops_without_fault}
+use Rattle.tau_cli.proofs.OutputLemmas.{Refuses, asked_reads, output_left, left_told, never_told, place_told, stops_without_fault, stops_no_disk}
 
 -- What a command that has a fault reads.
 faulty_reads : (command : Command) (bytes : List ℕ) (fault at : ℕ) → IsInputFault command bytes fault at → IsTrue (reads_input command)
@@ -49,6 +49,12 @@ end_unrefused ends.Stopped h = absurd h
 end_unrefused (ends.Bad place) h = absurd h
 end_unrefused (ends.Broken checkpoint point fall) h = absurd h
 
+end_no_disk : (end : End) → ¬ TellsOfDisk (of_end end)
+end_no_disk ends.Done h = absurd h
+end_no_disk ends.Stopped h = absurd h
+end_no_disk (ends.Bad place) h = absurd h
+end_no_disk (ends.Broken checkpoint point fall) h = absurd h
+
 -- that a call refuses with this fault, or wants memory
 abbrev pub TellsOf : Result Output Refusal → ℕ → ℕ → Type 0
 TellsOf r fault at = (r ≡ Err (refusals.Fault fault at)) ⊎ (r ≡ Err refusals.NoMemory)
@@ -72,6 +78,7 @@ module _ (W : Writing) (line : List (List ℕ)) (source sink : Effect) where
     words = search rules;
     unread = search rules;
     refused = search rules;
+    no_disk = stops_no_disk s line source.before source.Stayed source.Failed a.status;
     read_fault = search rules;
     untouched = search rules;
     input = search rules;
@@ -134,6 +141,7 @@ module _ (W : Writing) (line : List (List ℕ)) (source sink : Effect) where
         words = λ e. absurd (other Words (λ x. x) e);
         unread = λ e. absurd (other Words (λ x. x) e);
         refused = λ n. absurd (none_named n);
+        no_disk = end_no_disk o.end;
         read_fault = λ e. absurd (other ReadFault (λ x. x) e);
         untouched = λ command e r. (a.untouched command e r, other ReadFault (λ x. x));
         input = λ fault at e. absurd (other (Input fault at) (λ x. x) e);
@@ -153,6 +161,7 @@ module _ (W : Writing) (line : List (List ℕ)) (source sink : Effect) where
         words = λ e. absurd (cc);
         unread = λ e. absurd (cc);
         refused = λ n. absurd (none_named n);
+        no_disk = λ told. told;
         read_fault = λ e. absurd (cc);
         untouched = λ command e r. (a.untouched command e r, λ x. absurd (cc));
         input = λ fault at e. absurd (cc);
@@ -172,6 +181,7 @@ module _ (W : Writing) (line : List (List ℕ)) (source sink : Effect) where
         words = λ e. absurd (cc);
         unread = λ e. absurd (cc);
         refused = λ n. inr refl;
+        no_disk = λ told. told;
         read_fault = λ e. absurd (cc);
         untouched = λ command e r. (a.untouched command e r, λ x. absurd (cc));
         input = λ fault at e. absurd (cc);

@@ -10,8 +10,8 @@ use Rattle.tau_output.specs.declared.refusals.Refusal.TheVariants as refusals
 use Rattle.tau_output.specs.Faults.{reads_input, IsInputFault}
 use Rattle.tau_output.specs.Asking.{place_asked}
 use Rattle.tau_cli.specs.declared.statuses.Status.{Status}
-use Rattle.tau_cli.specs.declared.statuses.Status.TheVariants.{Words, Input, ReadFault, NoMemory, Place}
-use Rattle.tau_cli.specs.Status.{of_end, of_refusal}
+use Rattle.tau_cli.specs.declared.statuses.Status.TheVariants.{Words, Input, ReadFault, NoMemory, Journal, DiskFault, Place}
+use Rattle.tau_cli.specs.Status.{of_end, of_refusal, TellsOfDisk}
 use Rattle.tau_cli.specs.Output.{Writing, AreLeft, IsEndOf, IsOutput, Stops, IsUnlessUnread}
 
 -- what was left, where it is told
@@ -70,3 +70,9 @@ stops_without_fault (Place place) words left U R command bytes h e l f r =
     inl (subst (λ x. IsEndOf x (Place place)) same (asked_end h.command place h.in_vain.asks))
 stops_without_fault NoMemory words left U R command bytes h e l f r = inr refl
 stops_without_fault s words left U R command bytes h e l f r = absurd h
+
+-- nothing that stops a command without a disk tells of one
+pub stops_no_disk : (s : Status) (words : List (List ℕ)) (left : Option (List ℕ)) (U R : Type 0) → Stops words left U R s → ¬ TellsOfDisk s
+stops_no_disk (Journal fault at) words left U R h t = h
+stops_no_disk DiskFault words left U R h t = h
+stops_no_disk s words left U R h t = absurd t

@@ -1,10 +1,9 @@
--- What the top call does, by the status with which it ends; and the process, by the number with which it exits.
+-- What the top call does, by the status with which it ends.
 use Rattle.std.specs.Prelude.{◌≡◌, ◌≢◌, ◌⊎◌, ℕ, ◌≤◌, false, IsTrue, List, length, Option, Some, None, Result, Ok, Err, IfOk, IfErr}
 use Rattle.std.specs.Io.KnownBytes.{Appends}
 use Rattle.tau_io.specs.Faults.{HasRisen}
 use Rattle.tau_io.specs.Put.{AppendsFront}
 use Rattle.tau_command.specs.declared.commands.Command.{Command}
-use Rattle.tau_command.specs.declared.commands.WordsError.{WordsError}
 use Rattle.tau_command.specs.Commands.{command_of}
 use Rattle.tau_output.specs.declared.outputs.Output.{Output}
 use Rattle.tau_output.specs.declared.refusals.Refusal.{Refusal}
@@ -15,7 +14,7 @@ use Rattle.tau_cli.specs.declared.calls.Asked.{Asked}
 use Rattle.tau_cli.specs.declared.statuses.Status.{Status}
 use Rattle.tau_cli.specs.declared.statuses.Status.TheVariants.{Words, Input, ReadFault, WriteFault, NoMemory, Place}
 use Rattle.tau_cli.specs.Output.{Writing, AreLeft, IsEndOf, IsOutput, IsFaulty, IsUnasked, Stops, IsUnlessUnread}
-use Rattle.tau_cli.specs.Status.{number_of, of_end, of_words_error, of_refusal, IsRefusal, IsResult}
+use Rattle.tau_cli.specs.Status.{of_end, of_refusal, IsRefusal, IsResult, TellsOfDisk}
 
 -- what a call did to its source, or to its sink: the bytes that it had left, or held, before and after, where it tells them; that
 -- it stayed as it was; and that its count of faults rose
@@ -60,6 +59,8 @@ pub record Ends (Writes : Writing) (line : List (List ℕ)) (source sink : Effec
   pub words : status ≡ Words → command_of line ≡ None
   pub unread : status ≡ Words → source.Stayed
   pub refused : command_of line ≡ None → (status ≡ Words) ⊎ (status ≡ NoMemory)
+  -- there is no disk
+  pub no_disk : ¬ TellsOfDisk status
   -- reading failed; `gen` and `drill` read nothing
   pub read_fault : status ≡ ReadFault → source.Failed
   pub untouched : (command : Command) → command_of line ≡ Some command → reads_input command ≡ false
@@ -87,14 +88,3 @@ pub record Ends (Writes : Writing) (line : List (List ℕ)) (source sink : Effec
   pub complete : (command : Command) (bytes : List ℕ) → command_of line ≡ Some command → source.before ≡ Some bytes
       → ((fault at : ℕ) → ¬ IsInputFault command bytes fault at) → ¬ source.Failed → ¬ sink.Failed
       → IsEndOf command status ⊎ (status ≡ NoMemory)
-
--- and so for words of which the collection may have failed: then nothing was read or written
-abbrev pub EndsFor : Writing → Result (List (List ℕ)) WordsError → Effect → Effect → Status → Type 0
-EndsFor Writes (Ok line) source sink status = Ends Writes line source sink status
-EndsFor Writes (Err error) source sink status = (status ≡ of_words_error error) × source.Stayed × sink.Stayed
-
--- the process exits with the number of the status with which its one call ended
-pub record Exits (Writes : Writing) (words : Result (List (List ℕ)) WordsError) (source sink : Effect) (number : ℕ) : Type 0 where
-  pub status : Status
-  pub is_number : number ≡ number_of status
-  pub ends : EndsFor Writes words source sink status

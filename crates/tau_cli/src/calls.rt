@@ -18,7 +18,8 @@ use tau_workers::Gate;
 /// Does what the words of a command line ask for: reads the input of their command, which is at most 16 MiB, and writes
 /// its text, in one call of `write_all_of`. It does all on the caller's thread, and starts no other.
 ///
-/// The status says how it ended (docs/formats.md, "Statuses"): `Words` exactly where the words name no command, and then
+/// The status says how it ended (docs/formats.md, "Statuses"): `Words` exactly where the words name no command, as `keep` and
+/// `resume` don't in this call, which has no disk, and then
 /// nothing is read; `ReadFault` only where the source's count of faults rose; `Input` exactly where the input has a fault,
 /// the first one (docs/formats.md, "Input faults"); `Place` exactly where `why` asks for a place at which no Hold, Drop or Fall stands,
 /// or `draw` for one at which no Checkpoint stands either that can't be kept. After these nothing is written. `Done`, `Stopped`, `Bad`
@@ -89,7 +90,7 @@ fn ask<I: Source>(alloc: Global, words: &Words, input: &mut I) -> Result<Asked, 
 }
 
 /// Writes an output, in one call of `write_all_of`, and nothing for a refusal.
-fn tell<O: Sink>(found: Result<Output, Refusal>, output: &mut O) -> Status
+pub fn tell<O: Sink>(found: Result<Output, Refusal>, output: &mut O) -> Status
     ensures { Tells found (effect_on O.held O.faults output.old output.new) result }
 {
     match found {
@@ -103,7 +104,7 @@ fn tell<O: Sink>(found: Result<Output, Refusal>, output: &mut O) -> Status
 }
 
 /// The bytes of a command's input, at most 16 MiB; none where the command reads none.
-fn read_input<I: Source>(
+pub fn read_input<I: Source>(
     alloc: Global,
     command: &Command,
     input: &mut I,

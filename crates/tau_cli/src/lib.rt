@@ -2,11 +2,9 @@
 #![tactic(auto)]
 
 mod calls;
-mod process;
 mod statuses;
 
-pub use calls::{tau, tau_still};
-pub use process::{exit_code, run_process, run_words};
+pub use calls::{read_input, tau, tau_still, tell};
 pub use statuses::{Status, number};
 pub use tau_command::{Command, Line, Words, WordsError, read_words};
 pub use tau_workers::{Gate, OpenGate};

@@ -2,12 +2,14 @@
 ghost use Rattle.std.specs.Prelude.{◌≡◌};
 ghost use Rattle.tau_cli.specs.Status.{number_of};
 
+use std::alloc::AllocError;
 use std::fmt;
 use tau_command::WordsError;
 use tau_io::ReadError;
+use tau_journal::JournalError;
 use tau_output::{End, INPUT_LIMIT, Refusal};
 use tau_points::Point;
-use tau_text::InputFault;
+use tau_text::{InputError, InputFault};
 
 /// How a command ended (docs/formats.md, "Statuses"). It is displayed as its line on standard error, without the line
 /// feed; `Done` is displayed as nothing.
@@ -40,6 +42,13 @@ pub enum Status {
         point: Point,
         fall: u32,
     },
+    /// The journal has a fault, with this number and at this place (docs/formats.md, "Journal"); nothing was written.
+    Journal {
+        fault: u8,
+        at: u64,
+    },
+    /// A call of the disk failed; nothing was written.
+    DiskFault,
     /// `why` or `draw` asks in vain for the step at this place of the run; nothing was written.
     Place {
         place: u64,
@@ -60,6 +69,8 @@ pub fn number(status: &Status) -> u8
         Status::WriteFault => 6,
         Status::NoMemory => 7,
         Status::Broken { .. } => 8,
+        Status::Journal { .. } => 9,
+        Status::DiskFault => 10,
         Status::Place { .. } => 11,
     }
 }
@@ -120,6 +131,46 @@ impl From<ReadError> for Status {
     }
 }
 
+impl From<InputError> for Status {
+    ghost use Rattle.std.specs.Prelude.{◌≡◌};
+    ghost use Rattle.tau_cli.specs.Status.{of_input_error};
+
+    ghost from_gives = { λ error s. s ≡ of_input_error error };
+
+    fn from(error: InputError) -> Status {
+        match error {
+            InputError::Fault { fault, at } => Status::Input { fault, at },
+            InputError::NoMemory => Status::NoMemory,
+        }
+    }
+}
+
+impl From<JournalError> for Status {
+    ghost use Rattle.std.specs.Prelude.{◌≡◌};
+    ghost use Rattle.tau_cli.specs.Status.{of_journal_error};
+
+    ghost from_gives = { λ error s. s ≡ of_journal_error error };
+
+    fn from(error: JournalError) -> Status {
+        match error {
+            JournalError::Fault { fault, at } => Status::Journal { fault, at },
+            JournalError::DiskFault => Status::DiskFault,
+            JournalError::NoMemory => Status::NoMemory,
+        }
+    }
+}
+
+impl From<AllocError> for Status {
+    ghost use Rattle.std.specs.Prelude.{◌≡◌};
+    ghost use Rattle.tau_cli.specs.declared.statuses.Status.TheVariants.{NoMemory};
+
+    ghost from_gives = { λ _ s. s ≡ NoMemory };
+
+    fn from(_error: AllocError) -> Status {
+        Status::NoMemory
+    }
+}
+
 impl From<Refusal> for Status {
     ghost use Rattle.std.specs.Prelude.{◌≡◌};
     ghost use Rattle.tau_cli.specs.Status.{of_refusal};
@@ -146,7 +197,7 @@ impl fmt::Display for Status {
             Status::Done => Ok(()),
             Status::Stopped => f.write_str("tau: stopped at the step limit"),
             Status::Words => f.write_str(
-                "tau: usage: tau run|check|audit|report|print|gen N|drill N|migrate|why N|cut|draw",
+                "tau: usage: tau run|check|audit|report|print|gen N|drill N|migrate|keep|resume|why N|cut|draw",
             ),
             Status::Input { fault, at } => write!(f, "tau: input fault {fault} at {at}"),
             Status::Bad { .. } => f.write_str("tau: a step is not legal"),
@@ -154,6 +205,8 @@ impl fmt::Display for Status {
             Status::WriteFault => f.write_str("tau: writing failed"),
             Status::NoMemory => f.write_str("tau: out of memory"),
             Status::Broken { .. } => f.write_str("tau: a checkpoint is not safe"),
+            Status::Journal { fault, at } => write!(f, "tau: journal fault {fault} at {at}"),
+            Status::DiskFault => f.write_str("tau: the disk failed"),
             Status::Place { place } => write!(f, "tau: no such decision at {place}"),
         }
     }

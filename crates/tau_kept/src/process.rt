@@ -1,12 +1,14 @@
-//! The process: its command line, its standard input and output, and the number that it ends with.
+//! The process: its command line, its standard input and output, its disk, and the number that it ends with.
 ghost use Rattle.std.specs.Prelude.{◌≡◌, ℕ, List, Result};
 ghost use Rattle.std.specs.Process.{exit_status};
 ghost use Rattle.tau_command.specs.declared.commands.WordsError.{WordsError};
 ghost use Rattle.tau_output.specs.Writing.{Writes};
-ghost use Rattle.tau_cli.specs.Ends.{EndsFor, Exits, effect_on};
+ghost use Rattle.tau_cli.specs.Ends.{effect_on};
 ghost use Rattle.tau_cli.specs.Status.{number_of};
+ghost use Rattle.tau_kept.specs.Disks.{disk_effect};
+ghost use Rattle.tau_kept.specs.Ends.{EndsFor, Exits};
 
-use crate::{OpenGate, Status, number, tau};
+use crate::tau_kept;
 use std::alloc::Global;
 use std::env;
 use std::io::{self, ErrorKind};
@@ -14,41 +16,46 @@ use std::process::ExitCode;
 use std::rt::Env;
 use std::sync::Wait;
 use std::thread::Threads;
-use tau_command::{Line, Words, WordsError};
+use tau_cli::{Line, OpenGate, Status, Words, WordsError, number};
+use tau_disk::Disk;
 use tau_io::{Sink, Source};
 
-/// Does what the command line of the process asks for, by one call of [`tau`](crate::tau). It prints the line of the status on
-/// standard error, and gives the number of the status (docs/formats.md, "Statuses"). A word that isn't UTF-8 is a faulty
+/// Does what the command line of the process asks for, by one call of [`tau_kept`](crate::tau_kept). It prints the line of the status
+/// on standard error, and gives the number of the status (docs/formats.md, "Statuses"). A word that isn't UTF-8 is a faulty
 /// command line; without memory for the words the status is `NoMemory`.
 ///
 /// Which words the process has, and what its standard error takes, no contract says.
-pub fn run_process<R: Env + Alloc + Eprint + Threads + Wait + Sync, I: Source, O: Sink>(
+pub fn run_process<R: Env + Alloc + Eprint + Threads + Wait + Sync, I: Source, O: Sink, D: Disk>(
     rt: &R,
     alloc: Global,
     input: &mut I,
     output: &mut O,
+    disk: &mut D,
 ) -> ExitCode
     ensures { (words : Result (List (List ℕ)) WordsError)
         × Exits Writes words (effect_on I.left I.faults input.old input.new)
-        (effect_on O.held O.faults output.old output.new) (exit_status result) }
+        (effect_on O.held O.faults output.old output.new)
+        (disk_effect D.bytes D.images D.moment D.left_since D.faults disk.old disk.new) (exit_status result) }
 {
     let words = collect_words(rt, alloc);
-    run_words(rt, alloc, words, input, output)
+    run_words(rt, alloc, words, input, output, disk)
 }
 
-/// Does what these words ask for, by one call of [`tau`](crate::tau), and nothing where they couldn't be collected. It prints the
-/// line of the status on standard error, and gives the number of the status (docs/formats.md, "Statuses").
-pub fn run_words<R: Eprint + Threads + Wait + Sync, I: Source, O: Sink>(
+/// Does what these words ask for, by one call of [`tau_kept`](crate::tau_kept), and nothing where they couldn't be collected. It prints
+/// the line of the status on standard error, and gives the number of the status (docs/formats.md, "Statuses").
+pub fn run_words<R: Eprint + Threads + Wait + Sync, I: Source, O: Sink, D: Disk>(
     rt: &R,
     alloc: Global,
     words: Result<Words, WordsError>,
     input: &mut I,
     output: &mut O,
+    disk: &mut D,
 ) -> ExitCode
     ensures { Exits Writes words (effect_on I.left I.faults input.old input.new)
-        (effect_on O.held O.faults output.old output.new) (exit_status result) }
+        (effect_on O.held O.faults output.old output.new)
+        (disk_effect D.bytes D.images D.moment D.left_since D.faults disk.old disk.new) (exit_status result) }
 {
-    let status = call_tau(rt, alloc, words, input, output);
+    let status = call_tau(rt, alloc, words, input, output, disk);
     if status != Status::Done {
         // Nothing is left to do where standard error takes no line.
         let _ = eprintln!(rt; "{status}");
@@ -63,19 +70,21 @@ pub fn exit_code(status: &Status) -> ExitCode
     ExitCode::from(number(status))
 }
 
-/// The call of `tau`, for words of which the collection may have failed.
-fn call_tau<R: Threads + Wait + Sync, I: Source, O: Sink>(
+/// The call of `tau_kept`, for words of which the collection may have failed.
+fn call_tau<R: Threads + Wait + Sync, I: Source, O: Sink, D: Disk>(
     rt: &R,
     alloc: Global,
     words: Result<Words, WordsError>,
     input: &mut I,
     output: &mut O,
+    disk: &mut D,
 ) -> Status
     ensures { EndsFor Writes words (effect_on I.left I.faults input.old input.new)
-        (effect_on O.held O.faults output.old output.new) result }
+        (effect_on O.held O.faults output.old output.new)
+        (disk_effect D.bytes D.images D.moment D.left_since D.faults disk.old disk.new) result }
 {
     match words {
-        Ok(words) => tau(rt, alloc, &words, input, output, &OpenGate),
+        Ok(words) => tau_kept(rt, alloc, &words, input, output, disk, &OpenGate),
         Err(error) => Status::from(error),
     }
 }

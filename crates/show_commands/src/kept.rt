@@ -1,0 +1,138 @@
+//! Commands with a disk in memory.
+use crate::answers::add_status;
+use crate::events::{CountingGate, NotingDisk};
+use crate::words::words_of;
+use std::alloc::{AllocError, Global};
+use tau_disk::MemoryDisk;
+use tau_io::{MemorySink, SteadySink, SteadySource};
+use tau_kept::{OpenGate, Status, kept_still, number};
+
+/// The most calls of a disk of which one fails in turn.
+const CALLS: u32 = 1_000;
+
+/// Adds what commands do one after another over one disk, which is empty at first. Between them stands ` | `. Three more
+/// words are answered here: `byte AT VALUE` changes a byte of the disk, `cut COUNT` leaves so many bytes, and `lost` before a command
+/// gives it a sink whose first write fails.
+pub(crate) fn add_kept(
+    alloc: Global,
+    text: &mut Vec<u8>,
+    line: &str,
+    input: &[u8],
+) -> Result<(), AllocError> {
+    let mut disk = disk_of(alloc, &[])?;
+    for command in line.split(" | ") {
+        let (verb, rest) = command.split_once(" ").unwrap_or((command, ""));
+        match verb {
+            "byte" => disk = with_byte(alloc, &disk, rest)?,
+            "cut" => disk = cut(alloc, &disk, rest)?,
+            "lost" => {
+                let fails = vec![in alloc; 0u32; 1]?;
+                add_command(alloc, text, rest, input, &mut disk, fails)?;
+            }
+            _ => add_command(alloc, text, command, input, &mut disk, Vec::new(alloc))?,
+        }
+    }
+    Ok(())
+}
+
+/// A disk of these bytes.
+fn disk_of(alloc: Global, bytes: &[u8]) -> Result<MemoryDisk, AllocError> {
+    let bytes = Vec::from_slice(alloc, bytes)?;
+    Ok(MemoryDisk::new(alloc, bytes, Vec::new(alloc)))
+}
+
+/// A disk with one byte changed; `AT VALUE` says which.
+fn with_byte(alloc: Global, disk: &MemoryDisk, words: &str) -> Result<MemoryDisk, AllocError> {
+    let (at, value) = words.split_once(" ").unwrap_or((words, ""));
+    let mut bytes = Vec::from_slice(alloc, disk.bytes())?;
+    if let Some(byte) = bytes.get_mut(number_of(at)) {
+        *byte = value.parse().unwrap_or(0);
+    }
+    Ok(MemoryDisk::new(alloc, bytes, Vec::new(alloc)))
+}
+
+/// A disk of the first bytes of another, as many as the word says.
+fn cut(alloc: Global, disk: &MemoryDisk, word: &str) -> Result<MemoryDisk, AllocError> {
+    let bytes = disk.bytes();
+    let count = number_of(word).min(bytes.len());
+    disk_of(alloc, &bytes[..count])
+}
+
+/// The number that a word spells, or 0.
+fn number_of(word: &str) -> usize {
+    word.parse().unwrap_or(0)
+}
+
+/// Adds what a command writes with this disk, its status, and how many bytes the disk has then. The sink fails at the calls of
+/// these numbers.
+fn add_command(
+    alloc: Global,
+    text: &mut Vec<u8>,
+    words: &str,
+    input: &[u8],
+    disk: &mut MemoryDisk,
+    fails: Vec<u32>,
+) -> Result<(), AllocError> {
+    let words = words_of(alloc, words)?;
+    let mut source = SteadySource::new(Vec::from_slice(alloc, input)?);
+    let mut sink = MemorySink::new(alloc, 65_536, fails);
+    let status = kept_still(alloc, &words, &mut source, &mut sink, disk, &OpenGate);
+    text.extend_from_slice(sink.bytes())?;
+    add_status(alloc, text, status)?;
+    let count = disk.bytes().len();
+    text.extend_from_slice(format!(in alloc; "; {count} bytes on the disk\n")?.as_bytes())
+}
+
+/// Adds, for each call of the disk in turn that fails while a command is done, the number of the status, and behind `/` that of
+/// `resume` over what the disk then has; and at the end those where none fails.
+pub(crate) fn add_failing_disk(
+    alloc: Global,
+    text: &mut Vec<u8>,
+    words: &str,
+    input: &[u8],
+) -> Result<(), AllocError> {
+    text.extend_from_slice(b"calls of the disk:")?;
+    for call in 0..CALLS {
+        let mut disk = MemoryDisk::new(alloc, Vec::new(alloc), vec![in alloc; call; 1]?);
+        let status = end_of(alloc, words, input, &mut disk)?;
+        let mut left = disk_of(alloc, disk.bytes())?;
+        let again = end_of(alloc, "resume", &[], &mut left)?;
+        let (first, second) = (number(&status), number(&again));
+        text.extend_from_slice(format!(in alloc; " {first}/{second}")?.as_bytes())?;
+        if status != Status::DiskFault {
+            break;
+        }
+    }
+    text.push(b'\n')?;
+    Ok(())
+}
+
+/// How a command ends with this disk.
+fn end_of(
+    alloc: Global,
+    words: &str,
+    input: &[u8],
+    disk: &mut MemoryDisk,
+) -> Result<Status, AllocError> {
+    let words = words_of(alloc, words)?;
+    let mut source = SteadySource::new(Vec::from_slice(alloc, input)?);
+    let mut sink = SteadySink::new(alloc);
+    Ok(kept_still(alloc, &words, &mut source, &mut sink, disk, &OpenGate))
+}
+
+/// Adds the evaluations that began and the gates of records that were opened while a command was done, one after another.
+pub(crate) fn add_events(
+    alloc: Global,
+    text: &mut Vec<u8>,
+    words: &str,
+    input: &[u8],
+) -> Result<(), AllocError> {
+    let words = words_of(alloc, words)?;
+    let mut source = SteadySource::new(Vec::from_slice(alloc, input)?);
+    let mut sink = SteadySink::new(alloc);
+    let gate = CountingGate::new();
+    let mut disk = NotingDisk::new(alloc, &gate);
+    let status = kept_still(alloc, &words, &mut source, &mut sink, &mut disk, &gate);
+    text.extend_from_slice(disk.events().as_bytes())?;
+    add_status(alloc, text, status)
+}

@@ -1,0 +1,4 @@
+pub mod StatusLemmas
+pub mod KeepLemmas
+pub mod ResumeLemmas
+pub mod EndLemmas

@@ -1,0 +1,136 @@
+-- Why a run isn't gone on with, and what is written of one that was.
+use Rattle.std.proofs.Common.{◌≡◌, ◌≢◌, inl, inr, ℕ, ◌≤◌, max, List, length, Bool, Option, Some, IfSome, Result, Ok, Err, refl, sym, subst}
+use Rattle.std.specs.Result.{IsErrAnd}
+use Rattle.tau_sexpr.specs.Printing.{printed}
+use Rattle.tau_tree.specs.declared.programs.Program.{Program}
+use Rattle.tau_forms.specs.Printed as forms
+use Rattle.tau_trace.specs.Run.{Run, len}
+use Rattle.tau_legal.specs.Traces.{Legal, Complete}
+use Rattle.tau_disk.specs.Bytes.{Only}
+use Rattle.tau_disk.specs.Moments.{LeavesOnly}
+use Rattle.tau_disk.proofs.Moments.{started}
+use Rattle.tau_journal.specs.Room.{most_bytes, IsFaultOrFailure}
+use Rattle.tau_journal.specs.declared.errors.JournalError.{JournalError}
+use Rattle.tau_journal.specs.declared.errors.JournalError.TheVariants as journals
+use Rattle.tau_keeping.specs.Standing.{Stands}
+use Rattle.tau_keeping.proofs.Finds.{no_failure}
+use Rattle.tau_resuming.specs.Faults.{IsResumeFault}
+use Rattle.tau_recording.specs.Kept.{IsKeptOn}
+use Rattle.tau_recording.specs.Resumed.{IsResumed, StandsForResumed, StandsForFrontOf, IsUnrevived, IsResumeRunFault}
+use Rattle.tau_recording.proofs.Onward.{begins_itself}
+use Rattle.tau_output.specs.declared.outputs.Output.{Output}
+use Rattle.tau_output.specs.Runs.{RunsAs}
+use Rattle.tau_cli.specs.declared.statuses.Status.{Status}
+use Rattle.tau_cli.specs.declared.statuses.Status.TheVariants.{NoMemory, Journal, DiskFault}
+use Rattle.tau_cli.specs.Status.{of_end, of_journal_error}
+use Rattle.tau_kept.specs.Disks.{DiskEffect}
+use Rattle.tau_kept.specs.Ends.{IsTextStatus, IsResumeRefusal, IsUnlessFailed, ResumeRefusals}
+use Rattle.tau_kept.specs.Inner.{Resumes}
+use Rattle.tau_kept.proofs.StatusLemmas.{if_some_at, another, text_status, failure_told, fault_of_status, failure_of_status}
+
+-- what holds of the bytes that a disk tells, told of each that it is
+pub told_each : (F : List ℕ → Type 0) (told : Option (List ℕ)) → IfSome told F → (file : List ℕ) → told ≡ Some file → F file
+told_each F told is file same = if_some_at told F file same is
+
+module _ (disk : DiskEffect) where
+  -- a fault of the disk is told with this status, and a program that isn't revived
+  abbrev pub TellsFaulty : Status → Type 0
+  TellsFaulty s = (file : List ℕ) (fault at : ℕ) → disk.before ≡ Some file → IsResumeFault file fault at → IsUnlessFailed s (Journal fault at)
+
+  abbrev pub TellsUnrevived : Status → Type 0
+  TellsUnrevived s = (file : List ℕ) (fault at : ℕ) → disk.before ≡ Some file → length file ≤ most_bytes → IsUnrevived file fault at → IsUnlessFailed s (Journal fault at)
+
+  -- a complete run stays
+  abbrev pub Stays : Type 0
+  Stays = (file : List ℕ) (P : Program) (T : Run) → disk.before ≡ Some file → Stands file P T → Legal P T → Complete P T → disk.after ≡ disk.before
+
+  -- what a crash leaves
+  abbrev pub LeavesResumed : Type 0
+  LeavesResumed = (file : List ℕ) (P : Program) (T : Run) → disk.before ≡ Some file → Only disk.before disk.images_before → Stands file P T → Legal P T → disk.Leaves (StandsForResumed P T)
+
+  pub told_stays : IfSome disk.before (λ file. (P : Program) (T : Run) → Stands file P T → Legal P T → Complete P T → disk.after ≡ disk.before) → Stays
+  told_stays stays file P T told stands legal complete =
+      told_each (λ f. (Q : Program) (U : Run) → Stands f Q U → Legal Q U → Complete Q U → disk.after ≡ disk.before) disk.before stays file told P T stands legal complete
+
+  pub told_leaves : IfSome disk.before (λ file. Only disk.before disk.images_before → (P : Program) (T : Run) → Stands file P T → Legal P T → disk.Leaves (StandsForResumed P T)) → LeavesResumed
+  told_leaves left file P T told only stands legal =
+      told_each (λ f. Only disk.before disk.images_before → (Q : Program) (U : Run) → Stands f Q U → Legal Q U → disk.Leaves (StandsForResumed Q U)) disk.before left file told only P T stands legal
+
+  -- a status of a text
+  pub quiet : (s : Status) → IsTextStatus s → TellsFaulty s → TellsUnrevived s → ResumeRefusals disk s
+  quiet s is faulty unrevived = record {
+    journal = λ fault at e. absurd (another s (Journal fault at) is (λ x. x) e);
+    faulty = faulty;
+    unrevived = unrevived;
+    unwritten = λ fault at other e. absurd (another s (Journal fault at) is (λ x. x) e);
+    disk_fault = λ e. absurd (another s DiskFault is (λ x. x) e);
+  }
+
+  pub no_memory : ResumeRefusals disk NoMemory
+  no_memory = quiet NoMemory tt (λ file fault at told h. inr (inr refl)) (λ file fault at told few h. inr (inr refl))
+
+  -- of an error of the journal
+  pub refused : (X : Type 0) (e : JournalError)
+      → ((fault at : ℕ) → e ≡ journals.Fault fault at → IfSome disk.before (λ file. IsResumeRunFault file disk.after fault at))
+      → IfSome disk.before (λ file. (fault at : ℕ) → IsResumeFault file fault at → IsFaultOrFailure {X = X} fault at (Err e))
+      → IfSome disk.before (λ file. (fault at : ℕ) → length file ≤ most_bytes → IsUnrevived file fault at → IsFaultOrFailure {X = X} fault at (Err e))
+      → ((fault at : ℕ) → fault ≢ 8 → e ≡ journals.Fault fault at → disk.after ≡ disk.before) → (e ≡ journals.DiskFault → disk.Failed) → ResumeRefusals disk (of_journal_error e)
+  refused X e fault_is faulty unrevived unwritten failed = record {
+    journal = λ fault at is. fault_is fault at (fault_of_status e fault at is);
+    faulty = λ file fault at told h. failure_told {X = X} e fault at
+        (told_each (λ f. (n a : ℕ) → IsResumeFault f n a → IsFaultOrFailure {X = X} n a (Err e)) disk.before faulty file told fault at h);
+    unrevived = λ file fault at told few h. failure_told {X = X} e fault at
+        (told_each (λ f. (n a : ℕ) → length f ≤ most_bytes → IsUnrevived f n a → IsFaultOrFailure {X = X} n a (Err e)) disk.before unrevived file told fault at few h);
+    unwritten = λ fault at other is. unwritten fault at other (fault_of_status e fault at is);
+    disk_fault = λ is. failed (failure_of_status e is);
+  }
+
+  -- the run was gone on with
+  module _ (X : Type 0) (x : X) (steps : ℕ) (Q : Program) (U : Run) (is_complete : Bool) (o : Output)
+      (faulty : IfSome disk.before (λ file. (fault at : ℕ) → IsResumeFault file fault at → IsFaultOrFailure {X = X} fault at (Ok x)))
+      (unrevived : IfSome disk.before (λ file. (fault at : ℕ) → length file ≤ most_bytes → IsUnrevived file fault at → IsFaultOrFailure {X = X} fault at (Ok x)))
+      (resumed : IsResumed disk.before steps Q U is_complete)
+      (r : RunsAs (max steps (len resumed.run)) (printed (forms.printed Q)) o.end o.text.items) (program : r.program ≡ Q) (run_is : r.run ≡ U)
+      (kept : IfSome disk.before (λ _. IsKeptOn disk.after disk.images_after Q U))
+      (front : IfSome disk.before (λ _. Only disk.before disk.images_before → disk.Leaves (StandsForFrontOf U))) where
+    pub resumes : Stays → LeavesResumed → Resumes steps disk (Ok o)
+    resumes stays left = record {
+      is_status = tt;
+      refusals = quiet (of_end o.end) (text_status (max steps (len resumed.run)) r.program r.run o.end r.ends)
+          (λ file fault at told h. absurd (no_failure x fault at (told_each (λ f. (n a : ℕ) → IsResumeFault f n a → IsFaultOrFailure {X = X} n a (Ok x)) disk.before faulty file told fault at h)))
+          (λ file fault at told few h. absurd (no_failure x fault at
+          (told_each (λ f. (n a : ℕ) → length f ≤ most_bytes → IsUnrevived f n a → IsFaultOrFailure {X = X} n a (Ok x)) disk.before unrevived file told fault at few h)));
+      stays = stays;
+      any_moment = left;
+      text = record {
+        program = Q;
+        run = U;
+        is_complete = is_complete;
+        resumed = resumed;
+        runs = r;
+        program_is = program;
+        run_is = run_is;
+        kept = kept;
+        front = front;
+      };
+    }
+
+  -- no text came of it
+  pub resumes_not : (steps : ℕ) (made : Result Output Status) (e : Status) → IsErrAnd made (λ s. s ≡ e) → IsResumeRefusal e → ResumeRefusals disk e → Stays → LeavesResumed → Resumes steps disk made
+  resumes_not steps (Ok o) e h is refuses stays left = absurd h
+  resumes_not steps (Err s) e h is refuses stays left =
+      subst (λ x. Resumes steps disk (Err x)) (sym h) (record { is_status = is; refusals = refuses; stays = stays; any_moment = left; text = tt })
+
+-- a disk that was not touched
+pub standing_still : {D : Type 0} (images : D → List ℕ → Type 0) (moment : D → ℕ) (left_since : D → ℕ → List ℕ → Type 0) → ((d : D) (c : List ℕ) → left_since d (moment d) c → images d c)
+    → (d : D) (told : Option (List ℕ)) (file : List ℕ) (P : Program) (T : Run) → told ≡ Some file → Only told (images d) → Stands file P T → Legal P T → LeavesOnly moment left_since d d (StandsForResumed P T)
+standing_still images moment left_since only_now d told file P T same only stands legal =
+    let only_file : Only (Some file) (images d) = subst (λ o. Only o (images d)) same only in
+    started moment left_since d (StandsForResumed P T) (λ c now. record {
+      program = P;
+      run = T;
+      how = inl refl;
+      begins = begins_itself T;
+      legal = legal;
+      stands = subst (λ f. Stands f P T) (sym (only_file c (only_now d c now))) stands;
+    })

@@ -1,0 +1,141 @@
+-- What a call with a disk does, by the status with which it ends; and the process, by the number with which it exits.
+use Rattle.std.specs.Prelude.{◌≡◌, ◌≢◌, ◌⊎◌, ◌≤◌, ℕ, List, length, Option, Some, None, IfSome, Result, Ok, Err}
+use Rattle.tau_tree.specs.declared.programs.Program.{Program}
+use Rattle.tau_trace.specs.Run.{Run}
+use Rattle.tau_legal.specs.Traces.{Legal, Complete}
+use Rattle.tau_text.specs.Meaning.{IsProgram}
+use Rattle.tau_disk.specs.Bytes.{Only}
+use Rattle.tau_journal.specs.Found.{IsBlank, IsCreateFault}
+use Rattle.tau_journal.specs.Room.{most_bytes}
+use Rattle.tau_keeping.specs.Standing.{Stands}
+use Rattle.tau_resuming.specs.Faults.{IsResumeFault}
+use Rattle.tau_recording.specs.Kept.{first_size, IsKeepFault}
+use Rattle.tau_recording.specs.Resumed.{StandsForResumed, IsUnrevived, IsResumeRunFault}
+use Rattle.tau_command.specs.declared.commands.Command.TheVariants.{Run as run}
+use Rattle.tau_command.specs.declared.commands.JournalCommand.{JournalCommand}
+use Rattle.tau_command.specs.declared.commands.JournalCommand.TheVariants.{Keep, Resume}
+use Rattle.tau_command.specs.declared.commands.WordsError.{WordsError}
+use Rattle.tau_command.specs.Commands.{journal_command_of}
+use Rattle.tau_output.specs.Faults.{input_limit, IsInputFault}
+use Rattle.tau_cli.specs.declared.statuses.Status.{Status}
+use Rattle.tau_cli.specs.declared.statuses.Status.TheVariants.{Done, Stopped, Input, ReadFault, WriteFault, NoMemory, Journal, DiskFault}
+use Rattle.tau_cli.specs.Status.{number_of, of_words_error}
+use Rattle.tau_cli.specs.Output.{Writing, AreLeft, IsUnlessUnread}
+use Rattle.tau_cli.specs.Ends.{Effect, Ends}
+use Rattle.tau_kept.specs.Disks.{DiskEffect}
+use Rattle.tau_kept.specs.Texts.{SpellsProgram, IsBlankOrOfInput, IsKeptText, IsResumedText, WritesText}
+
+-- ---- keep
+
+-- a status with which `keep` may end before it writes
+abbrev pub IsKeepRefusal : Status → Type 0
+IsKeepRefusal (Input fault at) = Unit {0}
+IsKeepRefusal ReadFault = Unit {0}
+IsKeepRefusal NoMemory = Unit {0}
+IsKeepRefusal (Journal fault at) = Unit {0}
+IsKeepRefusal DiskFault = Unit {0}
+IsKeepRefusal status = ⊥
+
+-- a status with which `resume` may end before it writes
+abbrev pub IsResumeRefusal : Status → Type 0
+IsResumeRefusal NoMemory = Unit {0}
+IsResumeRefusal (Journal fault at) = Unit {0}
+IsResumeRefusal DiskFault = Unit {0}
+IsResumeRefusal status = ⊥
+
+-- a status with which a run text ends, or a front of one
+abbrev pub IsTextStatus : Status → Type 0
+IsTextStatus Done = Unit {0}
+IsTextStatus Stopped = Unit {0}
+IsTextStatus WriteFault = Unit {0}
+IsTextStatus NoMemory = Unit {0}
+IsTextStatus status = ⊥
+
+-- bytes that a source had left are an input with this fault at this place, which is that of `run`
+pub record IsFaultyProgram (jobs seed steps : ℕ) (left : Option (List ℕ)) (fault at : ℕ) : Type 0 where
+  pub bytes : List ℕ
+  pub are_left : AreLeft left bytes
+  pub has_fault : IsInputFault (run 1 jobs seed steps) bytes fault at
+
+-- on a disk of these bytes, which has those after the call, the program that a source's bytes spell isn't kept, with this fault
+abbrev pub IsUnkept : Option (List ℕ) → List ℕ → Option (List ℕ) → ℕ → ℕ → Type 0
+IsUnkept left file after fault at = (P : Program) × SpellsProgram left P × IsKeepFault P file after fault at
+
+-- this status, or in its place a disk that failed, or want of memory
+abbrev pub IsUnlessFailed : Status → Status → Type 0
+IsUnlessFailed result status = (result ≡ status) ⊎ ((result ≡ DiskFault) ⊎ (result ≡ NoMemory))
+
+-- why `keep` ended with a status before it wrote
+pub record KeepRefusals (jobs seed steps : ℕ) (source : Effect) (disk : DiskEffect) (status : Status) : Type 0 where
+  pub read_fault : status ≡ ReadFault → source.Failed
+  -- the input has a fault, which is told whatever the disk has
+  pub input : (fault at : ℕ) → status ≡ Input fault at → IsFaultyProgram jobs seed steps source.before fault at
+  pub faulty : (bytes : List ℕ) (fault at : ℕ) → source.before ≡ Some bytes → IsInputFault (run 1 jobs seed steps) bytes fault at
+      → IsUnlessUnread status (Input fault at)
+  -- after these the disk is as it was
+  pub unread : status ≡ ReadFault → disk.Stayed
+  pub untouched : (fault at : ℕ) → status ≡ Input fault at → disk.Stayed
+  -- no journal is made of the program, or there is no room for the record of a step
+  pub journal : (fault at : ℕ) → status ≡ Journal fault at → IfSome disk.before (λ file. IsUnkept source.before file disk.after fault at)
+  pub unkept : (bytes file : List ℕ) (P : Program) (fault at : ℕ) → source.before ≡ Some bytes → length bytes ≤ input_limit → IsProgram bytes P
+      → disk.before ≡ Some file → IsCreateFault (first_size P) file fault at → (status ≡ ReadFault) ⊎ IsUnlessFailed status (Journal fault at)
+  pub held : (at : ℕ) → status ≡ Journal 7 at → disk.after ≡ disk.before
+  pub disk_fault : status ≡ DiskFault → disk.Failed
+
+-- what `keep` did that ended with this status
+pub record KeepEnds (jobs seed steps : ℕ) (source sink : Effect) (disk : DiskEffect) (status : Status) : Type 0 where
+  pub is_status : IsKeepRefusal status ⊎ IsTextStatus status
+  pub refusals : KeepRefusals jobs seed steps source disk status
+  -- on a blank disk on which nothing is pending, a crash at any moment of the call leaves it blank, or a journal of the input's
+  -- program and a legal run, whatever the status
+  pub any_moment : IfSome disk.before (λ file. IsBlank file → Only disk.before disk.images_before → disk.Leaves (IsBlankOrOfInput source.before))
+  pub text : WritesText (IsKeptText jobs seed steps source.before disk) sink status
+
+-- ---- resume
+
+-- why `resume` ended with a status before it wrote
+pub record ResumeRefusals (disk : DiskEffect) (status : Status) : Type 0 where
+  -- nothing is found to go on with, or it isn't gone on with
+  pub journal : (fault at : ℕ) → status ≡ Journal fault at → IfSome disk.before (λ file. IsResumeRunFault file disk.after fault at)
+  pub faulty : (file : List ℕ) (fault at : ℕ) → disk.before ≡ Some file → IsResumeFault file fault at → IsUnlessFailed status (Journal fault at)
+  pub unrevived : (file : List ℕ) (fault at : ℕ) → disk.before ≡ Some file → length file ≤ most_bytes → IsUnrevived file fault at
+      → IsUnlessFailed status (Journal fault at)
+  -- after each fault but 8 the bytes are those from before
+  pub unwritten : (fault at : ℕ) → fault ≢ 8 → status ≡ Journal fault at → disk.after ≡ disk.before
+  pub disk_fault : status ≡ DiskFault → disk.Failed
+
+-- what `resume` with so many steps did that ended with this status
+pub record ResumeEnds (steps : ℕ) (sink : Effect) (disk : DiskEffect) (status : Status) : Type 0 where
+  pub is_status : IsResumeRefusal status ⊎ IsTextStatus status
+  pub refusals : ResumeRefusals disk status
+  -- a complete run stays as it is on the disk
+  pub stays : (file : List ℕ) (P : Program) (T : Run) → disk.before ≡ Some file → Stands file P T → Legal P T → Complete P T → disk.after ≡ disk.before
+  -- on a disk on which nothing is pending, which stands for a program and a legal run, a crash at any moment of the call leaves it
+  -- standing for the program, or for its revival, and a legal run that begins with that one, whatever the status
+  pub any_moment : (file : List ℕ) (P : Program) (T : Run) → disk.before ≡ Some file → Only disk.before disk.images_before → Stands file P T → Legal P T
+      → disk.Leaves (StandsForResumed P T)
+  pub text : WritesText (IsResumedText steps disk) sink status
+
+-- ---- all commands
+
+-- what a command over a journal did; `resume` reads nothing
+abbrev pub EndsOverJournal : JournalCommand → Effect → Effect → DiskEffect → Status → Type 0
+EndsOverJournal (Keep jobs seed steps) source sink disk status = KeepEnds jobs seed steps source sink disk status
+EndsOverJournal (Resume jobs seed steps) source sink disk status = source.Stayed × ResumeEnds steps sink disk status
+
+-- what a call for the words of a command line did that ended with this status: that of a command over a journal, or else what the
+-- call without a disk does, and the disk stayed as it was
+pub record KeptEnds (Writes : Writing) (line : List (List ℕ)) (source sink : Effect) (disk : DiskEffect) (status : Status) : Type 0 where
+  pub over_journal : (command : JournalCommand) → journal_command_of line ≡ Some command → EndsOverJournal command source sink disk status
+  pub other : journal_command_of line ≡ None → Ends Writes line source sink status × disk.Stayed
+
+-- and so for words of which the collection may have failed: then nothing was read or written
+abbrev pub EndsFor : Writing → Result (List (List ℕ)) WordsError → Effect → Effect → DiskEffect → Status → Type 0
+EndsFor Writes (Ok line) source sink disk status = KeptEnds Writes line source sink disk status
+EndsFor Writes (Err error) source sink disk status = (status ≡ of_words_error error) × source.Stayed × sink.Stayed × disk.Stayed
+
+-- the process exits with the number of the status with which its one call ended
+pub record Exits (Writes : Writing) (words : Result (List (List ℕ)) WordsError) (source sink : Effect) (disk : DiskEffect) (number : ℕ) : Type 0 where
+  pub status : Status
+  pub is_number : number ≡ number_of status
+  pub ends : EndsFor Writes words source sink disk status

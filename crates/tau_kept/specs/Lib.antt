@@ -1,0 +1,4 @@
+pub mod Disks
+pub mod Texts
+pub mod Ends
+pub mod Inner

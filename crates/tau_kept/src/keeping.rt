@@ -1,0 +1,44 @@
+//! The command `keep`.
+ghost use Rattle.std.specs.Prelude.{◌≡◌, ◌≤◌};
+ghost use Rattle.tau_value.specs.declared.limits.TheConstants.{STEP_LIMIT};
+ghost use Rattle.tau_book.specs.declared.limits.TheConstants.{JOB_LIMIT};
+ghost use Rattle.tau_cli.specs.Ends.{effect_on};
+ghost use Rattle.tau_kept.specs.Disks.{disk_effect};
+ghost use Rattle.tau_kept.specs.Inner.{Keeps};
+
+use std::alloc::Global;
+use tau_cli::{Command, Gate, Status, read_input};
+use tau_disk::Disk;
+use tau_io::Source;
+use tau_output::{Output, write_run};
+use tau_recording::keep_run;
+use tau_text::read_program;
+
+/// Makes the serial run of the program that an input spells, and keeps it in a new journal; the run text, or the status with which
+/// that ends before anything is written.
+pub(crate) fn kept_text<I: Source, G: Gate, D: Disk>(
+    alloc: Global,
+    jobs: u32,
+    seed: u64,
+    steps: u32,
+    input: &mut I,
+    disk: &mut D,
+    gate: &G,
+) -> Result<Output, Status>
+    requires some { 1 ≤ jobs }
+    requires few { jobs ≤ JOB_LIMIT }
+    requires limit { steps ≤ STEP_LIMIT }
+    ensures { Keeps jobs seed steps (effect_on I.left I.faults input.old input.new)
+        (disk_effect D.bytes D.images D.moment D.left_since D.faults disk.old disk.new) result }
+{
+    let command = Command::Run {
+        workers: 1,
+        jobs,
+        seed,
+        steps,
+    };
+    let bytes = read_input(alloc, &command, input)?;
+    let program = read_program(alloc, &bytes)?;
+    let ran = keep_run(alloc, &program, jobs, seed, steps, disk, gate)?;
+    Ok(write_run(alloc, &program, &ran.trace, ran.is_complete)?)
+}
