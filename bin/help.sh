@@ -27,7 +27,7 @@ overview() {
     echo
     echo "\`bin/tau help COMMAND\` tells of one command. Where to read on, in $root:"
     echo
-    echo "    docs/tutorial.md   seven steps, each a program with a failure"
+    echo "    docs/tutorial.md   eight steps, each a program with a failure"
     echo "    docs/manual.md     words, statuses, faults of inputs, and each command"
     echo "    docs/language.md   the language of behaviours"
 }

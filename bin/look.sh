@@ -11,6 +11,11 @@ reads() {
     has "$reading" "$1"
 }
 
+# Whether a command has a journal, in tau.journal of the present folder.
+keeps() {
+    has ' keep resume ' "$1"
+}
+
 is_number() {
     case ${1#+} in "" | *[!0-9]*) false ;; esac
 }

@@ -2,8 +2,9 @@
 # What `bin/tau` tells behind the program's own line where the status isn't 0: a part of bin/tau. All of it goes to standard error.
 
 # The first lines that the program wrote, of which one names the fault or the place. They are asked for once more where the program is built:
-# the first time its ends were the caller's alone.
+# the first time its ends were the caller's alone. An input of `keep` has the faults of `run`, which opens no file.
 said() {
+    [ "$command" != keep ] || set -- run --workers 1 --steps 0
     if [ -n "$room" ]; then
         cat "$room/line" "$room/output"
     else
@@ -60,11 +61,21 @@ tell_place() {
     done
 }
 
+# What the statuses of a journal mean most often. The program isn't asked again, since it might then write.
+tell_journal() {
+    case $command:$status in
+    keep:9) say "with fault 7 a run is kept here already; \`bin/tau resume\` goes on with it, and \`bin/tau help keep\` tells more" ;;
+    resume:9) say "with fault 1 no run is kept here; \`bin/tau help resume\` tells of the other faults" ;;
+    *) say "tau.journal can't be opened, written or synced here, or another process has it open; \`bin/tau help $command\` tells more" ;;
+    esac
+}
+
 tell() {
     newline='
 '
     case $status in
     2) tell_words ;;
     3 | 4 | 8 | 11) tell_place "$@" ;;
+    9 | 10) tell_journal ;;
     esac
 }

@@ -64,7 +64,7 @@ function node(column, rest) {
     if (depth == 1) items++
     if (!is_node || is_told || nodes++ != at) return
     if (depth == 0 && rest ~ /^\([ \t\r]*trace[ \t\r]*\)/)
-        found(column, command == "run" ? "run reads a program, and here the steps of a run text begin" : without_nodes("before (trace)"))
+        found(column, command == "run" || command == "keep" ? command " reads a program, and here the steps of a run text begin" : without_nodes("before (trace)"))
     else found(column, told[kind])
 }
 

@@ -2,8 +2,8 @@
 # shellcheck shell=bash
 
 _tau() {
-    local word=${COMP_WORDS[COMP_CWORD]} before=${COMP_WORDS[COMP_CWORD-1]} commands="run check audit report print gen drill migrate why cut draw" options="" command="" number="" at
-    local needing=" gen drill why " reading=" run check audit report print migrate why cut draw "
+    local word=${COMP_WORDS[COMP_CWORD]} before=${COMP_WORDS[COMP_CWORD-1]} commands="run check audit report print gen drill migrate keep resume why cut draw" options="" command="" number="" at
+    local needing=" gen drill why " reading=" run check audit report print migrate keep why cut draw "
     COMPREPLY=()
     if [[ $COMP_CWORD -eq 1 ]]; then
         mapfile -t COMPREPLY < <(compgen -W "$commands help version prove" -- "$word")
@@ -22,6 +22,8 @@ _tau() {
     done
     case $command in
     run) options="--workers --jobs --seed --steps" ;;
+    keep) options="--workers --jobs --seed --steps" ;;
+    resume) options="--workers --jobs --seed --steps" ;;
     draw) options="--from --to" ;;
     help)
         [[ $COMP_CWORD -gt 2 ]] || mapfile -t COMPREPLY < <(compgen -W "$commands" -- "$word")
