@@ -1,5 +1,6 @@
 -- What came of an effect, from what came of the next effect of an open turn.
-use Rattle.std.proofs.Common.{◌≡◌, ℕ, ◌<◌, Some, sym, ap, ◌∙◌, subst}
+use Rattle.std.proofs.Common.{◌≡◌, ℕ, ◌<◌, Option, Some, None, sym, ap, ◌∙◌, subst}
+use Rattle.tau_value.specs.declared.shared.Value.{Value}
 use Rattle.tau_value.specs.Value.{val_of}
 use Rattle.tau_tree.specs.Sound.{Sound}
 use Rattle.tau_trace.specs.declared.step.Step.{Step}
@@ -16,10 +17,8 @@ use Rattle.tau_legal.specs.Choices.{IsChoice}
 use Rattle.tau_legal.proofs.VersionLemmas.{turn_in_version}
 use Rattle.tau_legal.specs.declared.choices.Choice.{Choice}
 use Rattle.tau_legal.specs.declared.choices.Choice.TheVariants.{GoesOn, Ends}
-use Rattle.tau_rules.specs.declared.answers.Acted.{Acted}
-use Rattle.tau_rules.specs.declared.answers.Acted.TheVariants.{Reply, TurnOver, Redo}
 use Rattle.tau_rules.specs.System.{Core}
-use Rattle.tau_rules.specs.Answers.{IsOpenJob, IsStepped, IsActed}
+use Rattle.tau_rules.specs.Answers.{IsOpenJob, IsStepped, IsActed, acted_by}
 use Rattle.tau_rules.specs.Inner.Acting.{IsMade, IsMadeBy, step_of}
 use Rattle.tau_rules.proofs.ActLemmasOfJobs.{job_effect}
 use Rattle.tau_rules.proofs.ActLemmasOfSteps.{step_known, job_goes_on}
@@ -56,11 +55,10 @@ module _ (old new : Core) (kept : IsKept old) (few : len old.run < 1000000) (t :
   well_formed_after s made = well_formed_appended old.run s kept.well_formed (record { known = step_exists old kept t s made.step; version = turn_in_version old.run.opening.version s made.step.of_turn; few_steps = few })
 
   -- where the step of the next effect of the job's turn was appended, that came of the effect
-  pub acted : (a : Acted) → IsMade old new t a → IsActed old new job a
-  acted (Reply r) h =
+  pub acted : (o : Option Value) → IsMade old new t o → IsActed old new job (acted_by o)
+  acted (Some r) h =
       let s = h.0 in
       let made = h.1 in
       let after = job_goes_on old.program old.run s kept.well_formed (well_formed_after s made) h.2 job (val_of r) (made.step.by ∙ ap Some (sym who)) h.3 was_open in
       (s, stepped s made, h.2, h.3, subst (λ (k : Core). IsOpenJob k.program k.run (with_reply job (val_of r))) (sym made.appended) after)
-  acted TurnOver h = (h.0, stepped h.0 h.1, h.2)
-  acted (Redo again) h = absurd h
+  acted None h = (h.0, stepped h.0 h.1, h.2)

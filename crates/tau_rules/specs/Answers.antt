@@ -1,5 +1,6 @@
 -- What the calls of the system answer (docs/rules.md, "Steps").
 use Rattle.std.specs.Prelude.{◌≡◌, ◌≢◌, ℕ, suc, ◌<◌, IsTrue, Option, Some, None, ◌||◌}
+use Rattle.tau_value.specs.declared.shared.Value.{Value}
 use Rattle.tau_value.specs.Value.{val_of}
 use Rattle.tau_tree.specs.declared.programs.Program.{Program}
 use Rattle.tau_trace.specs.declared.step.Step.{Step}
@@ -90,6 +91,11 @@ IsActed old new pending (Reply r) =
     (s : Step) × IsStepped old new pending s × IsTrue (goes_on s) × Replies old.run (opening_states old.program.starts) (len old.run) s (val_of r) × IsOpenJob new.program new.run (with_reply pending (val_of r))
 IsActed old new pending TurnOver = (s : Step) × IsStepped old new pending s × IsTrue (ends_turn s)
 IsActed old new pending (Redo job) = IsRedone old new pending job
+
+-- the answer for a job that is known to be the record: the turn goes on with a reply, or is over
+abbrev pub acted_by : Option Value → Acted
+acted_by (Some r) = Reply r
+acted_by None = TurnOver
 
 -- no turn that began at a place is open after the run
 abbrev pub NoTurnFrom : Run → ℕ → Type 0

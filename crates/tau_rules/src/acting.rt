@@ -1,5 +1,5 @@
 //! Effects made steps.
-ghost use Rattle.std.specs.Prelude.{◌≡◌, ◌<◌, ◌↔◌, ℕ, Some, IsTrue, IfOk, IfErr, length, slice_get};
+ghost use Rattle.std.specs.Prelude.{◌≡◌, ◌<◌, ◌↔◌, ℕ, Some, IsTrue, IfOk, IfErr, OnErr, length, slice_get};
 ghost use Rattle.tau_value.specs.declared.limits.TheConstants.{STEP_LIMIT};
 ghost use Rattle.tau_value.specs.Value.{val_of};
 ghost use Rattle.tau_tree.specs.Sound.{bodies};
@@ -11,7 +11,7 @@ ghost use Rattle.tau_eval.specs.Effect.{eff_of};
 ghost use Rattle.tau_eval.specs.Turn.{IsTurnOf};
 ghost use Rattle.tau_legal.specs.Turns.{TurnHas};
 ghost use Rattle.tau_legal.specs.Choices.{asks_freedom as asks_freedom_by, IsChoice};
-ghost use Rattle.tau_rules.specs.Answers.{IsJobOf, IsActed, IsUnacted};
+ghost use Rattle.tau_rules.specs.Answers.{IsOpenJob, IsJobOf, IsActed, IsUnacted, acted_by};
 ghost use Rattle.tau_rules.specs.Inner.Acting.{IsMade, step_of};
 
 use crate::records::{Record, RecordChange};
@@ -22,6 +22,7 @@ use tau_eval::{Effect, Job, Pending, again};
 use tau_knowledge::Knowledge;
 use tau_legal::{Choice, asks_freedom, chosen};
 use tau_tree::{Expr, Program};
+use tau_value::Value;
 
 impl<'p, K: Knowledge + Drop> System<'p, K> {
     /// Makes the step of an effect that a turn has come to (docs/rules.md, "Steps"): `Reply` with the reply after a step with
@@ -50,7 +51,25 @@ impl<'p, K: Knowledge + Drop> System<'p, K> {
         if !is_record(self.program, own, who, pending) {
             return Ok(Acted::Redo(job_of(self.alloc, self.program, own, who, turn)?));
         }
-        self.make_step(who, pending.effect())
+        match self.act_open(pending)? {
+            Some(reply) => Ok(Acted::Reply(reply)),
+            None => Ok(Acted::TurnOver),
+        }
+    }
+
+    /// `act` where it is known that the job is the record of a turn that is open, so nothing is compared (docs/rules.md, "Steps"):
+    /// the reply after a step with which the turn goes on, `None` after one that ends it. The error is want of memory, and the
+    /// system is then as it was.
+    pub fn act_open(&mut self, pending: &Pending<'p>) -> Result<Option<Value>, AllocError>
+        requires few { len self.old.run < STEP_LIMIT }
+        requires is_open { IsOpenJob self.old.program self.old.run pending.now }
+        ensures ok { IfOk result (λ r. IsActed self.old self.new pending.now (acted_by r)) }
+        ensures unchanged { OnErr result (self.new ≡ self.old) }
+    {
+        // Their contracts say that the run is well formed and fits, and that the program is sound.
+        let _trace = self.trace();
+        let _program = self.program();
+        self.make_step(pending.who(), pending.effect())
     }
 
     /// The job of the record of a transactor's open turn, made anew (docs/rules.md, "Steps"); `None` exactly where no turn of it is
@@ -66,23 +85,22 @@ impl<'p, K: Knowledge + Drop> System<'p, K> {
         Ok(Some(job))
     }
 
-    /// Makes the step of the next effect of the open turn of a transactor.
-    fn make_step(&mut self, who: u32, effect: &Effect) -> Result<Acted<'p>, ActError>
+    /// Makes the step of the next effect of the open turn of a transactor, and gives the reply where the turn goes on.
+    fn make_step(&mut self, who: u32, effect: &Effect) -> Result<Option<Value>, AllocError>
         requires few { len self.old.run < STEP_LIMIT }
         requires effect { TurnHas self.old.program self.old.run who (len self.old.run) (eff_of effect.now) }
         ensures ok { IfOk result (IsMade self.old self.new who) }
-        ensures unchanged { IfErr result (λ e. self.new ≡ self.old) }
-        ensures err { IfErr result (λ e. e ≡ ActError.NoMemory) }
+        ensures unchanged { OnErr result (self.new ≡ self.old) }
     {
         match self.choice(who, effect)? {
             Choice::GoesOn { step, reply } => {
                 let kept = reply.copy()?;
                 self.append(step, RecordChange::Replied { reply: kept })?;
-                Ok(Acted::Reply(reply))
+                Ok(Some(reply))
             }
             Choice::Ends { step } => {
                 self.append(step, RecordChange::Kept)?;
-                Ok(Acted::TurnOver)
+                Ok(None)
             }
         }
     }

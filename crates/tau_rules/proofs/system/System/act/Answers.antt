@@ -1,20 +1,17 @@
 use Rattle.std.proofs.Common.{ℕ, Some, None, refl, subst, arith}
-use Rattle.std.proofs.lemmas.Result.{IfOk-weaker}
 use Rattle.tau_value.specs.Value.{val_of}
 use Rattle.tau_tree.specs.declared.programs.Program.{Program}
 use Rattle.tau_trace.specs.Run.{Run, len}
 use Rattle.tau_trace.specs.Turns.{IsOpenTurn}
-use Rattle.tau_eval.specs.Effect.{eff_of}
 use Rattle.tau_eval.specs.Turn.{TurnSoFar, IsTurnOf}
 use Rattle.tau_rules.specs.declared.records.Record.{Record}
 use Rattle.tau_rules.specs.Records.{IsRecord}
 use Rattle.tau_rules.specs.System.{Core}
-use Rattle.tau_rules.specs.Answers.{IsOpenJob, IsActed, NoTurnFrom, IsTurnEnd, no_take}
-use Rattle.tau_rules.specs.Inner.Acting.{IsTaker, IsMade}
+use Rattle.tau_rules.specs.Answers.{IsOpenJob, NoTurnFrom, IsTurnEnd, no_take}
+use Rattle.tau_rules.specs.Inner.Acting.{IsTaker}
 use Rattle.tau_rules.proofs.DeliverLemmas.{behaviour_exists}
 use Rattle.tau_rules.proofs.ActLemmas.{none_without_take}
 use Rattle.tau_rules.proofs.ActLemmasOfJobs.{taker_within_records, taker_record, record_open}
-use Rattle.tau_rules.proofs.ActLemmasOfAnswers.{IsKept, effect_of_job, acted}
 use Rattle.tau_rules.proofs.system.System.act.Goals as goal
 
 pub returns-in_default-clause-err : goal.returns-in_default-clause-err
@@ -70,8 +67,8 @@ returns-then-not-is_record-clause-ok g c =
           cc;
     }
 
-pub make_step-requires-clause-effect : goal.make_step-requires-clause-effect
-make_step-requires-clause-effect g c =
+pub act_open-requires-clause-is_open : goal.act_open-requires-clause-is_open
+act_open-requires-clause-is_open g c =
     let P : Program = c.self.inside.program.now in
     let T : Run = c.self.inside.trace.run in
     let t : ℕ = c.in-Some.who in
@@ -81,24 +78,4 @@ make_step-requires-clause-effect g c =
     let own : IsRecord P T t r = taker_record P T c.self.inside.records.items c.self.invariant.0.well_formed c.self.invariant.0.records_are t c.turn-turn.result taker r c.index-own.ensures in
     let opened : IsOpenTurn T t (len T) (Some job.place) = subst (λ p. IsOpenTurn T t (len T) (Some p)) c.turn-turn.ensures (c.is_open.ensures.0 c.if-not-is_open.false) in
     let is : IsTurnOf P t r.behaviour job.place (val_of r.message) r.replies job = c.is_record.ensures.0 c.if-not-is_record.false in
-    let was_open = subst (λ (k : Core). IsOpenJob k.program k.run job) c.self.view_is (record_open P T t job.place r job own opened is) in
-    effect_of_job c.args.self.now t (eff_of c.effect.result.now) job is.who c.effect.ensures was_open
-
-pub returns-clause-ok : goal.returns-clause-ok
-returns-clause-ok g c =
-    let P : Program = c.self.inside.program.now in
-    let T : Run = c.self.inside.trace.run in
-    let t : ℕ = c.in-Some.who in
-    let r : Record = c.index-own.result.now in
-    let job : TurnSoFar = c.args.pending.now in
-    let taker : IsTaker T c.turn-turn.result (Some t) = c.in-Some.ensures in
-    let own : IsRecord P T t r = taker_record P T c.self.inside.records.items c.self.invariant.0.well_formed c.self.invariant.0.records_are t c.turn-turn.result taker r c.index-own.ensures in
-    let opened : IsOpenTurn T t (len T) (Some job.place) = subst (λ p. IsOpenTurn T t (len T) (Some p)) c.turn-turn.ensures (c.is_open.ensures.0 c.if-not-is_open.false) in
-    let is : IsTurnOf P t r.behaviour job.place (val_of r.message) r.replies job = c.is_record.ensures.0 c.if-not-is_record.false in
-    let was_open = subst (λ (k : Core). IsOpenJob k.program k.run job) c.self.view_is (record_open P T t job.place r job own opened is) in
-    let inside : Core = record { program = P; run = T } in
-    let inside_kept : IsKept inside = record { sound = c.self.invariant.0.sound; well_formed = c.self.invariant.0.well_formed; fitting = c.self.invariant.0.fitting } in
-    let kept : IsKept c.args.self.now = subst IsKept c.self.view_is inside_kept in
-    IfOk-weaker c.make_step.result (IsMade c.args.self.now c.make_step.new.self t) (IsActed c.args.self.now c.make_step.new.self job)
-    (acted c.args.self.now c.make_step.new.self kept c.requires.few t job is.who was_open)
-    c.make_step.ensures.ok
+    subst (λ (k : Core). IsOpenJob k.program k.run job) c.self.view_is (record_open P T t job.place r job own opened is)
