@@ -18,7 +18,7 @@ use Rattle.tau_legal.specs.Fits.{Fits, is_of_turn}
 use Rattle.tau_legal.specs.Traces.{Fitting, IsLegal}
 use Rattle.tau_eval.specs.Turn as jobs
 use Rattle.tau_rules.specs.System.{Core, with_step}
-use Rattle.tau_rules.specs.Answers.{IsOpenJob, IsStepped, IsRedone, NoTurnFrom}
+use Rattle.tau_rules.specs.Answers.{IsOpenJob, IsStepped, IsRedone, NoTurnFrom, IsActed, acted_by}
 use Rattle.tau_check.specs.Families.{turn_of}
 use Rattle.tau_check.specs.Inner.Jobs.{HasJobOf, HasJobs, HasOtherJobs, KeepsOthers, IsTurnStep, IsKeptAfter}
 use Rattle.tau_check.specs.Inner.Checkers.{HasAsked, GoesOn}
@@ -57,6 +57,11 @@ not_redone old new job other opens is_open r = r.differs (job_once old.program o
 -- and its turn is open
 pub not_stale : (P : Program) (T : Run) (job : jobs.TurnSoFar) → IsOpenJob P T job → ¬ NoTurnFrom T job.place
 not_stale P T job is_open none = none job.who is_open.message is_open.turn
+
+-- what came of the effect of its record's job, is a step of its turn
+pub turn_step : (old new : Core) (job : jobs.TurnSoFar) (reply : Option Value) → IsActed old new job (acted_by reply) → IsTurnStep old new job reply
+turn_step old new job None h = (h.0, h.1, h.2)
+turn_step old new job (Some x) h = (h.0, h.1, h.4)
 
 -- the step that was made
 abbrev pub made : (old new : Core) (job : jobs.TurnSoFar) (reply : Option Value) → IsTurnStep old new job reply → (s : Step) × IsStepped old new job s

@@ -14,7 +14,7 @@ ghost use Rattle.tau_check.specs.Inner.Jobs.{IsTurnStep};
 use std::alloc::AllocError;
 use tau_clean::MarkedHearing;
 use tau_eval::Pending;
-use tau_rules::{ActError, Acted, FailError, LoseError, RepeatError, System};
+use tau_rules::{FailError, LoseError, RepeatError, System};
 use tau_trace::Step;
 use tau_value::Value;
 
@@ -87,11 +87,5 @@ pub(crate) fn make_step<'p>(
     requires is_open { IsOpenJob system.old.program system.old.run pending.now }
     ensures { IfOk result (IsTurnStep system.old system.new pending.now) }
 {
-    match system.act(pending) {
-        Ok(Acted::Reply(reply)) => Ok(Some(reply)),
-        Ok(Acted::TurnOver) => Ok(None),
-        Ok(Acted::Redo(_)) => unreachable!(),
-        Err(ActError::Stale { .. }) => unreachable!(),
-        Err(ActError::NoMemory) => Err(AllocError),
-    }
+    system.act_open(pending)
 }
