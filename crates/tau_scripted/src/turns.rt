@@ -1,18 +1,20 @@
 //! Steps of turns.
-ghost use Rattle.std.specs.Prelude.{◌≡◌, ◌<◌, ◌≤◌, length, IfOk, IfErr};
+ghost use Rattle.std.specs.Prelude.{◌≡◌, ◌<◌, ◌≤◌, length, IfOk, IfErr, OnErr};
 ghost use Rattle.tau_value.specs.declared.limits.TheConstants.{STEP_LIMIT};
 ghost use Rattle.tau_trace.specs.Run.{len};
 ghost use Rattle.tau_script.specs.Scripts.{NoneDue};
-ghost use Rattle.tau_rules.specs.Answers.{IsActed, IsUnacted};
+ghost use Rattle.tau_rules.specs.Answers.{IsOpenJob, IsActed, IsUnacted, acted_by};
 ghost use Rattle.tau_scripted.specs.ScriptedRun.{IsUnchangedAtRedo};
 ghost use Rattle.tau_scripted.specs.Inner.Index.{IsNodeOf};
 
 use crate::Scripted;
 use crate::cursors::due_by;
+use std::alloc::AllocError;
 use tau_eval::{Effect, Pending};
 use tau_knowledge::Knowledge;
 use tau_rules::{ActError, Acted};
 use tau_trace::Trace;
+use tau_value::Value;
 
 impl<'p, K: Knowledge + Drop> Scripted<'p, K> {
     /// Makes the step of an effect that a turn has come to, as `System::act` does (docs/rules.md, "Steps"). No step of the script
@@ -34,6 +36,27 @@ impl<'p, K: Knowledge + Drop> Scripted<'p, K> {
         self.index.act(message, node, pending, effect, &acted);
         let _due = due_by(&self.system, &mut self.cursor);
         Ok(acted)
+    }
+
+    /// `act` where it is known that the job is the record of a turn that is open, as `System::act_open` (docs/rules.md, "Steps"): the
+    /// reply after a step with which the turn goes on, `None` after one that ends it. No step of the script is due. The error is want
+    /// of memory, and nothing is different then.
+    pub fn act_open(&mut self, pending: &Pending<'p>) -> Result<Option<Value>, AllocError>
+        requires few { len self.old.system.run < STEP_LIMIT }
+        requires none_due { NoneDue self.old.system.program.script self.old.system.run (len self.old.system.run) }
+        requires is_open { IsOpenJob self.old.system.program self.old.system.run pending.now }
+        ensures ok { IfOk result (λ r. IsActed self.old.system self.new.system pending.now (acted_by r)) }
+        ensures turns { length self.new.turns ≤ length self.old.turns }
+        ensures unchanged { OnErr result (self.new ≡ self.old) }
+    {
+        let effect = pending.effect();
+        self.index.reserve_letter(effect)?;
+        let message = self.system.trace().sent();
+        let node = node_of(self.system.trace(), effect);
+        let reply = self.system.act_open(pending)?;
+        self.index.act_open(message, node, pending, effect, &reply);
+        let _due = due_by(&self.system, &mut self.cursor);
+        Ok(reply)
     }
 }
 
