@@ -1,15 +1,15 @@
 //! The book.
-ghost use Rattle.std.specs.Prelude.{◌≡◌, ◌<◌, ◌≤◌, ◌↔◌, [], IsTrue, IsFalse, IfOk, IfErr, OnErr, length};
+ghost use Rattle.std.specs.Prelude.{◌≡◌, ◌<◌, ◌≤◌, ◌↔◌, [], IsTrue, IsFalse, IfOk, IfErr, OnOk, OnErr, length};
 ghost use Rattle.tau_value.specs.declared.limits.TheConstants.{STEP_LIMIT};
 ghost use Rattle.tau_tree.specs.Sound.{Sound};
 ghost use Rattle.tau_script.specs.Openings.{program_opening};
 ghost use Rattle.tau_trace.specs.Run.{len};
 ghost use Rattle.tau_trace.specs.Known.{WellFormed};
 ghost use Rattle.tau_legal.specs.Traces.{Legal};
-ghost use Rattle.tau_rules.specs.Answers.{IsUnacted};
+ghost use Rattle.tau_rules.specs.Answers.{IsOpenJob, IsUnacted, acted_by};
 ghost use Rattle.tau_book.specs.Books.{IsBook, IsComplete, IsAtLimit, GoesOn};
 ghost use Rattle.tau_book.specs.Nexts.{IsNext, IsDueTried};
-ghost use Rattle.tau_book.specs.Tolds.{IsTold, IsTried, StaysAtRedo, IsGivenBack, IsFinished};
+ghost use Rattle.tau_book.specs.Tolds.{IsTold, IsTried, IsTurnStep, StaysAtRedo, IsGivenBack, IsFinished};
 ghost use Rattle.tau_book.specs.Places.{LeavesRoom, ComesBack};
 
 use crate::choosing::choose;
@@ -23,6 +23,7 @@ use tau_rules::{ActError, Acted, System};
 use tau_scripted::Scripted;
 use tau_trace::Trace;
 use tau_tree::Program;
+use tau_value::Value;
 
 /// The step book: a legal run of a program to which steps are appended up to a limit, and the jobs that workers have given back, at most
 /// one of each turn (docs/rules.md, "Choice of a worker"). Contracts see the system, the letters of the messages in flight, the
@@ -252,6 +253,64 @@ impl<'p, K: Knowledge + Drop> Book<'p, K> {
         ensures err { IfErr result (IsUnacted self.old.system.run pending.now.place) }
     {
         self.scripted.act(pending)
+    }
+
+    /// `act` where the book goes on and the job is known to be the record of an open turn, so nothing is compared: the step of the
+    /// effect is appended, and where the turn goes on, the job with the reply joins the hand, which has room. The error is want of
+    /// memory, and nothing is different then.
+    pub(crate) fn act_open(
+        &mut self,
+        hand: &mut Hand<'p>,
+        pending: Pending<'p>,
+    ) -> Result<(), AllocError>
+        requires room { length hand.old.jobs < hand.old.size }
+        requires goes_on { GoesOn self.old }
+        requires is_open { IsOpenJob self.old.system.program self.old.system.run pending }
+        ensures ok { OnOk result (IsTurnStep self.old self.new hand.old hand.new pending.entry) }
+        ensures was_book { IsBook self.old }
+        ensures is_book { IsBook self.new }
+        ensures limit { self.new.limit ≡ self.old.limit }
+        ensures size { hand.new.size ≡ hand.old.size }
+        ensures book_on_err { OnErr result (self.new ≡ self.old) }
+        ensures hand_on_err { OnErr result (hand.new ≡ hand.old) }
+    {
+        // What holds of the book before and after.
+        let _before = self.system();
+        self.make_open(hand, pending)?;
+        let _after = self.system();
+        Ok(())
+    }
+
+    /// Makes the step of an effect of a job that is the record of its turn; none of the script is due.
+    fn make_open(&mut self, hand: &mut Hand<'p>, pending: Pending<'p>) -> Result<(), AllocError>
+        requires room { length hand.old.jobs < hand.old.size }
+        requires goes_on { GoesOn self.old }
+        requires is_open { IsOpenJob self.old.system.program self.old.system.run pending }
+        ensures ok { OnOk result (IsTurnStep self.old self.new hand.old hand.new pending.entry) }
+        ensures limit { self.new.limit ≡ self.old.limit }
+        ensures size { hand.new.size ≡ hand.old.size }
+        ensures book_on_err { OnErr result (self.new ≡ self.old) }
+        ensures hand_on_err { OnErr result (hand.new ≡ hand.old) }
+    {
+        match self.try_open(&pending) {
+            Ok(Some(reply)) => {
+                hand.keep(pending.resume(reply));
+                Ok(())
+            }
+            Ok(None) => Ok(()),
+            Err(failed) => Err(failed),
+        }
+    }
+
+    /// Tries the effect of a job that is the record of its turn; no step of the script is due.
+    fn try_open(&mut self, pending: &Pending<'p>) -> Result<Option<Value>, AllocError>
+        requires goes_on { GoesOn self.old }
+        requires is_open { IsOpenJob self.old.system.program self.old.system.run pending.now }
+        ensures ok { IfOk result (λ r. IsTried self.old self.new pending.now (acted_by r)) }
+        ensures limit { self.new.limit ≡ self.old.limit }
+        ensures unchanged { OnErr result (self.new ≡ self.old) }
+    {
+        self.scripted.act_open(pending)
     }
 
     /// Takes back the jobs of a hand, which is empty then. Those whose turn isn't open are given up, and so is a second job of one

@@ -6,7 +6,7 @@ ghost use Rattle.tau_book.specs.Books.{IsComplete, IsAtLimit};
 ghost use Rattle.tau_book.specs.Working.{HasAllJobs, IsAtWork};
 ghost use Rattle.tau_book.specs.Inner.Working.{HasHandedOut, HasChosen};
 
-use crate::{Book, Gate, Hand, Next, Told};
+use crate::{Book, Gate, Hand, Next};
 use std::alloc::AllocError;
 use tau_clean::MarkedHearing;
 use tau_eval::{Job, Pending};
@@ -60,14 +60,7 @@ fn evaluate<'p, G: Gate>(
     ensures size { hand.new.size ≡ hand.old.size }
 {
     let pending = advance(job, gate)?;
-    match book.act(hand, pending) {
-        Ok(Told::Stepped) => Ok(()),
-        Ok(Told::Later(_)) => unreachable!(),
-        Ok(Told::Redone) => unreachable!(),
-        Ok(Told::Stale { .. }) => unreachable!(),
-        Ok(Told::Stopped) => unreachable!(),
-        Err((_pending, failed)) => Err(failed),
-    }
+    book.act_open(hand, pending)
 }
 
 /// Evaluates a job up to its next effect, between the calls of the gate. The error is want of memory.
