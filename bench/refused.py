@@ -4,13 +4,18 @@
 It has `bin/tau prove` build the program, and compiles by `cc` a library that is loaded before the C library: it counts the requests for
 memory, and refuses those with the numbers N to N + K - 1. Each case is run once without a refusal, then for N = 1, 2, .. until the run
 makes fewer than N requests; of a run of more than 3,000 requests the first 1,000 are tried, and then every 97th, or fewer, so that no
-more than about 2,000 are tried. With several workers it is a fifth of these numbers, since each run is checked.
+more than about 2,000 are tried. With several workers it is a fifth of these numbers, and with `keep` and `resume` two fifths, since each
+end is judged by other commands.
 
 - Each case whose text is shown, with an input of at most 65,536 bytes, by the command that it names, `run` with one worker, and K = 1. A
   run ends with status 7, nothing on standard output and the line of that status, or as the run without a refusal.
 - The programs of the cases of `run`, with 2 and with 4 workers, with K = 1 and with K the number of workers, which can make all of them
   short of memory. A run that doesn't end with status 7 writes a run text of the same program, which `check` calls legal, and complete
   exactly with status 0, and which `audit` calls safe.
+- The same programs by `keep`, each time without a file, and by `resume` of a journal with half of the steps, and with all where the run is
+  complete; K = 1. An end is one of the first kind. Without status 7 the journal is that of the run without a refusal. With it, it is blank
+  or has the first records of that one, and for `resume` at least those from before; then `resume` without a refusal says that it is
+  blank, or writes a run text that `check` and `audit` accept. That of a complete run stays byte for byte.
 
 Each run ends within 10 seconds and by no signal. Some runs must end with status 7. Where 4 requests are refused, in some runs all workers
 must have been refused one, and the run must be finished all the same: then the caller has gone on alone (docs/rules.md, "Workers").
@@ -21,7 +26,9 @@ it should be.
 """
 
 import collections
+import contextlib
 import dataclasses
+import hashlib
 import itertools
 import mmap
 import os
@@ -34,6 +41,7 @@ import tempfile
 
 import programs
 from hostile import MEMORY, STOPPED, sections_of, spelled
+from stops import BLANK, Lost, halves_of, records_of, steps_in
 
 PROGRAM = programs.place("tau")
 CASES = "show_commands"
@@ -42,8 +50,8 @@ CASES = "show_commands"
 PATIENCE = 10
 
 # Of a run of more than 3 * FIRST requests, the first FIRST numbers are tried, and then every STEP-th, or so many fewer that they are
-# FIRST; with several workers with a FIRST of its own.
-FIRST, FIRST_TOGETHER, STEP = 1_000, 200, 97
+# FIRST; with several workers, and with `keep` and `resume`, with a FIRST of their own.
+FIRST, FIRST_TOGETHER, FIRST_KEPT, STEP = 1_000, 200, 400, 97
 
 # Cases whose input has more bytes are left out.
 LARGE = 65_536
@@ -52,6 +60,9 @@ LARGE = 65_536
 TOLD = 3
 
 WORKERS = [2, 4]
+
+# Where the journals of kept runs lie: in memory, where the system has such a folder.
+IN_MEMORY = "/dev/shm" if os.path.isdir("/dev/shm") else None
 
 LIBRARY = r"""
 #include <errno.h>
@@ -129,9 +140,9 @@ class Ended:
 
 
 class Refuser:
-    """Runs the program, with requests for memory refused."""
+    """Runs the program, with requests for memory refused. Its journal lies in a folder of its own."""
 
-    def __init__(self, folder):
+    def __init__(self, folder, kept):
         if shutil.which("cc") is None:
             sys.exit("cc isn't found, by which the library that refuses requests is compiled")
         source = os.path.join(folder, "refused.c")
@@ -139,6 +150,8 @@ class Refuser:
             file.write(LIBRARY)
         self.library = os.path.join(folder, "refused.so")
         subprocess.run(["cc", "-O2", "-shared", "-fPIC", "-o", self.library, source], check=True)
+        self.kept = kept
+        self.journal = os.path.join(kept, "tau.journal")
         self.path = os.path.join(folder, "counts")
         with open(self.path, "wb") as file:
             file.write(bytes(24))
@@ -159,6 +172,7 @@ class Refuser:
                 [PROGRAM, *words],
                 input=given,
                 capture_output=True,
+                cwd=self.kept,
                 env={**os.environ, **settings},
                 timeout=PATIENCE,
                 check=False,
@@ -168,18 +182,33 @@ class Refuser:
         line = done.stderr.decode(errors="replace").rstrip("\n")
         return Ended(done.returncode, line, done.stdout, *struct.unpack("3L", self.counts[:]))
 
+    def run_over(self, journal, words, given, first=0, many=0):
+        """Runs the program so over a journal of these bytes, and gives the bytes of the journal then too; None is no file."""
+        with contextlib.suppress(FileNotFoundError):
+            os.remove(self.journal)
+        if journal is not None:
+            with open(self.journal, "wb") as file:
+                file.write(journal)
+        ended = self.run(words, given, first, many)
+        left = None
+        with contextlib.suppress(FileNotFoundError), open(self.journal, "rb") as file:
+            left = file.read()
+        return ended, left
+
 
 @dataclasses.dataclass
 class Tally:
-    """What was seen of several runs: how many N were tried, how often each status came, and how many runs were finished though all workers
-    had been refused a request."""
+    """What was seen of several runs: how many rows they are of, how many N were tried, how often each status came, and how many runs were
+    finished though all workers had been refused a request."""
 
+    rows: int = 0
     tried: int = 0
     statuses: collections.Counter = dataclasses.field(default_factory=collections.Counter)
     alone: int = 0
     wrong: int = 0
 
     def add(self, other):
+        self.rows += other.rows
         self.tried += other.tried
         self.statuses += other.statuses
         self.alone += other.alone
@@ -191,13 +220,21 @@ class Tally:
 
 
 class Judge:
-    """Judges runs of one row."""
+    """Makes the runs of one row, and judges them."""
 
-    def __init__(self, refuser, plain, program=None):
+    first = FIRST
+
+    def __init__(self, refuser, words, given, program=None):
         self.refuser = refuser
-        self.plain = plain
+        self.words = words
+        self.given = given
         self.program = program
         self.texts = {}
+        self.plain = self.run()
+
+    def run(self, first=0, many=0):
+        """A run with so many requests refused from the one with a number on."""
+        return self.refuser.run(self.words, self.given, first, many)
 
     def wrong(self, ended):
         """What is wrong with a run, or None."""
@@ -212,24 +249,80 @@ class Judge:
         if self.program is None:
             is_same = ended.as_seen() == self.plain.as_seen()
             return None if is_same else f"status {ended.status}, another end than without a refusal"
-        return self.wrong_run(ended)
+        return self.wrong_text(ended)
 
-    def wrong_run(self, ended):
-        """What is wrong with a run that several workers made, or None."""
+    def wrong_text(self, ended):
+        """What is wrong with the run text of a run that another one may come in place of, or None."""
         if (ended.status, ended.line) not in [(0, ""), (1, STOPPED)]:
             return f"status {ended.status}, and the line is {ended.line!r}"
-        if ended.text not in self.texts:
-            checked = self.refuser.run(["check"], ended.text)
-            audited = self.refuser.run(["audit"], ended.text)
-            printed = self.refuser.run(["print"], ended.text)
-            self.texts[ended.text] = checked.text, audited.text, printed.text
-        checked, audited, printed = self.texts[ended.text]
         wanted = b"legal complete\n" if ended.status == 0 else b"legal open\n"
+        key = wanted + hashlib.sha256(ended.text).digest()
+        if key not in self.texts:
+            self.texts[key] = self.wrong_by_others(ended.text, wanted)
+        return self.texts[key]
+
+    def wrong_by_others(self, text, wanted):
+        """What is wrong with a run text by the other commands, of which `check` should say what is wanted, or None."""
+        checked = self.refuser.run(["check"], text).text
         if checked != wanted:
-            return f"status {ended.status}, and check says {checked.decode(errors='replace').rstrip()!r}"
+            return f"check says {checked.decode(errors='replace').rstrip()!r}, and not {wanted.decode().rstrip()!r}"
+        audited = self.refuser.run(["audit"], text).text
         if audited != b"safe\n":
             return f"audit says {audited.decode(errors='replace').rstrip()!r}"
-        return None if printed == self.program else "the run text is of another program"
+        if self.program is None or self.refuser.run(["print"], text).text == self.program:
+            return None
+        return "the run text is of another program"
+
+
+class TogetherJudge(Judge):
+    """Makes and judges runs of several workers, which differ from one another."""
+
+    first = FIRST_TOGETHER
+
+
+class KeptJudge(Judge):
+    """Makes and judges runs of `keep`, or of `resume` over a journal, each on a file of its own."""
+
+    first = FIRST_KEPT
+
+    def __init__(self, refuser, words, given, before=None):
+        self.before = before
+        self.left = None
+        self.judged = {}
+        super().__init__(refuser, words, given)
+        self.whole = self.left
+
+    def run(self, first=0, many=0):
+        ended, self.left = self.refuser.run_over(self.before, self.words, self.given, first, many)
+        return ended
+
+    def wrong(self, ended):
+        wrong = super().wrong(ended)
+        if wrong is not None:
+            return wrong
+        if ended.status != 7 or self.whole == self.before:
+            return None if self.left == self.whole else f"status {ended.status}, and another journal than without a refusal"
+        key = hashlib.sha256(self.left or b"").digest()
+        if key not in self.judged:
+            self.judged[key] = self.wrong_journal()
+        return self.judged[key]
+
+    def wrong_journal(self):
+        """What is wrong with the journal that a run with status 7 has left, or None."""
+        again, _ = self.refuser.run_over(self.left, ["resume", *self.words[1:]], b"")
+        try:
+            old, left, whole = (records_of(journal or b"") or [] for journal in [self.before, self.left, self.whole])
+        except Lost as lost:
+            return f"status 7, and of the journal {lost}"
+        if left[: len(old)] != old or whole[: len(left)] != left:
+            return f"status 7, and the {len(left)} records of the journal aren't those that should be there"
+        if left:
+            wrong = self.wrong_text(again)
+            steps = steps_in(left)
+            if wrong is None and halves_of(again.text)[1][: len(steps)] != steps:
+                wrong = "its text doesn't begin with the steps that were left"
+            return wrong and f"status 7, and resume behind it: {wrong}"
+        return None if again.as_seen() == (9, BLANK, b"") else f"status 7, and resume behind it: {again.status} {again.line}"
 
 
 def numbers(requests, first):
@@ -244,11 +337,11 @@ def numbers(requests, first):
     yield from itertools.count(requests + 1)
 
 
-def tried(refuser, judge, name, words, given, many, workers=0):
+def tried(judge, name, many=1, workers=0):
     """The tally of a row, each N in turn."""
-    tally = Tally()
-    for number in numbers(judge.plain.requests, FIRST_TOGETHER if workers else FIRST):
-        ended = refuser.run(words, given, number, many)
+    tally = Tally(rows=1)
+    for number in numbers(judge.plain.requests, judge.first):
+        ended = judge.run(number, many)
         if ended.refused == 0 and ended.status is not None:
             break
         tally.tried += 1
@@ -296,8 +389,7 @@ def serial_rows(refuser, chosen):
     for name, words, given in cases():
         if not chosen(name) or (workers_of(words) or 1) > 1:
             continue
-        plain = refuser.run(words, given)
-        yield words[0] if words else "", tried(refuser, Judge(refuser, plain), name, words, given, 1)
+        yield words[0] if words else "", tried(Judge(refuser, words, given), name)
 
 
 def with_workers(words, workers):
@@ -325,30 +417,60 @@ def together_rows(refuser, chosen):
             together = with_workers(words, workers)
             row = f"{' '.join(together)}, K = {many}: {name.partition(': ')[2]}"
             if chosen(row):
-                judge = Judge(refuser, refuser.run(together, given), program)
-                yield f"run --workers {workers}, K = {many}", tried(refuser, judge, row, together, given, many, workers)
+                judge = TogetherJudge(refuser, together, given, program)
+                yield f"run --workers {workers}, K = {many}", tried(judge, row, many, workers)
+
+
+def with_steps(options, steps):
+    """Options with another limit of steps."""
+    rest = re.sub(r"--steps[ =]\S+", "", " ".join(options)).split()
+    return [*rest, "--steps", str(steps)]
+
+
+def kept_judges(refuser, options, given):
+    """What makes and judges the runs of `keep` with a program, of `resume` behind the first half of its steps, and behind all of them where
+    the run is complete then."""
+    kept = KeptJudge(refuser, ["keep", *options], given)
+    yield "keep", kept
+    if kept.plain.status not in (0, 1):
+        return
+    steps = halves_of(kept.plain.text)[1]
+    if steps:
+        _, journal = refuser.run_over(None, ["keep", *with_steps(options, len(steps) // 2)], given)
+        yield "resume of half", KeptJudge(refuser, ["resume", *options], b"", journal)
+    if kept.plain.status == 0:
+        yield "resume of all", KeptJudge(refuser, ["resume", *options], b"", kept.whole)
+
+
+def kept_rows(refuser, chosen):
+    """Tries `keep` and `resume` with the program of each case of `run`, and yields which of them with the tally."""
+    for name, words, given, _ in programs_run(refuser):
+        for command, judge in kept_judges(refuser, words[1:], given):
+            row = f"{command} {' '.join(words[1:])}: {name.partition(': ')[2]}"
+            if chosen(row):
+                yield command, tried(judge, row)
 
 
 def main():
     programs.prove()
     words = sys.argv[1:]
     sums = collections.defaultdict(Tally)
-    with tempfile.TemporaryDirectory() as folder:
-        refuser = Refuser(folder)
+    with tempfile.TemporaryDirectory() as folder, tempfile.TemporaryDirectory(dir=IN_MEMORY) as kept:
+        refuser = Refuser(folder, kept)
         if refuser.run(["gen", "1"], b"").requests == 0:
             sys.exit("no request for memory is seen: the program doesn't ask the C library for memory")
 
         def chosen(name):
             return not words or any(word in name for word in words)
 
-        for rows in [serial_rows, together_rows]:
+        for rows in [serial_rows, together_rows, kept_rows]:
             for command, tally in rows(refuser, chosen):
                 sums[command].add(tally)
     print()
-    print(f"{'command':30} {'N tried':>8}  statuses seen")
+    print(f"{'command':30} {'rows':>5} {'N tried':>8}  statuses seen")
     for command, tally in sums.items():
         alone = f"; finished though all were short: {tally.alone}" if command.startswith("run --workers") else ""
-        print(f"{command:30} {tally.tried:8}  {tally.seen()}{alone}")
+        print(f"{command:30} {tally.rows:5} {tally.tried:8}  {tally.seen()}{alone}")
     whole = Tally()
     for tally in sums.values():
         whole.add(tally)
