@@ -5,7 +5,7 @@ use Rattle.tau_book.specs.declared.answers.Next.{Next}
 use Rattle.tau_book.specs.declared.answers.Next.TheVariants as nexts
 use Rattle.tau_book.specs.declared.answers.Told.{Told}
 use Rattle.tau_book.specs.declared.answers.Told.TheVariants as tolds
-use Rattle.tau_book.specs.Hands.{Held}
+use Rattle.tau_book.specs.Hands.{Held, joined}
 
 -- how the run of a place has ended
 pub data End : Type 0 where
@@ -29,9 +29,11 @@ abbrev pub LeavesRoom : Held → Next → Type 0
 LeavesRoom h (nexts.Work job) = length h.jobs < h.size
 LeavesRoom h answer = Unit {0}
 
--- an effect that comes back is the one that was brought, and the hand is as it was
+-- an effect that comes back is the one that was brought, and the hand is as it was; where another job is the record of the turn, a
+-- job has joined the hand
 abbrev pub ComesBack : Held → Held → TurnSoFar → Told → Type 0
 ComesBack h k pending (tolds.Later back) = (back ≡ pending) × (k ≡ h)
+ComesBack h k pending tolds.Redone = (job : TurnSoFar) × (k ≡ joined h job)
 ComesBack h k pending answer = Unit {0}
 
 -- an answer other than Idle
