@@ -13,7 +13,6 @@ use Rattle.tau_trace.specs.Known.{WellFormed}
 use Rattle.tau_trace.specs.Turns.{Turn, IsOpenTurn}
 use Rattle.tau_trace.proofs.Lists.{same_some}
 use Rattle.tau_script.specs.Scripts.{HasObject, fails, loses, repeats}
-use Rattle.tau_script.proofs.Determined.{one_step}
 use Rattle.tau_script.proofs.Passing.{object}
 use Rattle.tau_eval.specs.Turn.{TurnSoFar, with_reply}
 use Rattle.tau_rules.specs.System.{Core, with_step}
@@ -23,13 +22,12 @@ use Rattle.tau_rules.specs.declared.answers.Delivered.TheVariants.{Began, Droppe
 use Rattle.tau_check.proofs.Turns.{BeginsNone, of_turn_begins_none, earlier, ended}
 use Rattle.tau_check.proofs.Endings.{legal_fits, last_fits}
 use Rattle.tau_check.proofs.Receipts.{IsByIdle, by_idle}
-use Rattle.tau_check.proofs.TurnSteps.{not_redone, not_stale}
 use Rattle.tau_scripted.proofs.Members.{contains_here, contains_filter}
 use Rattle.tau_book.specs.Hands.{Held, IsNumbered}
 use Rattle.tau_book.specs.Books.{Booked, IsBook}
 use Rattle.tau_book.specs.Offers.{Offer, open_jobs, taken_up, jobs_with, store_without, options, number_drawn, generator_after}
 use Rattle.tau_book.specs.Nexts.{IsDueMade, IsIdle, IsHandedOut, IsReceived, begun_with}
-use Rattle.tau_book.specs.Tolds.{IsTurnStep as IsTurnMade, goes_on, is_over, IsStale, IsRedoneWith}
+use Rattle.tau_book.specs.Tolds.{IsTurnStep as IsTurnMade, goes_on, is_over}
 use Rattle.tau_book.specs.Adopted.{HasJobFrom}
 use Rattle.tau_book.specs.Working.{AreJobs, HasAllJobs}
 use Rattle.tau_book.specs.Inner.Working.{AreOpenJobs, AreOtherJobs, HasHandedOut}
@@ -166,17 +164,6 @@ module _ (old new : Booked) (h k : Held) (job : TurnSoFar) (was : IsBook old) (i
 
   abbrev Q : Program
   Q = old.system.program
-
-  pub not_later : ¬ IsDueMade old new h k
-  not_later d =
-      let e : None ≡ Some d.step = one_step Q.script U (len U) None (Some d.step) x.goes_on.none_due d.due in
-      cc
-
-  pub never_stale : (ended_by : ℕ) → ¬ IsStale old new h k job.place ended_by
-  never_stale ended_by d = not_stale Q U job x.is_open d.none_open
-
-  pub never_redone : ¬ IsRedoneWith old new h k job
-  never_redone d = not_redone old.system new.system job d.job was.legal.opening x.is_open d.redone.acted
 
   stepped_well : (s : Step) → new.system ≡ with_step old.system s → WellFormed (appended U s)
   stepped_well s e = subst (λ (c : Core). WellFormed c.run) e is.well_formed
