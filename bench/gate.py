@@ -1,9 +1,10 @@
 #!/usr/bin/env python3
 """Tells where the processor time of the gate goes: in each crate its proof, its tests and its edits.
 
-    bench/gate.py [COMMAND WORD..]    runs the command, `rt ci --anew` without one, and looks at the provers that it starts
+    bench/gate.py [COMMAND WORD..]    runs the command, or without one the whole gate from nothing, and looks at the provers that it starts
 
-The command is run at the top of the repository; `rt ci NAME` and `rt must-fail NAME` do too, and `rt ci` shows what a change costs.
+The gate from nothing is `rt ci`, and `rt ci --anew` where the kit keeps what has passed. The command is run at the top of the
+repository; `rt must-fail NAME` is another that shows what a change costs.
 At its end the table of docs/gate.md is printed: minutes of processor time, the number of edits that were tried, and the most memory
 that one prover took, in MB. The proof of a program has its builds by both compilers in it. Edits have the check in it over which
 they are tried. What a prover does in its last half second isn't seen, nor is what isn't a prover, so the sum is less than
@@ -128,8 +129,14 @@ def table(provers):
     return [*lines, row("all", whole, sum(len(cost.edits) for _, cost in costs), most)]
 
 
+def whole_gate():
+    """The command that proves everything from nothing: with `--anew` where the kit's help has that word."""
+    said = subprocess.run(["rt", "help"], stdout=subprocess.PIPE, stderr=subprocess.STDOUT, text=True, check=False).stdout
+    return ["rt", "ci", *(["--anew"] if "--anew" in said else [])]
+
+
 def main():
-    words = sys.argv[1:] or ["rt", "ci", "--anew"]
+    words = sys.argv[1:] or whole_gate()
     provers = {}
     begun = time.monotonic()
     run = subprocess.Popen(words, cwd=ROOT)
