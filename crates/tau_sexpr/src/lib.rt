@@ -4,6 +4,7 @@
 mod bytes;
 mod faults;
 mod laws;
+mod letters;
 mod printer;
 mod reader;
 mod texts;

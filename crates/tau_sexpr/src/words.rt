@@ -2,13 +2,16 @@
 ghost use Rattle.std.specs.Prelude.{◌≡◌, ◌↔◌, [], ◌∷◌, ◌++◌, length, slice_get, IsTrue, IfOk, IfErr, OnOk, All, option_copied};
 ghost use Rattle.tau_sexpr.specs.Bytes.{IsWordByte};
 
+use crate::letters::Letters;
 use std::alloc::{AllocError, Global};
 use std::marker::Model;
 
 /// A word: bytes that a word may hold (docs/formats.md, "Texts and forms"). Contracts see it as the list of its bytes.
+/// Up to 22 bytes stand in the value itself, and take no block of memory.
 #[derive(Debug, Drop)]
 pub struct Word {
-    bytes: Vec<u8>,
+    letters: Letters,
+    alloc: Global,
 }
 
 impl Model for Word {
@@ -20,9 +23,11 @@ impl Model for Word {
 
     ghost coded = { coded_list coded_ℕ };
 
-    ghost view = { λ w. w.bytes.items };
+    ghost use Rattle.tau_sexpr.specs.Inner.Letters.{bytes_of};
 
-    ghost invariant = { λ w. All IsWordByte w.bytes.items };
+    ghost view = { λ w. bytes_of w.letters };
+
+    ghost invariant = { λ w. All IsWordByte (bytes_of w.letters) };
 }
 
 impl Word {
@@ -31,7 +36,8 @@ impl Word {
         ensures { result ≡ [] }
     {
         Word {
-            bytes: Vec::new(alloc),
+            letters: Letters::new(),
+            alloc,
         }
     }
 
@@ -41,7 +47,8 @@ impl Word {
         ensures { IfOk result (λ w. w ≡ bytes.now) }
     {
         Ok(Word {
-            bytes: Vec::from_slice(alloc, bytes)?,
+            letters: Letters::of(alloc, bytes)?,
+            alloc,
         })
     }
 
@@ -51,9 +58,9 @@ impl Word {
         ensures ok { OnOk result (self.new ≡ self.old ++ byte ∷ []) }
         ensures err { IfErr result (λ e. (e.0 ≡ byte) × (self.new ≡ self.old)) }
     {
-        match self.bytes.push(byte) {
+        match self.letters.push(self.alloc, byte) {
             Ok(()) => Ok(()),
-            Err(failed) => Err((failed.value, AllocError)),
+            Err(failed) => Err((byte, failed)),
         }
     }
 
@@ -61,21 +68,21 @@ impl Word {
     pub fn len(&self) -> usize
         ensures { result ≡ length self.now }
     {
-        self.bytes.len()
+        self.bytes().len()
     }
 
     /// Whether the word has no bytes.
     pub fn is_empty(&self) -> bool
         ensures { IsTrue result ↔ (self.now ≡ []) }
     {
-        self.bytes.is_empty()
+        self.bytes().is_empty()
     }
 
     /// The byte at `k`, counted from 0; `None` where there is none.
     pub fn item(&self, k: usize) -> Option<&u8>
         ensures { option_copied result ≡ slice_get self.now k }
     {
-        self.bytes.get(k)
+        self.bytes().get(k)
     }
 
     /// The bytes of the word, each of which a word may hold.
@@ -83,16 +90,14 @@ impl Word {
         ensures value { result.now ≡ self.now }
         ensures word { All IsWordByte result.now }
     {
-        &self.bytes
+        self.letters.bytes()
     }
 
     /// An equal word. The error is want of memory.
     pub fn copy(&self) -> Result<Word, AllocError>
         ensures { IfOk result (λ w. w ≡ self.now) }
     {
-        Ok(Word {
-            bytes: Vec::from_slice(*self.bytes.allocator(), &self.bytes)?,
-        })
+        Word::of(self.alloc, self.bytes())
     }
 
     /// Whether two words have the same bytes.
