@@ -1,12 +1,10 @@
 -- What is printed spells its forms.
-use Rattle.std.proofs.Common.{◌≡◌, ◌≢◌, ℕ, zero, suc, ◌+◌, ◌<◌, ◌≤◌, ◌==◌, Bool, true, false, if◌then◌else◌, IsTrue, List, [], ◌∷◌, ◌++◌, length, map, take, get_or, Result, Ok, Err, Vec, refl, sym, ap, subst, ◌∙◌, arith, append_assoc, append-nil}
+use Rattle.std.proofs.Common.{◌≡◌, ◌≢◌, ℕ, zero, suc, ◌+◌, ◌<◌, ◌≤◌, ◌==◌, Bool, true, false, if◌then◌else◌, IsTrue, List, [], ◌∷◌, ◌++◌, length, map, take, get_or, Result, Ok, Err, refl, sym, ap, subst, ◌∙◌, arith, append_assoc, append-nil}
 use Rattle.std.specs.List.{All, flat_map}
-use Rattle.std.specs.Result.{IfOk, OnOk}
-use Rattle.std.specs.declared.alloc.AllocError.{AllocError}
-use Rattle.std.specs.declared.alloc.Global.{Global}
+use Rattle.std.specs.Result.{OnErr}
 use Rattle.tau_sexpr.proofs.LawLemmas.{once}
-use Rattle.std.proofs.lemmas.List.{map_more, length-map, length-take-le}
-use Rattle.std.proofs.lemmas.List.Elements.{All-head, All-tail, All-push}
+use Rattle.std.proofs.lemmas.List.{map_more, length-append, length-map, length-take-le, take_all, take-append-le, take-take}
+use Rattle.std.proofs.lemmas.List.Elements.{All-nil, All-cons, All-head, All-tail, All-push}
 use borrow.Author.Tests.{ne_eqb}
 use Rattle.std.proofs.lemmas.Bool.{eqb-true}
 use Rattle.std.proofs.lemmas.Bool.Decides.{nat_tests}
@@ -15,6 +13,7 @@ use Rattle.tau_sexpr.specs.Bytes.{is_blank, is_letter_or_digit, is_word_sign, is
 use Rattle.tau_sexpr.specs.Kinds.{is_plain, meaning}
 use Rattle.tau_sexpr.specs.Spelling.{EndsWord, Quotes, closing, plain, pair, Spells, at_end, at_closing, a_blank, a_word, a_text, a_list, IsSpelling}
 use Rattle.tau_sexpr.specs.Printing.{quoted_byte, print_of, print_items, print_rest, printed, HasBytes, AllHaveBytes}
+use Rattle.tau_sexpr.specs.Inner.Begins.{Begins}
 use Rattle.tau_sexpr.specs.Form.{tree_of}
 use Rattle.tau_sexpr.specs.declared.trees.Form.{Form}
 
@@ -111,10 +110,10 @@ pub printed-append : (ts us : List Tree) → printed (ts ++ us) ≡ printed ts +
 printed-append [] us = refl
 printed-append (t ∷ ts) us = ap (λ cs. print_of t ++ 10 ∷ cs) (printed-append ts us) ∙ sym (append_assoc (print_of t) (10 ∷ printed ts) (printed us))
 
-pub printed_more : (fs : List Form) (k : ℕ) (f : Form) (old now with_form out : List ℕ) → k < length fs → f ≡ get_or fs k f → now ≡ old ++ printed (map tree_of (take k fs)) → with_form ≡ now ++ print_of (tree_of f) → out ≡ with_form ++ 10 ∷ []
+pub printed_more : (fs : List Form) (k : ℕ) (f : Form) (old now out : List ℕ) → k < length fs → f ≡ get_or fs k f → now ≡ old ++ printed (map tree_of (take k fs)) → out ≡ now ++ printed (tree_of f ∷ [])
     → out ≡ old ++ printed (map tree_of (take (k + 1) fs))
-printed_more fs k f old now with_form out lt is before form feed =
-    rw (more_trees fs k f lt is, printed-append, feed, form, before) (simp append_assoc)
+printed_more fs k f old now out lt is before line =
+    rw (more_trees fs k f lt is, printed-append, line, before) (append_assoc old (printed (map tree_of (take k fs))) (printed (tree_of f ∷ [])))
 
 -- one item more
 print_rest-append : (us : List Tree) (t : Tree) → print_rest (inside (us ++ t ∷ [])) ≡ print_rest (inside us) ++ 32 ∷ print_of t
@@ -158,12 +157,31 @@ size_of_item (g ∷ fs) (suc k) f lt is = let h = size_of_item fs k f (omega ari
 pub size_in : (fs : List Form) (ts : List Tree) (k : ℕ) (f : Form) → map tree_of fs ≡ ts → k < length fs → f ≡ get_or fs k f → size_of (tree_of f) ≤ sizes ts
 size_in fs ts k f e lt is = subst (λ us. size_of (tree_of f) ≤ sizes us) e (size_of_item fs k f lt is)
 
--- the clauses of printing
-pub answer_spells : (r : Result (Vec ℕ Global) AllocError) (ts : List Tree) → depths ts ≤ 200 → All HasWords ts → IfOk r (λ v. v.items ≡ printed ts) → OnOk r (All HasBytes ts) → IfOk r (λ v. IsSpelling v.items ts)
-answer_spells (Ok v) ts depth words is bytes = subst (λ bs. IsSpelling bs ts) (sym is) (spells_printed ts depth words bytes)
-answer_spells (Err e) ts depth words is bytes = tt
+-- a text that begins with another
+pub begins_same : (old new : List ℕ) → new ≡ old → Begins old new
+unfolding Begins
+begins_same old new e = ap (take (length old)) e ∙ take_all (length old) old (omega arith)
 
-pub answer_back : (r : Result (Vec ℕ Global) AllocError) (ts : List Tree) → depths ts ≤ 200 → All HasWords ts → IfOk r (λ v. v.items ≡ printed ts) → OnOk r (All HasBytes ts)
-    → IfOk r (λ v. (us : List Tree) → IsSpelling v.items us → us ≡ ts)
-answer_back (Ok v) ts depth words is bytes = λ us h. once v.items us ts h (answer_spells (Ok v) ts depth words is bytes)
-answer_back (Err e) ts depth words is bytes = tt
+pub begins_after : (old added now new : List ℕ) → now ≡ old ++ added → Begins now new → Begins old new
+unfolding Begins
+begins_after old added now new e begins =
+    let fits : length old ≤ length now = subst (λ (xs : List ℕ). length old ≤ length xs) (sym e) (rw (length-append old added) (omega arith)) in
+    sym (take-take (length old) (length now) new fits) ∙ ap (take (length old)) begins ∙ ap (take (length old)) e
+    ∙ take-append-le (length old) old added (omega arith) ∙ take_all (length old) old (omega arith)
+
+-- the clauses of printing
+pub on_err : {A E P : Type 0} (r : Result A E) → P → OnErr r P
+on_err (Ok x) p = tt
+on_err (Err e) p = p
+
+pub begins_kept : (old new : List ℕ) → Begins old new → take (length old) new ≡ old
+unfolding Begins
+begins_kept old new begins = begins
+
+pub line_spells : (t : Tree) → depth_of t ≤ 200 → HasWords t → HasBytes t → IsSpelling (printed (t ∷ [])) (t ∷ [])
+line_spells t depth words bytes =
+    let depth-1 : depths (t ∷ []) ≤ 200 = omega (arith, depth) in
+    spells_printed (t ∷ []) depth-1 (All-cons HasWords t [] words (All-nil HasWords)) (All-cons HasBytes t [] bytes (All-nil HasBytes))
+
+pub read_back : (ts : List Tree) → IsSpelling (printed ts) ts → (us : List Tree) → IsSpelling (printed ts) us → us ≡ ts
+read_back ts spelled us h = once (printed ts) us ts h spelled

@@ -14,7 +14,7 @@ mod words;
 pub use bytes::{are_text_bytes, are_word_bytes, is_text_byte, is_word_byte};
 pub use faults::FormError;
 pub use laws::{forms_or_first_fault, spelling_is_unique};
-pub use printer::print_forms;
+pub use printer::{print_forms, put_form_line, put_forms};
 pub use reader::read_forms;
 pub use texts::Text;
 pub use trees::{Form, Forms};

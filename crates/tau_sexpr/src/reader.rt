@@ -36,11 +36,16 @@ pub fn read_forms(alloc: Global, bytes: &[u8]) -> Result<Forms, FormError>
 /// How many lists may be open.
 const DEPTH: usize = 200;
 
+/// How many forms a list has at most that is copied when it is closed, so that a later one uses its room.
+const COPIED: usize = 32;
+
 /// The lists that are open, outermost first, and the forms of the innermost one, or of the text where none is open.
 #[derive(Drop)]
 pub struct OpenLists {
     outer: Vec<Forms>,
     forms: Forms,
+    /// Rooms of lists that were closed.
+    rooms: Vec<Forms>,
     alloc: Global,
 }
 
@@ -51,6 +56,7 @@ impl OpenLists {
         OpenLists {
             outer: Vec::new(alloc),
             forms: Forms::new(alloc),
+            rooms: Vec::new(alloc),
             alloc,
         }
     }
@@ -68,9 +74,38 @@ impl OpenLists {
         if self.outer.len() >= DEPTH {
             return Err(FormError::TooDeep { at: at as u64 });
         }
-        let forms = mem::replace(&mut self.forms, Forms::new(self.alloc));
+        let room = self.room();
+        let forms = mem::replace(&mut self.forms, room);
         self.outer.push(forms)?;
         Ok(())
+    }
+
+    /// An empty list, with the room of one that was closed where there is any.
+    fn room(&mut self) -> Forms
+        ensures empty { result ≡ [] }
+        ensures held { stack_of self.new ≡ stack_of self.old }
+    {
+        match self.rooms.pop() {
+            Some(mut room) => {
+                room.clear();
+                room
+            }
+            None => Forms::new(self.alloc),
+        }
+    }
+
+    /// The forms of a list that is closed, in a list with room for no more.
+    fn fitted(&mut self, mut forms: Forms) -> Result<Forms, AllocError>
+        ensures forms { IfOk result (λ f. f ≡ forms) }
+        ensures held { stack_of self.new ≡ stack_of self.old }
+    {
+        if forms.len() > COPIED {
+            forms.shrink();
+            return Ok(forms);
+        }
+        let fitted = forms.take_all()?;
+        let _kept = self.rooms.push(forms);
+        Ok(fitted)
     }
 
     /// A `)` at this place.
@@ -80,7 +115,8 @@ impl OpenLists {
         match self.outer.pop() {
             Some(outer) => {
                 let forms = mem::replace(&mut self.forms, outer);
-                self.add(Form::List(forms))?;
+                let fitted = self.fitted(forms)?;
+                self.add(Form::List(fitted))?;
                 Ok(())
             }
             None => Err(FormError::Unopened { at: at as u64 }),

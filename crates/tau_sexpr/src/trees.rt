@@ -92,6 +92,15 @@ impl Forms {
         }
     }
 
+    /// The empty list, with room for so many forms. The error is want of memory.
+    pub fn with_capacity(alloc: Global, count: usize) -> Result<Forms, AllocError>
+        ensures { IfOk result (λ f. f ≡ []) }
+    {
+        Ok(Forms {
+            items: Vec::with_capacity(alloc, count)?,
+        })
+    }
+
     /// Adds a form at the end. Without memory the form comes back, and the list stays as it was.
     pub fn push(&mut self, item: Form) -> Result<(), (Form, AllocError)>
         ensures ok { OnOk result (self.new ≡ self.old ++ tree_of item ∷ []) }
@@ -112,6 +121,30 @@ impl Forms {
             Ok(()) => Ok(()),
             Err((_item, failed)) => Err(failed),
         }
+    }
+
+    /// Moves the forms into a list that has room for no more, and leaves the room that they had. The error is want of memory.
+    pub(crate) fn take_all(&mut self) -> Result<Forms, AllocError>
+        ensures taken { IfOk result (λ f. f ≡ self.old) }
+        ensures left { OnOk result (self.new ≡ []) }
+    {
+        let mut items = Vec::with_capacity(*self.items.allocator(), self.items.len())?;
+        items.append(&mut self.items)?;
+        Ok(Forms { items })
+    }
+
+    /// Gives the room back that the list has beyond its forms.
+    pub(crate) fn shrink(&mut self)
+        ensures { self.new ≡ self.old }
+    {
+        self.items.shrink_to_fit();
+    }
+
+    /// Drops the forms, and leaves the room that they had.
+    pub(crate) fn clear(&mut self)
+        ensures { self.new ≡ [] }
+    {
+        self.items.clear();
     }
 
     /// How many forms the list has.
