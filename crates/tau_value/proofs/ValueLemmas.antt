@@ -1,6 +1,7 @@
 -- Equality of values, by variants and by items; sizes of items.
-use Rattle.std.proofs.Common.{◌≡◌, ◌↔◌, ℕ, ◌<◌, ◌≤◌, Bool, IsTrue, List, [], ◌∷◌, length, map, get_or, sym, ap, ◌∙◌, arith, zero, suc, refl}
-use Rattle.std.proofs.lemmas.List.{get_or-map}
+use Rattle.std.proofs.Common.{◌≡◌, ◌↔◌, ℕ, ◌+◌, ◌<◌, ◌≤◌, Bool, IsTrue, List, [], ◌∷◌, ◌++◌, length, map, get_or, Option, None, Some, MatchOption, option_map, option_to_list, sym, ap, ◌∙◌, arith, zero, suc, refl}
+use Rattle.std.proofs.lemmas.List.{get_or-map, map-append}
+use Rattle.std.specs.List.{last_or}
 use Rattle.tau_value.specs.Val.{Val, Vals, unit, truth, int, text, name, list, inside, items_of, items_of-inside}
 use Rattle.tau_value.specs.Sizes.{parts_of, parts_of_all}
 use Rattle.tau_value.specs.Value.{val_of}
@@ -54,3 +55,21 @@ pub parts-at : (fs : List Value) (k : ℕ) (f : Value) → k < length fs → f �
 parts-at [] k f lt e = absurd (omega arith)
 parts-at (g ∷ fs) zero f lt e = omega (arith, ap (λ h. parts_of (val_of h)) e)
 parts-at (g ∷ fs) (suc k) f lt e = omega (arith, parts-at fs k f (omega arith) e)
+
+pub last_or-push : {X : Type 0} (o : Option X) (xs : List X) (x : X) → last_or o (xs ++ x ∷ []) ≡ Some x
+last_or-push o [] x = refl
+last_or-push o (y ∷ ys) x = last_or-push (Some y) ys x
+
+-- what a `pop` gives where there are n values is the last one
+pub last_popped : (vs ws : List Value) (n m : ℕ) (r : Option Value) → 0 < n → MatchOption r ((n ≡ 0) × (m ≡ 0)) (λ v. m + 1 ≡ n) → vs ≡ ws ++ option_to_list r → option_map val_of r ≡ last_or None (map val_of vs)
+last_popped vs ws n m None some cases e = absurd (omega (arith, cases.0))
+last_popped vs ws n m (Some v) some cases e = rw (e, map-append val_of ws (v ∷ []), last_or-push None (map val_of ws) (val_of v)) refl
+
+-- the last of a list that a value was added to is that value
+pub last_is : (vs : List Val) (v w : Value) → Some (val_of w) ≡ last_or None (vs ++ val_of v ∷ []) → w ≡ v
+last_is vs v w e =
+    let same : Some (val_of w) ≡ Some (val_of v) = e ∙ last_or-push None vs (val_of v) in
+    val_of_inj w v cc
+
+pub last_exists : (vs : List Val) (v : Val) → ¬ (None ≡ last_or None (vs ++ v ∷ []))
+last_exists vs v e = let same : None ≡ Some v = e ∙ last_or-push None vs v in cc

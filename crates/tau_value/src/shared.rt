@@ -1,8 +1,9 @@
 //! Values and lists of values, which share what they hold.
-ghost use Rattle.std.specs.Prelude.{◌≡◌, ◌↔◌, [], ◌∷◌, ◌++◌, length, map, slice_get, IsTrue, IfOk, IfErr, OnOk, option_map};
+ghost use Rattle.std.specs.Prelude.{◌≡◌, ◌↔◌, [], ◌∷◌, ◌++◌, length, map, slice_get, IsTrue, IfOk, IfErr, OnOk, None, option_map};
+ghost use Rattle.std.specs.List.{last_or};
+ghost use Rattle.tau_value.specs.Val.{inside};
 ghost use Rattle.tau_value.specs.Numbers.{capped};
-ghost use Rattle.tau_value.specs.Sizes.{parts_of, levels_of, names_end_of, IsInBounds, NamesBelow};
-ghost use Rattle.tau_value.specs.Shared.{held};
+ghost use Rattle.tau_value.specs.Sizes.{parts_of, parts_of_all, levels_of, levels_of_all, names_end_of, names_end_of_all, IsInBounds, NamesBelow};
 ghost use Rattle.tau_value.specs.Value.{val_of};
 
 use std::alloc::{AllocError, Global};
@@ -30,16 +31,44 @@ pub enum Value {
 #[cycle(value)]
 #[derive(Drop)]
 pub struct Values {
-    items: Option<Arc<Vec<Value>>>,
-    parts: u64,
-    levels: u64,
-    names_end: u64,
+    // `None` for the empty list.
+    shared: Option<Arc<ValuesAndSizes>>,
     alloc: Global,
 }
 
 impl Model for Values {
-    ghost use Rattle.std.specs.Prelude.{List, map};
+    ghost use Rattle.std.specs.Prelude.{◌+◌, ◌*◌, List};
     ghost use Rattle.tau_value.specs.Shared.{held};
+    ghost use Rattle.std.specs.Coded.{coded_list};
+    ghost use Rattle.tau_value.specs.Val.{Val, val_code};
+    ghost use Rattle.tau_value.specs.Sizes.{all_parts};
+
+    ghost Value = { List Val };
+
+    ghost coded = { coded_list val_code };
+
+    ghost view = { λ f. held f.shared };
+
+    ghost size = { λ vs. 2 * all_parts vs + 1 };
+
+    ghost use Rattle.tau_value.specs.Falls.{shared_falls};
+    ghost use Rattle.std.proofs.Common.{arith};
+
+    ghost size_decreases = { λ a h. omega (arith, shared_falls a.shared) };
+}
+
+/// Values with their sizes, so that lists which share them are one pointer each.
+#[cycle(value)]
+#[derive(Drop)]
+struct ValuesAndSizes {
+    items: Vec<Value>,
+    parts: u64,
+    levels: u64,
+    names_end: u64,
+}
+
+impl Model for ValuesAndSizes {
+    ghost use Rattle.std.specs.Prelude.{◌*◌, List, map};
     ghost use Rattle.std.specs.Coded.{coded_list};
     ghost use Rattle.tau_value.specs.Val.{Val, val_code, inside};
     ghost use Rattle.tau_value.specs.Sizes.{AreSizes, all_parts};
@@ -50,16 +79,16 @@ impl Model for Values {
 
     ghost use Rattle.tau_value.specs.Value.{val_of};
 
-    ghost view = { λ f. map val_of (held f.items) };
+    ghost view = { λ s. map val_of s.items.items };
 
-    ghost invariant = { λ f. AreSizes (inside (map val_of (held f.items))) f.parts f.levels f.names_end };
+    ghost invariant = { λ s. AreSizes (inside (map val_of s.items.items)) s.parts s.levels s.names_end };
 
-    ghost size = { all_parts };
+    ghost size = { λ vs. 2 * all_parts vs };
 
-    ghost use Rattle.tau_value.specs.Falls.{held_falls};
+    ghost use Rattle.tau_value.specs.Falls.{items_fall};
     ghost use Rattle.std.proofs.Common.{arith};
 
-    ghost size_decreases = { λ a h. omega (arith, held_falls a.items) };
+    ghost size_decreases = { λ a h. omega (arith, items_fall a.items) };
 }
 
 /// The parts of a value: one for each value in it, itself included, and one for each byte of a text
@@ -70,7 +99,7 @@ pub fn parts(value: &Value) -> u64
     match value {
         Value::Unit | Value::Truth(_) | Value::Int(_) | Value::Name(_) => 1,
         Value::Text(text) => (text.len() as u64).saturating_add(1),
-        Value::List(items) => items.parts.saturating_add(1),
+        Value::List(items) => items.parts().saturating_add(1),
     }
 }
 
@@ -82,7 +111,7 @@ pub fn levels(value: &Value) -> u64
     match value {
         Value::Unit | Value::Truth(_) | Value::Int(_) | Value::Text(_) => 0,
         Value::Name(_) => 1,
-        Value::List(items) => items.levels.saturating_add(1),
+        Value::List(items) => items.levels().saturating_add(1),
     }
 }
 
@@ -93,7 +122,7 @@ fn names_end(value: &Value) -> u64
     match value {
         Value::Unit | Value::Truth(_) | Value::Int(_) | Value::Text(_) => 0,
         Value::Name(number) => u64::from(*number) + 1,
-        Value::List(items) => items.names_end,
+        Value::List(items) => items.names_end(),
     }
 }
 
@@ -150,10 +179,7 @@ impl Values {
         ensures { result ≡ [] }
     {
         Values {
-            items: None,
-            parts: 0,
-            levels: 0,
-            names_end: 0,
+            shared: None,
             alloc,
         }
     }
@@ -164,17 +190,13 @@ impl Values {
         ensures ok { OnOk result (self.new ≡ self.old ++ val_of item ∷ []) }
         ensures err { IfErr result (λ e. (e.0 ≡ item) × (self.new ≡ self.old)) }
     {
-        let more_parts = self.parts.saturating_add(parts(&item));
-        let more_levels = self.levels.max(levels(&item));
-        let more_names_end = self.names_end.max(names_end(&item));
-        match put(&mut self.items, self.alloc, item) {
-            Ok(()) => {
-                self.parts = more_parts;
-                self.levels = more_levels;
-                self.names_end = more_names_end;
+        match &mut self.shared {
+            Some(shared) => put(shared, self.alloc, item),
+            None => {
+                let own = with_one(ValuesAndSizes::new(self.alloc), self.alloc, item)?;
+                self.shared = Some(own);
                 Ok(())
             }
-            Err(failed) => Err(failed),
         }
     }
 
@@ -203,8 +225,8 @@ impl Values {
     pub fn items(&self) -> &[Value]
         ensures { map val_of result.now ≡ self.now }
     {
-        match &self.items {
-            Some(items) => items,
+        match &self.shared {
+            Some(shared) => shared.items(),
             None => &[],
         }
     }
@@ -213,15 +235,12 @@ impl Values {
     pub fn copy(&self) -> Result<Values, AllocError>
         ensures { IfOk result (λ f. f ≡ self.now) }
     {
-        let items = match &self.items {
-            Some(items) => Some(Arc::try_clone(items)?),
+        let shared = match &self.shared {
+            Some(shared) => Some(Arc::try_clone(shared)?),
             None => None,
         };
         Ok(Values {
-            items,
-            parts: self.parts,
-            levels: self.levels,
-            names_end: self.names_end,
+            shared,
             alloc: self.alloc,
         })
     }
@@ -242,45 +261,133 @@ impl Values {
         }
         true
     }
-}
 
-/// Adds a value to a list that others may share.
-fn put(
-    items: &mut Option<Arc<Vec<Value>>>,
-    alloc: Global,
-    item: Value,
-) -> Result<(), (Value, AllocError)>
-    ensures ok { OnOk result (held items.new ≡ held items.old ++ item ∷ []) }
-    ensures err { IfErr result (λ e. (e.0 ≡ item) × (held items.new ≡ held items.old)) }
-{
-    match items {
-        Some(shared) => put_shared(shared, alloc, item),
-        None => {
-            let own = with_one(Vec::new(alloc), alloc, item)?;
-            *items = Some(own);
-            Ok(())
+    /// The parts of the values, at most `u64::MAX`.
+    fn parts(&self) -> u64
+        ensures { result ≡ capped (parts_of_all (inside self.now)) }
+    {
+        match &self.shared {
+            Some(shared) => shared.parts(),
+            None => 0,
+        }
+    }
+
+    /// The levels of the values, at most `u64::MAX`.
+    fn levels(&self) -> u64
+        ensures { result ≡ capped (levels_of_all (inside self.now)) }
+    {
+        match &self.shared {
+            Some(shared) => shared.levels(),
+            None => 0,
+        }
+    }
+
+    /// The least number that each name in the values is below, at most `u64::MAX`.
+    fn names_end(&self) -> u64
+        ensures { result ≡ capped (names_end_of_all (inside self.now)) }
+    {
+        match &self.shared {
+            Some(shared) => shared.names_end(),
+            None => 0,
         }
     }
 }
 
-fn put_shared(
-    items: &mut Arc<Vec<Value>>,
+impl ValuesAndSizes {
+    fn new(alloc: Global) -> ValuesAndSizes
+        ensures { result ≡ [] }
+    {
+        ValuesAndSizes {
+            items: Vec::new(alloc),
+            parts: 0,
+            levels: 0,
+            names_end: 0,
+        }
+    }
+
+    fn items(&self) -> &[Value]
+        ensures { map val_of result.now ≡ self.now }
+    {
+        &self.items
+    }
+
+    fn parts(&self) -> u64
+        ensures { result ≡ capped (parts_of_all (inside self.now)) }
+    {
+        self.parts
+    }
+
+    fn levels(&self) -> u64
+        ensures { result ≡ capped (levels_of_all (inside self.now)) }
+    {
+        self.levels
+    }
+
+    fn names_end(&self) -> u64
+        ensures { result ≡ capped (names_end_of_all (inside self.now)) }
+    {
+        self.names_end
+    }
+
+    /// Adds a value at the end. Without memory the value comes back, and the list stays as it was.
+    fn push(&mut self, item: Value) -> Result<(), (Value, AllocError)>
+        ensures ok { OnOk result (self.new ≡ self.old ++ val_of item ∷ []) }
+        ensures err { IfErr result (λ e. (e.0 ≡ item) × (self.new ≡ self.old)) }
+    {
+        let more_parts = self.parts.saturating_add(parts(&item));
+        let more_levels = self.levels.max(levels(&item));
+        let more_names_end = self.names_end.max(names_end(&item));
+        match self.items.push(item) {
+            Ok(()) => {
+                self.parts = more_parts;
+                self.levels = more_levels;
+                self.names_end = more_names_end;
+                Ok(())
+            }
+            Err(failed) => Err((failed.value, AllocError)),
+        }
+    }
+
+    /// Copies of the values, with room for one more.
+    fn copy(&self, alloc: Global) -> Result<ValuesAndSizes, AllocError>
+        ensures { IfOk result (λ s. s ≡ self.now) }
+    {
+        Ok(ValuesAndSizes {
+            items: copies(&self.items, alloc)?,
+            parts: self.parts,
+            levels: self.levels,
+            names_end: self.names_end,
+        })
+    }
+
+    /// Takes the last value out of a list that goes away.
+    fn into_last(self) -> Option<Value>
+        ensures { option_map val_of result ≡ last_or None self }
+    {
+        let mut items = self.items;
+        match items.as_slice() {
+            [] => None,
+            _ => items.pop(),
+        }
+    }
+}
+
+/// Adds a value to values that other lists may share.
+fn put(
+    shared: &mut Arc<ValuesAndSizes>,
     alloc: Global,
     item: Value,
 ) -> Result<(), (Value, AllocError)>
-    ensures ok { OnOk result (items.new.value.items ≡ items.old.value.items ++ item ∷ []) }
-    ensures err { IfErr result (λ e. (e.0 ≡ item) × (items.new.value.items ≡ items.old.value.items)) }
+    ensures ok { OnOk result (shared.new.value ≡ shared.old.value ++ val_of item ∷ []) }
+    ensures err { IfErr result (λ e. (e.0 ≡ item) × (shared.new.value ≡ shared.old.value)) }
 {
-    if let Some(own) = Arc::get_mut(items) {
-        return match own.push(item) {
-            Ok(()) => Ok(()),
-            Err(failed) => Err((failed.value, AllocError)),
-        };
+    if let Some(own) = Arc::get_mut(shared) {
+        return own.push(item);
     }
-    match copies(items, alloc) {
+    match shared.copy(alloc) {
         Ok(own) => {
             let more = with_one(own, alloc, item)?;
-            *items = more;
+            *shared = more;
             Ok(())
         }
         Err(failed) => Err((item, failed)),
@@ -298,21 +405,19 @@ fn copies(items: &[Value], alloc: Global) -> Result<Vec<Value>, AllocError>
     Ok(own)
 }
 
-/// A list of its own of these values and one more.
+/// These values and one more, for lists to share.
 fn with_one(
-    mut items: Vec<Value>,
+    mut own: ValuesAndSizes,
     alloc: Global,
     item: Value,
-) -> Result<Arc<Vec<Value>>, (Value, AllocError)>
-    ensures ok { IfOk result (λ a. a.value.items ≡ items.items ++ item ∷ []) }
+) -> Result<Arc<ValuesAndSizes>, (Value, AllocError)>
+    ensures ok { IfOk result (λ a. a.value ≡ own ++ val_of item ∷ []) }
     ensures err { IfErr result (λ e. e.0 ≡ item) }
 {
-    if let Err(failed) = items.push(item) {
-        return Err((failed.value, AllocError));
-    }
-    match Arc::new(alloc, items) {
+    own.push(item)?;
+    match Arc::new(alloc, own) {
         Ok(shared) => Ok(shared),
-        Err(mut failed) => match failed.value.pop() {
+        Err(failed) => match failed.value.into_last() {
             Some(item) => Err((item, AllocError)),
             None => unreachable!(),
         },

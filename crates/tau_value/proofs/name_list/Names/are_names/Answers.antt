@@ -1,4 +1,4 @@
-use Rattle.std.proofs.Common.{◌≡◌, ◌<◌, Some, true, false, eqb, not, length, get_or, arith, ap, sym, ◌∙◌, refl}
+use Rattle.std.proofs.Common.{◌≡◌, ◌<◌, Some, false, eqb, not, length, get_or, arith, ap, sym, ◌∙◌, refl}
 use Rattle.std.specs.Option.{option_eq}
 use Rattle.std.proofs.lemmas.Bool.{eq-eqb, not-false}
 use Rattle.tau_value.proofs.NameLemmas.{are_names-found, AreFound-more, place_of-at, some_from_eq}
