@@ -1,17 +1,16 @@
 -- A run and one more step: what exists then, and the views that stay.
-use Rattle.std.proofs.Common.{◌≡◌, ◌⊎◌, inl, inr, ⊎_elim, ℕ, suc, ◌+◌, ◌<◌, ◌≤◌, IsTrue, Bool, true, false, cond, Option, Some, None, refl, sym, ap, ◌∙◌, subst, arith}
-use Rattle.std.specs.Prelude.{slice_get, option_and_then}
+use Rattle.std.proofs.Common.{◌≡◌, ⊎_elim, ℕ, suc, ◌+◌, ◌<◌, ◌≤◌, IsTrue, Bool, cond, Some, sym, ap, ◌∙◌, subst, arith}
+use Rattle.std.specs.Prelude.{option_and_then}
 use Rattle.tau_view.specs.Held.{Held}
 use Rattle.tau_trace.specs.declared.step.Step.{Step}
 use Rattle.tau_trace.specs.Steps.{actor, removed_by, is_new, makes_message}
 use Rattle.tau_trace.specs.Run.{Run, len, step_at, appended, ActsAt, Does}
 use Rattle.tau_trace.specs.Numbering.{born, sent, InFlight, Removes}
 use Rattle.tau_trace.specs.Known.{MayFollow, WellFormed}
-use Rattle.tau_trace.proofs.Agreement.{agree_appended, step_at-appended, born-same, sent-same, born-grows, sent-grows, same_at}
+use Rattle.tau_trace.proofs.Agreement.{agree_appended, step_at-appended, born-same, sent-same, sent-grows, same_at}
 use Rattle.tau_trace.proofs.Indexing.{len-appended, born-next, sent-next, well_formed_appended}
 use Rattle.tau_trace.proofs.Sequences.{cases_last}
-use Rattle.tau_trace.proofs.Quiet.{acts, removes_sent}
-use Rattle.tau_trace.proofs.Lists.{same_some}
+use Rattle.tau_trace.proofs.Quiet.{removes_sent}
 use Rattle.tau_views.specs.Views.{IsViewOf, IsMessageView}
 use Rattle.tau_views.specs.Laws.{ViewAfterStep}
 use Rattle.tau_views.proofs.HeardLaws.{views_step_by_step, views_are_local}

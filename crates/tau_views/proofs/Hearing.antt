@@ -1,17 +1,17 @@
 -- Steps that hear of a message.
-use Rattle.std.proofs.Common.{◌≡◌, ℕ, suc, ◌+◌, ◌<◌, IsTrue, Bool, true, false, Option, Some, None, refl, sym, ap, ◌∙◌, subst, arith}
+use Rattle.std.proofs.Common.{◌≡◌, ℕ, suc, ◌<◌, IsTrue, false, Some, None, refl, sym, ap, ◌∙◌, subst, arith}
 use Rattle.std.specs.Prelude.{slice_get, option_and_then}
-use Rattle.tau_history.specs.Timeline.{Timeline, moved, fall, keep}
-use Rattle.tau_view.specs.Held.{Held, AllComparable}
+use Rattle.tau_history.specs.Timeline.{Timeline, moved, fall}
+use Rattle.tau_view.specs.Held.{Held}
 use Rattle.tau_view.specs.Rules.{noted, merged, with_roots, with_no_roots}
-use Rattle.tau_view.specs.Trim.{EdgeTest, RootTest, trim}
+use Rattle.tau_view.specs.Trim.{EdgeTest, RootTest}
 use Rattle.tau_view.specs.Laws.{MayNote}
 use Rattle.tau_trace.specs.declared.step.Step.{Step}
 use Rattle.tau_trace.specs.declared.step.Step.TheVariants.{Take, Drop, Fall, Heed}
 use Rattle.tau_trace.specs.Steps.{actor, removed_by, is_new, makes_message}
 use Rattle.tau_trace.specs.Run.{Run, len, appended}
-use Rattle.tau_trace.specs.Numbering.{born, sent, InFlight}
-use Rattle.tau_trace.specs.Histories.{history, move_at}
+use Rattle.tau_trace.specs.Numbering.{born, sent}
+use Rattle.tau_trace.specs.Histories.{history}
 use Rattle.tau_trace.specs.Known.{MayFollow, WellFormed}
 use Rattle.tau_trace.proofs.Agreement.{agree_appended, history-same}
 use Rattle.tau_trace.proofs.Counted.{history-suc, move_at-own}
@@ -20,7 +20,7 @@ use Rattle.tau_views.specs.Views.{IsViewOf, IsMessageView}
 use Rattle.tau_views.specs.Laws.{only_hears}
 use Rattle.tau_views.specs.declared.views.Views.{Views}
 use Rattle.tau_views.specs.declared.views.ViewChange.{ViewChange}
-use Rattle.tau_views.specs.Kept.{AreViews, held_of, letters_of}
+use Rattle.tau_views.specs.Kept.{held_of, letters_of}
 use Rattle.tau_views.specs.Inner.Trims.{IsAfter, IsAfterBoth}
 use Rattle.tau_views.specs.Inner.Next.{IsNext, AreNext}
 use Rattle.tau_views.proofs.HeardLaws.{views_have_the_own_history}
@@ -56,7 +56,7 @@ hearing_removes (Drop t m) h = refl
 hearing_removes (Heed t m) h = refl
 hearing_removes s h = absurd (cc)
 
-module _ (de : EdgeTest) (dr : RootTest) {V : Type 0} (held : V → Held) (v : Views V) (T : Run) (s : Step) (next : IsNext de dr held v T s) (t m : ℕ) (h l : Held)
+module _ {de : EdgeTest} {dr : RootTest} {V : Type 0} {held : V → Held} {v : Views V} {T : Run} {s : Step} (next : IsNext de dr held v T s) (t m : ℕ) (h l : Held)
     (e : slice_get (held_of held v.own.items) t ≡ Some h) (f : slice_get (letters_of held v.letters.items) m ≡ Some (Some l)) where
   pub heard_exists : heard_by s ≡ Some m → m < sent T (len T)
   heard_exists hears = (next.ready.hearing m hears).exists
@@ -67,9 +67,9 @@ module _ (de : EdgeTest) (dr : RootTest) {V : Type 0} (held : V → Held) (v : V
     by_take kind is after =
         let x = next.views.each t h e in
         let y = next.views.letter m l f in
-        let step = after_step T s next.well_formed next.follows t x.whole (actor_exists de dr held v T s next t (ap actor kind)) x.is_whole in
+        let step = after_step T s next.well_formed next.follows t x.whole (actor_exists next t (ap actor kind)) x.is_whole in
         let message = message_stays T s next.well_formed next.follows m y.whole (heard_exists (ap heard_by kind)) y.is_whole in
-        next_own de dr held v T s next t a (Some m) (with_roots y.whole.root (merged x.whole y.whole)) c is (ap actor kind) (ap is_new kind) (ap makes_message kind) (sym (ap removed_by kind)) (after x.whole y.whole x.is y.is)
+        next_own next t a (Some m) (with_roots y.whole.root (merged x.whole y.whole)) c is (ap actor kind) (ap is_new kind) (ap makes_message kind) (sym (ap removed_by kind)) (after x.whole y.whole x.is y.is)
         (step.take m y.whole (here T s ∙ ap Some kind) message)
 
     -- a Drop or a Heed
@@ -77,9 +77,9 @@ module _ (de : EdgeTest) (dr : RootTest) {V : Type 0} (held : V → Held) (v : V
     by_merge by kind hears is after =
         let x = next.views.each t h e in
         let y = next.views.letter m l f in
-        let step = after_step T s next.well_formed next.follows t x.whole (actor_exists de dr held v T s next t by) x.is_whole in
+        let step = after_step T s next.well_formed next.follows t x.whole (actor_exists next t by) x.is_whole in
         let message = message_stays T s next.well_formed next.follows m y.whole (heard_exists hears) y.is_whole in
-        next_own de dr held v T s next t a (Some m) (merged x.whole y.whole) c is by (hearing_not_new s kind) (hearing_makes_none s kind) (sym (hearing_removes s kind ∙ hears)) (after x.whole y.whole x.is y.is)
+        next_own next t a (Some m) (merged x.whole y.whole) c is by (hearing_not_new s kind) (hearing_makes_none s kind) (sym (hearing_removes s kind ∙ hears)) (after x.whole y.whole x.is y.is)
         (step.hearing m y.whole (does_here T s only_hears t by kind) (ap (option_and_then heard_by) (here T s) ∙ hears) message)
 
   -- a Fall, through the view with the message's facts
@@ -88,16 +88,16 @@ module _ (de : EdgeTest) (dr : RootTest) {V : Type 0} (held : V → Held) (v : V
     may_note_fall =
         let x = next.views.each t h e in
         let y = next.views.letter m l f in
-        let own = merged_history T t m x.whole y.whole next.well_formed next.follows.few_steps (actor_exists de dr held v T s next t (ap actor kind)) (heard_exists (ap heard_by kind)) x.is_whole y.is_whole in
-        may_move de dr held v T s next fall t k mid tt moves (same_history de dr mid (merged x.whole y.whole) t (both x.whole y.whole x.is y.is) ∙ own)
+        let own = merged_history T t m x.whole y.whole next.well_formed next.follows.few_steps (actor_exists next t (ap actor kind)) (heard_exists (ap heard_by kind)) x.is_whole y.is_whole in
+        may_move next fall t k mid tt moves (same_history de dr mid (merged x.whole y.whole) t (both x.whole y.whole x.is y.is) ∙ own)
 
     pub by_fall : (a : V) (c : ViewChange V) → c ≡ own_change t a None → IsAfter de dr (λ x. with_no_roots (noted t k x)) mid (held a) → AreNext de dr held v T s c
     by_fall a c is after =
         let x = next.views.each t h e in
         let y = next.views.letter m l f in
-        let step = after_step T s next.well_formed next.follows t x.whole (actor_exists de dr held v T s next t (ap actor kind)) x.is_whole in
+        let step = after_step T s next.well_formed next.follows t x.whole (actor_exists next t (ap actor kind)) x.is_whole in
         let message = message_stays T s next.well_formed next.follows m y.whole (heard_exists (ap heard_by kind)) y.is_whole in
-        let moves_then : k ≡ moved fall (history (appended T s) t (len T)) = moves ∙ ap (moved fall) (sym (history_then de dr held v T s next t)) in
+        let moves_then : k ≡ moved fall (history (appended T s) t (len T)) = moves ∙ ap (moved fall) (sym (history_then next t)) in
         let Q : Timeline → Type 0 = λ j. IsViewOf (appended T s) t (suc (len T)) (with_no_roots (noted t j (merged x.whole y.whole))) in
-        next_own de dr held v T s next t a None (with_no_roots (noted t k (merged x.whole y.whole))) c is (ap actor kind) (ap is_new kind) (ap makes_message kind) (sym (ap removed_by kind)) (after (merged x.whole y.whole) (both x.whole y.whole x.is y.is))
+        next_own next t a None (with_no_roots (noted t k (merged x.whole y.whole))) c is (ap actor kind) (ap is_new kind) (ap makes_message kind) (sym (ap removed_by kind)) (after (merged x.whole y.whole) (both x.whole y.whole x.is y.is))
         (subst Q (sym moves_then) (step.fall_by m y.whole (here T s ∙ ap Some kind) message))

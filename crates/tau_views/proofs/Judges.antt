@@ -1,8 +1,8 @@
 -- What trimmed views decide.
-use Rattle.std.proofs.Common.{◌≡◌, ◌↔◌, ℕ, ◌<◌, IsTrue, List, Option, Some, sym, subst, ap, ◌∙◌}
+use Rattle.std.proofs.Common.{◌≡◌, ℕ, ◌<◌, List, Option, Some, sym, subst}
 use Rattle.std.specs.Prelude.{slice_get}
 use Rattle.tau_points.specs.declared.point.Point.{Point}
-use Rattle.tau_view.specs.Held.{Held, Points}
+use Rattle.tau_view.specs.Held.{Held}
 use Rattle.tau_view.specs.Rules.{merged}
 use Rattle.tau_view.specs.Past.{Settled}
 use Rattle.tau_view.specs.Trim.{EdgeTest, RootTest, trim, DropsSettledEdges, DropsClosedRoots, DropsForGood}
@@ -11,10 +11,10 @@ use Rattle.tau_fate.specs.declared.verdict.Verdict.{Verdict}
 use Rattle.tau_fate.specs.declared.freedom.Freedom.{Freedom}
 use Rattle.tau_fate.specs.Decisions.{IsVerdict, IsFreedom}
 use Rattle.tau_trace.specs.Run.{Run, len}
-use Rattle.tau_trace.specs.Numbering.{born, sent, InFlight}
+use Rattle.tau_trace.specs.Numbering.{born, sent}
 use Rattle.tau_trace.specs.Points.{point_at}
 use Rattle.tau_trace.specs.Known.{WellFormed}
-use Rattle.tau_past.specs.Decisions.{Verdict as VerdictAt, Free}
+use Rattle.tau_past.specs.Decisions.{Verdict as VerdictAt}
 use Rattle.tau_past.specs.Safety.{KeepsRules}
 use Rattle.tau_views.specs.DecisionLaws.{judged, AreViewsOf, IsFreedomOf}
 use Rattle.tau_views.specs.NamedPoints.{NamesKnownFallen}

@@ -1,13 +1,13 @@
 -- Steps that end a turn.
-use Rattle.std.proofs.Common.{◌≡◌, ℕ, suc, ◌<◌, IsTrue, Bool, true, false, Option, Some, None, refl, sym, ap, ◌∙◌, subst, arith}
-use Rattle.std.specs.Prelude.{slice_get, option_and_then, IsFalse}
+use Rattle.std.proofs.Common.{◌≡◌, ℕ, suc, IsTrue, Bool, Some, None, refl, sym, ap, ◌∙◌, subst}
+use Rattle.std.specs.Prelude.{slice_get, option_and_then}
 use Rattle.tau_history.specs.Timeline.{Timeline, Move, keep, stabilize, close, fall, moved}
 use Rattle.tau_view.specs.Held.{Held}
 use Rattle.tau_view.specs.Rules.{noted, with_no_roots}
-use Rattle.tau_view.specs.Trim.{EdgeTest, RootTest, trim}
+use Rattle.tau_view.specs.Trim.{EdgeTest, RootTest}
 use Rattle.tau_view.specs.Laws.{MayNote}
 use Rattle.tau_trace.specs.declared.step.Step.{Step}
-use Rattle.tau_trace.specs.declared.step.Step.TheVariants.{Take, Drop, Fall, Void, Get, Set, Skip, Send, New, Stabilize, Ask, Checkpoint, Hold, Rollback, Stay, Done, Trap, Fail, Lose}
+use Rattle.tau_trace.specs.declared.step.Step.TheVariants.{Fall, Checkpoint, Hold, Rollback, Stay, Done, Trap, Fail}
 use Rattle.tau_trace.specs.Steps.{actor, removed_by, ends_turn, is_new, makes_message}
 use Rattle.tau_trace.specs.Run.{Run, len, appended}
 use Rattle.tau_trace.specs.Histories.{history, move_of, move_at}
@@ -40,32 +40,32 @@ plain_end (Trap t x) e = record { new = refl; send = refl; removed = refl }
 plain_end (Fail t) e = record { new = refl; send = refl; removed = refl }
 plain_end s e = absurd (cc)
 
-module _ (de : EdgeTest) (dr : RootTest) {V : Type 0} (held : V → Held) (v : Views V) (T : Run) (s : Step) (next : IsNext de dr held v T s) (t : ℕ) (h : Held)
+module _ {de : EdgeTest} {dr : RootTest} {V : Type 0} {held : V → Held} {v : Views V} {T : Run} {s : Step} (next : IsNext de dr held v T s) (t : ℕ) (h : Held)
     (e : slice_get (held_of held v.own.items) t ≡ Some h) (by : actor s ≡ Some t) where
   own : h.history t ≡ Some (history T t (len T))
-  own = own_history_is de dr held v T next.views next.well_formed t h (actor_exists de dr held v T s next t by) e
+  own = own_history_is de dr held v T next.views next.well_formed t h (actor_exists next t by) e
 
   move_then : (m : Move) → move_of (history T t (len T)).stable s ≡ m → move_at (appended T s) t (len T) ≡ m
-  move_then m is = move_at-own (appended T s) t (len T) s (here T s) by ∙ ap (λ x. move_of x.stable s) (history_then de dr held v T s next t) ∙ is
+  move_then m is = move_at-own (appended T s) t (len T) s (here T s) by ∙ ap (λ x. move_of x.stable s) (history_then next t) ∙ is
 
   pub may_note_fall : (k : Timeline) → k ≡ moved fall (history T t (len T)) → MayNote t k h.history
-  may_note_fall k moves = may_move de dr held v T s next fall t k h tt moves own
+  may_note_fall k moves = may_move next fall t k h tt moves own
 
   pub may_note_close : (k : Timeline) → s ≡ Checkpoint t → k ≡ moved close (history T t (len T)) → MayNote t k h.history
-  may_note_close k kind moves = may_move de dr held v T s next close t k h (next.ready.closing t kind) moves own
+  may_note_close k kind moves = may_move next close t k h (next.ready.closing t kind) moves own
 
   pub may_note_stable : (k : Timeline) → k ≡ moved stabilize (history T t (len T)) → MayNote t k h.history
-  may_note_stable k moves = may_move de dr held v T s next stabilize t k h tt moves own
+  may_note_stable k moves = may_move next stabilize t k h tt moves own
 
   module _ (a : V) (c : ViewChange V) (is : c ≡ own_change t a None) where
     -- a Checkpoint
     pub by_close : (k : Timeline) → s ≡ Checkpoint t → k ≡ moved close (history T t (len T)) → IsAfter de dr (λ x. with_no_roots (noted t k x)) h (held a) → AreNext de dr held v T s c
     by_close k kind moves after =
         let x = next.views.each t h e in
-        let step = after_step T s next.well_formed next.follows t x.whole (actor_exists de dr held v T s next t by) x.is_whole in
-        let moves_then : k ≡ moved close (history (appended T s) t (len T)) = moves ∙ ap (moved close) (sym (history_then de dr held v T s next t)) in
+        let step = after_step T s next.well_formed next.follows t x.whole (actor_exists next t by) x.is_whole in
+        let moves_then : k ≡ moved close (history (appended T s) t (len T)) = moves ∙ ap (moved close) (sym (history_then next t)) in
         let Q : Timeline → Type 0 = λ j. IsViewOf (appended T s) t (suc (len T)) (with_no_roots (noted t j x.whole)) in
-        next_own de dr held v T s next t a None (with_no_roots (noted t k x.whole)) c is by (ap is_new kind) (ap makes_message kind) (sym (ap removed_by kind)) (after x.whole x.is)
+        next_own next t a None (with_no_roots (noted t k x.whole)) c is by (ap is_new kind) (ap makes_message kind) (sym (ap removed_by kind)) (after x.whole x.is)
         (subst Q (sym moves_then) (step.closing (here T s ∙ ap Some kind)))
 
     -- a step by which t falls and hears of no message
@@ -73,10 +73,10 @@ module _ (de : EdgeTest) (dr : RootTest) {V : Type 0} (held : V → Held) (v : V
     by_leaving k falls alone moves after =
         let x = next.views.each t h e in
         let plain = plain_fall (history T t (len T)).stable s falls in
-        let step = after_step T s next.well_formed next.follows t x.whole (actor_exists de dr held v T s next t by) x.is_whole in
-        let moves_then : k ≡ moved fall (history (appended T s) t (len T)) = moves ∙ ap (moved fall) (sym (history_then de dr held v T s next t)) in
+        let step = after_step T s next.well_formed next.follows t x.whole (actor_exists next t by) x.is_whole in
+        let moves_then : k ≡ moved fall (history (appended T s) t (len T)) = moves ∙ ap (moved fall) (sym (history_then next t)) in
         let Q : Timeline → Type 0 = λ j. IsViewOf (appended T s) t (suc (len T)) (with_no_roots (noted t j x.whole)) in
-        next_own de dr held v T s next t a None (with_no_roots (noted t k x.whole)) c is by plain.new plain.send (sym plain.removed) (after x.whole x.is)
+        next_own next t a None (with_no_roots (noted t k x.whole)) c is by plain.new plain.send (sym plain.removed) (after x.whole x.is)
         (subst Q (sym moves_then) (step.falling (move_then fall falls) (ap (option_and_then heard_by) (here T s) ∙ alone)))
 
     -- a step by which the turn of t ends, and t's history stays
@@ -84,6 +84,6 @@ module _ (de : EdgeTest) (dr : RootTest) {V : Type 0} (held : V → Held) (v : V
     by_end ends keeps after =
         let x = next.views.each t h e in
         let plain = plain_end s ends in
-        let step = after_step T s next.well_formed next.follows t x.whole (actor_exists de dr held v T s next t by) x.is_whole in
-        next_own de dr held v T s next t a None (with_no_roots x.whole) c is by plain.new plain.send (sym plain.removed) (after x.whole x.is)
+        let step = after_step T s next.well_formed next.follows t x.whole (actor_exists next t by) x.is_whole in
+        next_own next t a None (with_no_roots x.whole) c is by plain.new plain.send (sym plain.removed) (after x.whole x.is)
         (step.ending (does_here T s ends_turn t by ends) (move_then keep keeps))

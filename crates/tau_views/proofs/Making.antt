@@ -1,7 +1,7 @@
 -- Steps that make a message or a transactor, and steps that only take a message out of flight.
-use Rattle.std.proofs.Common.{◌≡◌, ℕ, suc, ◌+◌, ◌<◌, IsTrue, Bool, true, false, List, map, Option, Some, None, refl, sym, ap, ◌∙◌, subst, arith}
+use Rattle.std.proofs.Common.{◌≡◌, ℕ, suc, ◌<◌, IsTrue, false, Some, None, refl, sym, ap, ◌∙◌, subst}
 use Rattle.std.specs.Prelude.{slice_get}
-use Rattle.tau_history.specs.Timeline.{Timeline, newborn}
+use Rattle.tau_history.specs.Timeline.{newborn}
 use Rattle.tau_view.specs.Held.{Held}
 use Rattle.tau_view.specs.Rules.{with_no_roots}
 use Rattle.tau_view.specs.Trim.{EdgeTest, RootTest, trim}
@@ -16,7 +16,7 @@ use Rattle.tau_views.specs.Views.{IsViewOf, IsMessageView}
 use Rattle.tau_views.specs.Laws.{ViewAfterStep, with_newborn}
 use Rattle.tau_views.specs.declared.views.Views.{Views}
 use Rattle.tau_views.specs.declared.views.ViewChange.{ViewChange}
-use Rattle.tau_views.specs.Kept.{AreViews, held_of, letters_of}
+use Rattle.tau_views.specs.Kept.{held_of, letters_of}
 use Rattle.tau_views.specs.Inner.Trims.{IsAfter}
 use Rattle.tau_views.specs.Inner.Next.{IsNext, AreNext, only_removes}
 use Rattle.tau_views.proofs.Appended.{here, born_here, sent_here, does_here, message_stays, after_step}
@@ -69,12 +69,12 @@ removal_not_send (Void t m) k = refl
 removal_not_send (Lose m) k = refl
 removal_not_send s k = absurd (cc)
 
-module _ (de : EdgeTest) (dr : RootTest) {V : Type 0} (held : V → Held) (v : Views V) (T : Run) (s : Step) (next : IsNext de dr held v T s) where
+module _ {de : EdgeTest} {dr : RootTest} {V : Type 0} {held : V → Held} {v : Views V} {T : Run} {s : Step} (next : IsNext de dr held v T s) where
   -- a Void or a Lose
   pub by_removal : (m : ℕ) (c : ViewChange V) → IsTrue (only_removes s) → removed_by s ≡ Some m → c ≡ record { own = None; newborn = None; letter = None; gone = Some m } → AreNext de dr held v T s c
   by_removal m c kind removed is =
       let P : ViewChange V → Type 0 = λ d. AreNext de dr held v T s d in
-      subst P (sym is) (next_by de dr held v T s next (record { own = None; newborn = None; letter = None; gone = Some m }) (record {
+      subst P (sym is) (next_by next (record { own = None; newborn = None; letter = None; gone = Some m }) (record {
         own = λ t x by exists own. removal_stays (appended T s) (len T) t x s (here T s) kind by (after_step T s next.well_formed next.follows t x exists own);
         newborn = removal_not_new s kind;
         letter = removal_not_send s kind;
@@ -87,8 +87,8 @@ module _ (de : EdgeTest) (dr : RootTest) {V : Type 0} (held : V → Held) (v : V
     by_send a c by kind same is =
         let P : ViewChange V → Type 0 = λ d. AreNext de dr held v T s d in
         let x = next.views.each t h e in
-        let step = after_step T s next.well_formed next.follows t x.whole (actor_exists de dr held v T s next t by) x.is_whole in
-        subst P (sym is) (next_by de dr held v T s next (record { own = None; newborn = None; letter = Some a; gone = None }) (record {
+        let step = after_step T s next.well_formed next.follows t x.whole (actor_exists next t by) x.is_whole in
+        subst P (sym is) (next_by next (record { own = None; newborn = None; letter = Some a; gone = None }) (record {
           own = λ u y acts exists own. (after_step T s next.well_formed next.follows u y exists own).making (does_here T s makes_message u acts (send_makes s kind));
           newborn = not_new s kind;
           letter = (send_makes s kind, record { whole = x.whole; is_whole = step.message (sent T (len T)) (sends_there (appended T s) (len T) t (sent T (len T)) s (here T s) kind by (sym (sent_here T s))); is = same ∙ x.is });
@@ -100,10 +100,10 @@ module _ (de : EdgeTest) (dr : RootTest) {V : Type 0} (held : V → Held) (v : V
     by_echo n a c kind after is =
         let P : ViewChange V → Type 0 = λ d. AreNext de dr held v T s d in
         let x = next.views.each t h e in
-        let step = after_step T s next.well_formed next.follows t x.whole (actor_exists de dr held v T s next t (ap actor kind)) x.is_whole in
+        let step = after_step T s next.well_formed next.follows t x.whole (actor_exists next t (ap actor kind)) x.is_whole in
         let known : (t < born T (len T)) × (n < sent T (len T)) = subst (IsKnownAt T (len T)) kind next.follows.known in
         let made : IsEchoed (appended T s) (len T) t n (sent T (len T)) = record { stands = here T s ∙ ap Some kind; made = sym (sent_here T s); earlier = known.1 } in
-        subst P (sym is) (next_by de dr held v T s next (record { own = None; newborn = None; letter = Some a; gone = Some n }) (record {
+        subst P (sym is) (next_by next (record { own = None; newborn = None; letter = Some a; gone = Some n }) (record {
           own = λ u y acts exists own. (after_step T s next.well_formed next.follows u y exists own).making (does_here T s makes_message u acts (ap makes_message kind));
           newborn = ap is_new kind;
           letter = (ap makes_message kind, record { whole = with_no_roots x.whole; is_whole = step.notice n (sent T (len T)) made; is = after x.whole x.is });
@@ -112,7 +112,7 @@ module _ (de : EdgeTest) (dr : RootTest) {V : Type 0} (held : V → Held) (v : V
 
     pub may_note_new : actor s ≡ Some t → MayNote (born T (len T)) newborn h.history
     may_note_new by j f =
-        let none = unborn_history de dr held v T next.views next.well_formed t h (actor_exists de dr held v T s next t by) e in
+        let none = unborn_history de dr held v T next.views next.well_formed t h (actor_exists next t by) e in
         absurd (let both = sym none ∙ f in cc)
 
     -- a New
@@ -122,10 +122,10 @@ module _ (de : EdgeTest) (dr : RootTest) {V : Type 0} (held : V → Held) (v : V
         let P : ViewChange V → Type 0 = λ d. AreNext de dr held v T s d in
         let x = next.views.each t h e in
         let Q : ℕ → Type 0 = λ i. IsViewOf (appended T s) i (suc (len T)) (with_no_roots (with_newborn u x.whole)) in
-        let step = after_step T s next.well_formed next.follows t x.whole (actor_exists de dr held v T s next t by) x.is_whole in
+        let step = after_step T s next.well_formed next.follows t x.whole (actor_exists next t by) x.is_whole in
         let birth = makes_transactor (appended T s) (len T) t u s (here T s) kind by (made ∙ sym (born_here T s)) in
         let grown : held a ≡ trim de dr (with_newborn u x.whole) = first x.whole x.is in
-        subst P (sym is) (next_by de dr held v T s next (record { own = Some (t, a); newborn = Some b; letter = None; gone = None }) (record {
+        subst P (sym is) (next_by next (record { own = Some (t, a); newborn = Some b; letter = None; gone = None }) (record {
           own = (by, record { whole = with_newborn u x.whole; is_whole = step.new u birth; is = grown });
           newborn = (kind, record { whole = with_no_roots (with_newborn u x.whole); is_whole = subst Q made (step.newborn u birth); is = second (with_newborn u x.whole) grown });
           letter = not_send s kind;
@@ -140,7 +140,7 @@ module _ (de : EdgeTest) (dr : RootTest) {V : Type 0} (held : V → Held) (v : V
       let exists : n < sent T (len T) = (next.ready.repeating n kind).exists in
       let made : IsRepeated (appended T s) (len T) n (sent T (len T)) = record { stands = here T s ∙ ap Some kind; made = sym (sent_here T s); earlier = exists } in
       let view : IsMessageView (appended T s) (sent T (len T)) y.whole = copies_have_their_view (appended T s) (len T) n (sent T (len T)) y.whole made (message_stays T s next.well_formed next.follows n y.whole exists y.is_whole) in
-      subst P (sym is) (next_by de dr held v T s next (record { own = None; newborn = None; letter = Some a; gone = None }) (record {
+      subst P (sym is) (next_by next (record { own = None; newborn = None; letter = Some a; gone = None }) (record {
         own = λ u x acts exists own. absurd (let both : None ≡ Some u = sym (ap actor kind) ∙ acts in cc);
         newborn = ap is_new kind;
         letter = (ap makes_message kind, record { whole = y.whole; is_whole = view; is = same ∙ y.is });

@@ -1,11 +1,11 @@
 -- The points that trimmed views name are what was heard says they are.
-use Rattle.std.proofs.Common.{◌≢◌, ◌↔◌, ℕ, ◌<◌, Bool, IsTrue, Option, sym, refl}
+use Rattle.std.proofs.Common.{◌≢◌, ◌↔◌, ℕ, IsTrue, Option}
 use Rattle.tau_history.specs.declared.fate.Fate.TheVariants.{Ahead}
 use Rattle.tau_points.specs.declared.point.Point.{Point}
 use Rattle.tau_view.specs.Held.{Held, Points, fate_in, only}
 use Rattle.tau_view.specs.Rules.{merged}
 use Rattle.tau_view.specs.Past.{FallenIn as FallenOn, NotFirmIn}
-use Rattle.tau_view.specs.Trim.{EdgeTest, RootTest, trim}
+use Rattle.tau_view.specs.Trim.{EdgeTest, RootTest}
 use Rattle.tau_fate.specs.declared.verdict.Verdict.TheVariants.{Take, Drop, Fall}
 use Rattle.tau_fate.specs.declared.freedom.Freedom.TheVariants.{Free, Bound}
 use Rattle.tau_fate.proofs.SameKinds.{verdict_point, freedom_point}

@@ -8,7 +8,7 @@ use Rattle.tau_view.specs.Rules.{nothing, noted}
 use Rattle.tau_view.specs.Trim.{EdgeTest, RootTest, trim}
 use Rattle.tau_trace.specs.declared.opening.Opening.{Opening}
 use Rattle.tau_trace.specs.Steps.{is_new, makes_message}
-use Rattle.tau_trace.specs.Run.{Run, step_at, starts}
+use Rattle.tau_trace.specs.Run.{Run, step_at}
 use Rattle.tau_trace.specs.Numbering.{sent}
 use Rattle.tau_trace.specs.Known.{IsSound, WellFormed}
 use Rattle.tau_trace.proofs.Counts.{count-zero}

@@ -1,11 +1,11 @@
 -- Steps that touch.
-use Rattle.std.proofs.Common.{◌≡◌, ℕ, suc, ◌<◌, IsTrue, Bool, true, false, Option, Some, None, refl, sym, ap, ◌∙◌, subst, arith}
+use Rattle.std.proofs.Common.{◌≡◌, ℕ, suc, IsTrue, Some, None, refl, sym, ap, ◌∙◌, subst}
 use Rattle.std.specs.Prelude.{slice_get}
 use Rattle.tau_history.specs.Timeline.{Timeline, moved, stabilize}
 use Rattle.tau_points.specs.declared.point.Point.{Point}
 use Rattle.tau_view.specs.Held.{Held}
 use Rattle.tau_view.specs.Rules.{noted, touched, depended}
-use Rattle.tau_view.specs.Trim.{EdgeTest, RootTest, trim}
+use Rattle.tau_view.specs.Trim.{EdgeTest, RootTest}
 use Rattle.tau_trace.specs.declared.step.Step.{Step}
 use Rattle.tau_trace.specs.declared.step.Step.TheVariants.{Get, Set, Skip, Stabilize, Ask}
 use Rattle.tau_trace.specs.Steps.{actor, removed_by, is_new, makes_message}
@@ -45,7 +45,7 @@ set_touches : (s : Step) → IsTrue (is_set s) → IsTrue (touches s)
 set_touches (Set t x) k = refl
 set_touches s k = absurd (cc)
 
-module _ (de : EdgeTest) (dr : RootTest) {V : Type 0} (held : V → Held) (v : Views V) (T : Run) (s : Step) (next : IsNext de dr held v T s) (t : ℕ) (h : Held) (a : V) (c : ViewChange V) (p : Point)
+module _ {de : EdgeTest} {dr : RootTest} {V : Type 0} {held : V → Held} {v : Views V} {T : Run} {s : Step} (next : IsNext de dr held v T s) (t : ℕ) (h : Held) (a : V) (c : ViewChange V) (p : Point)
     (e : slice_get (held_of held v.own.items) t ≡ Some h) (at : p ≡ point_at T t (len T)) (is : c ≡ own_change t a None) (by : actor s ≡ Some t) where
   at_then : p ≡ point_at (appended T s) t (len T)
   at_then = at ∙ point-same t (len T) (agree_appended T s)
@@ -55,10 +55,10 @@ module _ (de : EdgeTest) (dr : RootTest) {V : Type 0} (held : V → Held) (v : V
   by_touch kind after =
       let x = next.views.each t h e in
       let plain = plain_touch s kind in
-      let step = after_step T s next.well_formed next.follows t x.whole (actor_exists de dr held v T s next t by) x.is_whole in
-      let turn = turn_then de dr held v T s next t (next.ready.touching t by (touch_touches s kind)) in
+      let step = after_step T s next.well_formed next.follows t x.whole (actor_exists next t by) x.is_whole in
+      let turn = turn_then next t (next.ready.touching t by (touch_touches s kind)) in
       let P : Point → Type 0 = λ q. IsViewOf (appended T s) t (suc (len T)) (touched q x.whole) in
-      next_own de dr held v T s next t a None (touched p x.whole) c is by plain.new plain.send (sym plain.removed) (after x.whole x.is)
+      next_own next t a None (touched p x.whole) c is by plain.new plain.send (sym plain.removed) (after x.whole x.is)
       (subst P (sym at_then) (step.touching (does_here T s only_touches t by kind) turn))
 
   -- a Set
@@ -66,20 +66,20 @@ module _ (de : EdgeTest) (dr : RootTest) {V : Type 0} (held : V → Held) (v : V
   by_set kind after =
       let x = next.views.each t h e in
       let plain = plain_set s kind in
-      let step = after_step T s next.well_formed next.follows t x.whole (actor_exists de dr held v T s next t by) x.is_whole in
-      let turn = turn_then de dr held v T s next t (next.ready.touching t by (set_touches s kind)) in
+      let step = after_step T s next.well_formed next.follows t x.whole (actor_exists next t by) x.is_whole in
+      let turn = turn_then next t (next.ready.touching t by (set_touches s kind)) in
       let P : Point → Type 0 = λ q. IsViewOf (appended T s) t (suc (len T)) (touched q (depended q x.whole)) in
-      next_own de dr held v T s next t a None (touched p (depended p x.whole)) c is by plain.new plain.send (sym plain.removed) (after x.whole x.is)
+      next_own next t a None (touched p (depended p x.whole)) c is by plain.new plain.send (sym plain.removed) (after x.whole x.is)
       (subst P (sym at_then) (step.set (does_here T s is_set t by kind) turn))
 
   -- a Stabilize
   pub by_stabilize : (k : Timeline) → s ≡ Stabilize t → k ≡ moved stabilize (history T t (len T)) → IsAfter de dr (λ x. touched p (noted t k x)) h (held a) → AreNext de dr held v T s c
   by_stabilize k kind moves after =
       let x = next.views.each t h e in
-      let step = after_step T s next.well_formed next.follows t x.whole (actor_exists de dr held v T s next t by) x.is_whole in
-      let turn = turn_then de dr held v T s next t (next.ready.touching t by (ap touches kind)) in
-      let moves_then : k ≡ moved stabilize (history (appended T s) t (len T)) = moves ∙ ap (moved stabilize) (sym (history_then de dr held v T s next t)) in
+      let step = after_step T s next.well_formed next.follows t x.whole (actor_exists next t by) x.is_whole in
+      let turn = turn_then next t (next.ready.touching t by (ap touches kind)) in
+      let moves_then : k ≡ moved stabilize (history (appended T s) t (len T)) = moves ∙ ap (moved stabilize) (sym (history_then next t)) in
       let P : Point → Type 0 = λ q. IsViewOf (appended T s) t (suc (len T)) (touched q (noted t k x.whole)) in
       let Q : Timeline → Type 0 = λ j. IsViewOf (appended T s) t (suc (len T)) (touched (point_at (appended T s) t (len T)) (noted t j x.whole)) in
-      next_own de dr held v T s next t a None (touched p (noted t k x.whole)) c is by (ap is_new kind) (ap makes_message kind) (sym (ap removed_by kind)) (after x.whole x.is)
+      next_own next t a None (touched p (noted t k x.whole)) c is by (ap is_new kind) (ap makes_message kind) (sym (ap removed_by kind)) (after x.whole x.is)
       (subst P (sym at_then) (subst Q (sym moves_then) (step.stabilize (here T s ∙ ap Some kind) turn)))

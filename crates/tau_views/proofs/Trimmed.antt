@@ -1,6 +1,5 @@
 -- What calls in a row make of trimmed views, whatever whole ones these were trimmed from.
 use Rattle.std.proofs.Common.{◌≡◌, ℕ, sym, ap, ap₂, ◌∙◌}
-use Rattle.std.specs.Prelude.{Some}
 use Rattle.tau_history.specs.Timeline.{Timeline, newborn}
 use Rattle.tau_points.specs.declared.point.Point.{Point}
 use Rattle.tau_view.specs.Held.{Held, AllComparable}

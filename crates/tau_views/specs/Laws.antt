@@ -1,7 +1,6 @@
 -- How the view of what was heard changes step by step, each the contract of a function of the crate.
 use Rattle.std.specs.Prelude.{◌≡◌, ℕ, suc, ◌<◌, Bool, true, false, Some, None, length}
-use Rattle.tau_history.specs.Timeline.{Timeline, opening, newborn, moved, keep, stabilize, close, fall}
-use Rattle.tau_points.specs.declared.point.Point.{Point}
+use Rattle.tau_history.specs.Timeline.{opening, newborn, moved, keep, stabilize, close, fall}
 use Rattle.tau_view.specs.Held.{Held, AllPrecede, AllComparable}
 use Rattle.tau_view.specs.Rules.{nothing, noted, touched, depended, merged, with_roots, with_no_roots}
 use Rattle.tau_trace.specs.declared.step.Step.{Step}
@@ -14,7 +13,6 @@ use Rattle.tau_trace.specs.Points.{point_at, Stabilizes}
 use Rattle.tau_trace.specs.Known.{WellFormed}
 use Rattle.tau_trace.specs.Turns.{HasOpenTurn}
 use Rattle.tau_past.specs.Carried.{is_set, first_point}
-use Rattle.tau_past.specs.Heard.{heard_by}
 use Rattle.tau_past.specs.KnownLaws.{HearsOf, HearsOfNone}
 use Rattle.tau_views.specs.Views.{IsViewOf, IsMessageView}
 

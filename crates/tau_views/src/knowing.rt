@@ -1,6 +1,7 @@
 //! Views as what a system knows of its run.
 
 use crate::opening::{post_views, start_views};
+use crate::preparing::NextStep;
 use crate::views::{ViewChange, Views};
 use std::alloc::{AllocError, Global};
 use tau_fate::{Freedom, Verdict, free_settled};
@@ -35,7 +36,12 @@ impl<V: View + Drop> Knowledge for Views<V> {
         self.reserve()?;
         // Its contract says that the trace is well-formed.
         let _steps = trace.len();
-        self.change_by(alloc, trace, step)
+        let next = NextStep {
+            views: self,
+            trace,
+            step,
+        };
+        next.change(alloc)
     }
 
     fn apply(&mut self, change: ViewChange<V>) {

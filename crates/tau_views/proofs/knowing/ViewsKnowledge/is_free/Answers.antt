@@ -1,5 +1,4 @@
 use Rattle.std.proofs.Common.{refl, subst}
-use Rattle.tau_fate.specs.declared.freedom.Freedom.{Freedom}
 use Rattle.tau_trace.specs.Run.{len}
 use Rattle.tau_views.specs.DecisionLaws.{IsFreedomOf}
 use Rattle.tau_views.specs.Kept.{held_of, letters_of}

@@ -1,4 +1,3 @@
-use Rattle.std.proofs.Common.{◌≡◌}
 use Rattle.std.specs.Prelude.{Result, Ok, Err, IfOk}
 use Rattle.tau_fate.specs.Decisions.{IsVerdict}
 use Rattle.tau_past.specs.Decisions.{Verdict}

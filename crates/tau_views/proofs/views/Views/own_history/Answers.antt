@@ -1,5 +1,4 @@
-use Rattle.std.proofs.Common.{◌≡◌, Some, None, sym, ◌∙◌}
-use Rattle.std.specs.Option.{option_map}
+use Rattle.std.proofs.Common.{◌∙◌}
 use Rattle.tau_trace.proofs.Lists.{same_some}
 use Rattle.tau_views.proofs.Next.{own_history_is}
 use Rattle.tau_views.proofs.views.Views.own_history.Goals as goal
