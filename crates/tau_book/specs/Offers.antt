@@ -1,12 +1,12 @@
 -- What there is for a hand to choose from (docs/rules.md, "Choice of a worker").
-use Rattle.std.specs.Prelude.{◌+◌, ◌%◌, ◌==◌, ℕ, nat_lt, nat_le, not, if◌then◌else◌, List, [], ◌∷◌, ◌++◌, Option, Some, None, length, filter, fold}
+use Rattle.std.specs.Prelude.{◌≢◌, ◌⊎◌, ◌+◌, ◌%◌, ◌==◌, ℕ, nat_lt, nat_le, not, if◌then◌else◌, List, [], ◌∷◌, ◌++◌, Option, Some, None, length, filter, fold}
 use Rattle.std.specs.List.{list_any}
 use Rattle.std.specs.Option.{option_to_list}
 use Rattle.rand_pcg.specs.Lcg.{Lcg}
 use Rattle.rand_pcg.specs.Pcg.{pcg32}
 use Rattle.tau_eval.specs.Turn.{TurnSoFar}
 use Rattle.tau_scripted.specs.OpenTurns.{AreOpenTurns}
-use Rattle.tau_scripted.specs.Flight.{AreDeliverable}
+use Rattle.tau_scripted.specs.Flight.{IsDeliverable, AreDeliverable}
 use Rattle.tau_book.specs.Hands.{Held, is_of}
 use Rattle.tau_book.specs.Books.{Booked}
 
@@ -34,6 +34,10 @@ pub record Offer (b : Booked) (h : Held) : Type 0 where
   pub turns_are : AreOpenTurns b.system.run turns
   pub messages : List ℕ
   pub messages_are : AreDeliverable b.system.run messages
+
+-- there is something for a hand that has room: a deliverable message, or a returned job
+abbrev pub OffersMore : Booked → Type 0
+OffersMore b = ((m : ℕ) × IsDeliverable b.system.run m) ⊎ (b.store ≢ [])
 
 -- the returned job that the hand takes up
 abbrev pub taken_up : List ℕ → Held → List TurnSoFar → Option TurnSoFar

@@ -1,5 +1,5 @@
 //! The book.
-ghost use Rattle.std.specs.Prelude.{◌≡◌, ◌<◌, ◌≤◌, ◌↔◌, [], IsTrue, IsFalse, IfOk, IfErr, OnOk, OnErr, length};
+ghost use Rattle.std.specs.Prelude.{◌≡◌, ◌≢◌, ◌<◌, ◌≤◌, ◌↔◌, ℕ, [], IsTrue, IsFalse, IfOk, IfErr, OnOk, OnErr, length};
 ghost use Rattle.tau_value.specs.declared.limits.TheConstants.{STEP_LIMIT};
 ghost use Rattle.tau_tree.specs.Sound.{Sound};
 ghost use Rattle.tau_script.specs.Openings.{program_opening};
@@ -8,6 +8,8 @@ ghost use Rattle.tau_trace.specs.Known.{WellFormed};
 ghost use Rattle.tau_legal.specs.Traces.{Legal};
 ghost use Rattle.tau_rules.specs.Answers.{IsOpenJob, IsUnacted, acted_by};
 ghost use Rattle.tau_book.specs.Books.{IsBook, IsComplete, IsAtLimit, GoesOn};
+ghost use Rattle.tau_scripted.specs.Flight.{IsDeliverable};
+ghost use Rattle.tau_book.specs.Offers.{OffersMore};
 ghost use Rattle.tau_book.specs.Nexts.{IsNext, IsDueTried};
 ghost use Rattle.tau_book.specs.Tolds.{IsTold, IsTried, IsTurnStep, StaysAtRedo, IsGivenBack, IsFinished};
 ghost use Rattle.tau_book.specs.Places.{LeavesRoom, ComesBack};
@@ -163,6 +165,30 @@ impl<'p, K: Knowledge + Drop> Book<'p, K> {
         // That its messages are the deliverable ones.
         let _system = self.scripted.system();
         choose(&mut self.scripted, &mut self.store, hand)
+    }
+
+    /// Whether there is something for a hand that has room: a deliverable message, or a returned job, which may be one of a turn that
+    /// isn't open any more.
+    pub fn offers_more(&self) -> bool
+        ensures { IsTrue result ↔ OffersMore self.now }
+    {
+        self.has_deliverable() || self.has_returned()
+    }
+
+    /// Whether a message is deliverable.
+    fn has_deliverable(&self) -> bool
+        ensures { IsTrue result ↔ ((m : ℕ) × IsDeliverable self.now.system.run m) }
+    {
+        // That its messages are the deliverable ones.
+        let _system = self.scripted.system();
+        self.scripted.deliverable() > 0
+    }
+
+    /// Whether there is a returned job.
+    fn has_returned(&self) -> bool
+        ensures { IsTrue result ↔ (self.now.store ≢ []) }
+    {
+        !self.store.is_empty()
     }
 
     /// Takes the effect to which a job has come (docs/rules.md, "Choice of a worker"): the first that applies of `Stopped`, `Later`

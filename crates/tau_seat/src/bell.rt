@@ -48,7 +48,7 @@ impl Bell {
     }
 
     /// Wakes a seat that waits for a change, unless one was woken that hasn't asked again yet: that one asks after this change too, and
-    /// where it finds something to do, it wakes another.
+    /// where it is handed work and more is left, it wakes another.
     pub fn ring(&self, idlers: &mut Idlers) {
         if idlers.waiting > 0 && !idlers.is_waking {
             idlers.is_waking = true;

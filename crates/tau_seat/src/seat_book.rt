@@ -183,9 +183,10 @@ impl<'p, K: Knowledge + Drop> SeatBook<'p, K> {
     {
         let mut book = self.table.take(rt, &mut seat.pass);
         let answer = book.next(hand);
+        let offers_more = book.offers_more();
         let grew = has_stepped(&answer);
         self.table.put_back(&mut seat.pass, book, grew);
-        self.tell(idlers, &answer);
+        self.tell(idlers, &answer, offers_more);
         answer
     }
 
@@ -210,12 +211,11 @@ impl<'p, K: Knowledge + Drop> SeatBook<'p, K> {
         ensures pending_on_err { IfErr result (λ e. e.0 ≡ pending.entry) }
         ensures hand_on_err { OnErr result (hand.new ≡ hand.old) }
     {
-        let mut idlers = self.bell.enter(rt);
+        let _idlers = self.bell.enter(rt);
         let mut book = self.table.take(rt, &mut seat.pass);
         let answer = book.act(hand, pending);
         let grew = has_made(&answer);
         self.table.put_back(&mut seat.pass, book, grew);
-        self.bell.ring(&mut idlers);
         answer
     }
 
@@ -240,12 +240,18 @@ impl<'p, K: Knowledge + Drop> SeatBook<'p, K> {
         self.bell.ring(&mut idlers);
     }
 
-    /// Wakes seats that wait for a change of the book, as the answer asks for.
-    fn tell(&self, idlers: &mut Idlers, answer: &Result<Next<'p>, AllocError>) {
+    /// Wakes seats that wait for a change of the book, as the answer asks for; with Work only where the book offers more.
+    /// What `act` or a step of `next` has made to do is left to who made it: it asks at once again, and wakes another at Work or at an
+    /// end, or it gives its jobs back and wakes another then. So no seat sleeps while there is something for it to do.
+    fn tell(&self, idlers: &mut Idlers, answer: &Result<Next<'p>, AllocError>, offers_more: bool) {
         match answer {
             Ok(Next::Complete | Next::Stopped) => self.bell.ring_all(),
-            Ok(Next::Work(_) | Next::Stepped) => self.bell.ring(idlers),
-            Ok(Next::Idle { .. }) | Err(_) => {}
+            Ok(Next::Work(_)) => {
+                if offers_more {
+                    self.bell.ring(idlers);
+                }
+            }
+            Ok(Next::Stepped | Next::Idle { .. }) | Err(_) => {}
         }
     }
 

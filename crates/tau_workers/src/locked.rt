@@ -69,7 +69,9 @@ impl<'p, K: Knowledge + Drop> Desk<'p, K> {
         shared.into_inner().book
     }
 
-    /// `next` of the book. Where the book is `Idle`, the worker waits for a change of it and asks again.
+    /// `next` of the book. Where the book is `Idle`, the worker waits for a change of it and asks again. With Work it wakes another only
+    /// where the book offers more. What `act` or a step of `next` has made to do is left to who made it: it asks at once again, and wakes
+    /// another at Work or at an end, or it gives its jobs back and wakes another then. So no worker sleeps while there is something for it.
     fn next<R: Wait>(&self, rt: &R, hand: &mut Hand<'p>) -> Result<Next<'p>, AllocError>
         ensures never_idle { IfOk result IsNotIdle }
         ensures room { IfOk result (LeavesRoom hand.new) }
@@ -88,10 +90,13 @@ impl<'p, K: Knowledge + Drop> Desk<'p, K> {
                     self.changed.notify_all();
                     return Ok(Next::Stopped);
                 }
-                answer => {
-                    self.wake(&mut shared);
-                    return Ok(answer);
+                Next::Work(job) => {
+                    if shared.book.offers_more() {
+                        self.wake(&mut shared);
+                    }
+                    return Ok(Next::Work(job));
                 }
+                Next::Stepped => return Ok(Next::Stepped),
             }
         }
         unreachable!()
@@ -111,9 +116,7 @@ impl<'p, K: Knowledge + Drop> Desk<'p, K> {
         ensures size { hand.new.size ≡ hand.old.size }
     {
         let mut shared = self.shared.lock(rt);
-        let told = shared.book.act(hand, pending)?;
-        self.wake(&mut shared);
-        Ok(told)
+        shared.book.act(hand, pending)
     }
 
     /// `give_back` of the book.
@@ -141,7 +144,7 @@ impl<'p, K: Knowledge + Drop> Desk<'p, K> {
     }
 
     /// Wakes a worker that waits, unless one was woken that hasn't asked again yet: that one looks at the book after this change too,
-    /// and where it finds something to do, it wakes another.
+    /// and where it is handed work and more is left, it wakes another.
     fn wake(&self, shared: &mut Shared<'p, K>) {
         if shared.waiting > 0 && !shared.is_waking {
             shared.is_waking = true;
