@@ -14,7 +14,7 @@ ghost use Rattle.tau_text.specs.Inner.Written.{AddsForms, AddsSteps, AddsReport}
 use std::alloc::{AllocError, Global};
 use tau_forms::forms_of;
 use tau_report::report_forms;
-use tau_sexpr::{Form, Forms, Word, print_forms};
+use tau_sexpr::{Form, Forms, Word, put_form_line, put_forms};
 use tau_steps::form_of_step;
 use tau_trace::Trace;
 use tau_tree::Program;
@@ -45,7 +45,7 @@ fn add_program(alloc: Global, text: &mut Vec<u8>, program: &Program) -> Result<(
     ensures read_back { OnOk result (Means (program_forms.printed program.now) program.now) }
 {
     let forms = forms_of(alloc, program)?;
-    add_forms(alloc, text, &forms)
+    add_forms(text, &forms)
 }
 
 /// Adds the text of a mark: a list of one word.
@@ -56,7 +56,7 @@ fn add_mark(alloc: Global, text: &mut Vec<u8>, word: &[u8]) -> Result<(), AllocE
 {
     let mut items = Forms::new(alloc);
     items.add(Form::Word(Word::of(alloc, word)?))?;
-    add_form(alloc, text, Form::List(items))
+    add_form(text, &Form::List(items))
 }
 
 /// Adds the texts of the steps of a trace, in order.
@@ -64,7 +64,8 @@ fn add_steps(alloc: Global, text: &mut Vec<u8>, trace: &Trace) -> Result<(), All
     ensures { OnOk result (AddsSteps trace.now.run (len trace.now.run) text.old.items text.new.items) }
 {
     for place in 0..trace.len() {
-        add_form(alloc, text, form_of_step(alloc, trace, place)?)?;
+        let form = form_of_step(alloc, trace, place)?;
+        add_form(text, &form)?;
     }
     Ok(())
 }
@@ -81,26 +82,25 @@ fn add_report(
     ensures { OnOk result (AddsReport program.now trace.now.run text.old.items text.new.items) }
 {
     let forms = report_forms(alloc, program, trace)?;
-    add_forms(alloc, text, &forms)
+    add_forms(text, &forms)
 }
 
 /// Adds the text of a form.
-fn add_form(alloc: Global, text: &mut Vec<u8>, form: Form) -> Result<(), AllocError>
-    requires depth { depth_of (tree_of form) ≤ 200 }
-    requires words { HasWords (tree_of form) }
-    ensures { OnOk result (AddsForms (tree_of form ∷ []) text.old.items text.new.items) }
+fn add_form(text: &mut Vec<u8>, form: &Form) -> Result<(), AllocError>
+    requires depth { depth_of (tree_of form.now) ≤ 200 }
+    requires words { HasWords (tree_of form.now) }
+    ensures { OnOk result (AddsForms (tree_of form.now ∷ []) text.old.items text.new.items) }
 {
-    let mut forms = Forms::new(alloc);
-    forms.add(form)?;
-    add_forms(alloc, text, &forms)
+    put_form_line(text, form)?;
+    Ok(())
 }
 
 /// Adds the text of forms.
-fn add_forms(alloc: Global, text: &mut Vec<u8>, forms: &Forms) -> Result<(), AllocError>
+fn add_forms(text: &mut Vec<u8>, forms: &Forms) -> Result<(), AllocError>
     requires depth { depths forms.now ≤ 200 }
     requires words { All HasWords forms.now }
     ensures { OnOk result (AddsForms forms.now text.old.items text.new.items) }
 {
-    let more = print_forms(alloc, forms)?;
-    text.extend_from_slice(&more)
+    put_forms(text, forms)?;
+    Ok(())
 }
