@@ -15,6 +15,9 @@ use tau_sexpr::{Form, Forms, Word};
 use tau_trace::{Opening, Step, Trace};
 use tau_value::{Names, Value, form_of, word_of_count};
 
+/// How many items the form of a step has at most, its word with them.
+const MOST_ITEMS: usize = 6;
+
 /// The form of the step at a place (docs/formats.md, "Steps"), in time for the step's own size. Its value, if it has
 /// one, is read back from its form. Its lists stand at most 65 deep, and none of its words is empty. The error is want
 /// of memory.
@@ -39,7 +42,7 @@ fn write_step(alloc: Global, opening: &Opening, made: u32, step: &Step) -> Resul
     ensures form { IfOk result (λ f. tree_of f ≡ step_form opening.now made step.now) }
     ensures value { OnOk result (ValueIsWritten opening.now step.now) }
 {
-    let mut forms = Forms::new(alloc);
+    let mut forms = Forms::with_capacity(alloc, MOST_ITEMS)?;
     forms.add(Form::Word(Word::of(alloc, kind_of(step))?))?;
     add_items(alloc, &mut forms, opening, made, step)?;
     Ok(Form::List(forms))
