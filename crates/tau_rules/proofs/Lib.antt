@@ -12,3 +12,4 @@ pub mod ActLemmasOfJobs
 pub mod ActLemmasOfSteps
 pub mod ActLemmasOfAnswers
 pub mod Fronts
+pub mod KnownJobs

@@ -16,5 +16,5 @@ mod viewing;
 
 pub use answers::{Acted, Delivered, Standing};
 pub use errors::{ActError, DeliverError, FailError, LoseError, RepeatError};
-pub use laws::fitting_views_are_settled;
+pub use laws::{fitting_views_are_settled, known_jobs_are_open};
 pub use system::System;
