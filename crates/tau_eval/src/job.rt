@@ -223,6 +223,13 @@ impl<'p> Pending<'p> {
         }
     }
 
+    /// How many replies the turn has had.
+    pub fn replies_len(&self) -> usize
+        ensures { result ≡ length self.now.replies }
+    {
+        self.course.replies.len()
+    }
+
     /// Whether the turn has this body, number of nodes and message, and these replies.
     pub fn agrees(&self, body: &Expr, nodes: u32, message: &Value, replies: &Values) -> bool
         ensures { IsTrue result ↔ ((self.now.body ≡ code_of body.now) × (self.now.nodes ≡ nodes) × (self.now.message ≡ val_of message.now) × (self.now.replies ≡ replies.now)) }

@@ -1,5 +1,5 @@
 -- A job that was the record of a turn is it still, where the turn is open and has so many replies.
-use Rattle.std.proofs.Common.{◌≡◌, ◌⊎◌, ⊎_elim, ℕ, zero, suc, ◌<◌, ◌≤◌, Some, List, [], ◌∷◌, ◌++◌, length, take, refl, sym, ap, ◌∙◌, subst, arith, length-append}
+use Rattle.std.proofs.Common.{◌≡◌, ◌↔◌, ◌⊎◌, ⊎_elim, ℕ, zero, suc, ◌<◌, ◌≤◌, Some, List, [], ◌∷◌, ◌++◌, length, take, refl, sym, ap, ◌∙◌, subst, arith, length-append}
 use Rattle.std.proofs.Math.Seq.{take-length}
 use Rattle.tau_value.specs.declared.shared.Value.{Value}
 use Rattle.tau_value.specs.Val.{Val}
@@ -9,7 +9,7 @@ use Rattle.tau_trace.specs.declared.step.Step.TheVariants.{Take}
 use Rattle.tau_trace.specs.Run.{Run, Agree, len, step_at}
 use Rattle.tau_trace.specs.Numbering.{born, sent}
 use Rattle.tau_trace.specs.Known.{WellFormed}
-use Rattle.tau_trace.specs.Turns.{Turn}
+use Rattle.tau_trace.specs.Turns.{Turn, IsOpenTurn}
 use Rattle.tau_trace.proofs.Lists.{same_some}
 use Rattle.tau_trace.proofs.Agreement.{agree_sym, born-grows, sent-grows}
 use Rattle.tau_trace.proofs.Prefix.{prefix, agree_prefix, len-prefix}
@@ -20,6 +20,8 @@ use Rattle.tau_legal.specs.Turns.{RepliesOf, before, another, reply}
 use Rattle.tau_legal.proofs.LocalLemmas.{body-same, value-same, replies_of-same}
 use Rattle.tau_legal.proofs.StateLemmas.{well_formed_prefix}
 use Rattle.tau_rules.specs.Answers.{IsOpenJob}
+use Rattle.tau_rules.specs.declared.records.Record.{Record}
+use Rattle.tau_rules.specs.Records.{IsRecord}
 use Rattle.tau_rules.specs.KnownJobs.{front_of, WasOpenJob, IsAt}
 
 -- the replies qs still stand at place n, where those there are no more
@@ -119,6 +121,27 @@ module _ (P : Program) (T : Run) (job : jobs.TurnSoFar) (w : WellFormed T) (was 
     value = value-same P h.message k job.message agree was_sent h.value;
     replies = (stand T (opening_states P.starts) job.who (suc job.place) k (len T) job.replies at.replies was.within so_far at.replies_are).same at.as_many;
   }
+
+-- a job that is the record of a turn has as many replies as the turn
+pub open_at : (P : Program) (T : Run) (job : jobs.TurnSoFar) → IsOpenJob P T job → IsAt P T job
+open_at P T job is = record { message = is.message; turn = is.turn; replies = job.replies; replies_are = is.replies; as_many = refl }
+
+-- where the turn is open, its record tells how many replies it has
+module _ (P : Program) (T : Run) (job : jobs.TurnSoFar) (t place : ℕ) (r : Record) (who : t ≡ job.who) (at : place ≡ job.place) (own : IsRecord P T t r) (opened : IsOpenTurn T t (len T) (Some place)) where
+  abbrev opening : List Value
+  opening = opening_states P.starts
+
+  turn_is : Turn T job.who (len T) job.place opened.0
+  turn_is = subst (λ w. Turn T w (len T) job.place opened.0) who (subst (λ p. Turn T t (len T) p opened.0) at opened.1)
+
+  replies_are : RepliesOf T opening job.who (suc job.place) (len T) r.replies
+  replies_are = subst (λ w. RepliesOf T opening w (suc job.place) (len T) r.replies) who (subst (λ p. RepliesOf T opening t (suc p) (len T) r.replies) at (own.turn place opened.0 opened.1).replies)
+
+  pub counted : (length r.replies ≡ length job.replies) ↔ IsAt P T job
+  counted = (
+    λ e. record { message = opened.0; turn = turn_is; replies = r.replies; replies_are = replies_are; as_many = e },
+    λ a. as_many T opening job.who (suc job.place) (len T) r.replies a.replies replies_are a.replies_are ∙ a.as_many,
+  )
 
 take_front : {A : Type 0} (k : ℕ) (xs ys : List A) → k ≤ length xs → take k (xs ++ ys) ≡ take k xs
 take_front zero xs ys l = refl

@@ -7,6 +7,7 @@ mod appending;
 mod delivering;
 mod errors;
 mod failing;
+mod knowing;
 mod laws;
 mod reading;
 mod records;
