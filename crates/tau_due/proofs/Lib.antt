@@ -1,0 +1,3 @@
+pub mod DueLemmas
+pub mod Steps
+pub mod Ends
