@@ -1,5 +1,5 @@
 -- The checker comes to each place of a trace, and tells of the whole trace.
-use Rattle.std.proofs.Common.{◌≡◌, ◌⊎◌, ◌↔◌, inr, ⊎_elim, ℕ, suc, ◌+◌, ◌<◌, Bool, IsTrue, Option, Some, List, [], ◌∷◌, length, refl, sym, ap, ◌∙◌, subst, arith}
+use Rattle.std.proofs.Common.{◌≡◌, ◌⊎◌, ◌↔◌, ⊎_elim, ℕ, suc, ◌+◌, ◌<◌, Bool, IsTrue, Option, Some, List, [], ◌∷◌, length, refl, sym, ap, ◌∙◌, subst, arith}
 use Rattle.std.specs.Prelude.{slice_get}
 use Rattle.std.proofs.lemmas.Option.{slice_get_within}
 use Rattle.tau_tree.specs.declared.programs.Program.{Program}
@@ -10,8 +10,6 @@ use Rattle.tau_trace.specs.Known.{IsSound, IsKnown, IsKnownAt, IsInVersion, MayF
 use Rattle.tau_trace.proofs.Lists.{same_some, slice_get-front}
 use Rattle.tau_trace.proofs.Agreement.{agree_sym, agree_below, born-same, sent-same}
 use Rattle.tau_trace.proofs.Indexing.{known_same, len-appended}
-use Rattle.tau_script.specs.declared.cursor.Cursor.{Cursor}
-use Rattle.tau_script.specs.Cursors.{first_cursor}
 use Rattle.tau_script.specs.Openings.{program_opening}
 use Rattle.tau_legal.specs.Traces.{IsLegal, Legal, Complete}
 use Rattle.tau_legal.proofs.TraceLemmas.{legal_same}
@@ -39,26 +37,25 @@ abbrev pub no_steps : Program → Run
 no_steps P = record { opening = program_opening P; steps = [] }
 
 -- before the first step
-pub come_to_first : (P : Program) (T : Run) (core : Core) (c : Cursor) (js : List (Option jobs.TurnSoFar)) → WellFormed T → T.opening ≡ program_opening P → core.program ≡ P → core.run ≡ no_steps P → c ≡ first_cursor
-    → HasCome P T 0 core c js
-come_to_first P T core c js v opens program run cursor = record {
+pub come_to_first : (P : Program) (T : Run) (core : Core) (js : List (Option jobs.TurnSoFar)) → WellFormed T → T.opening ≡ program_opening P → core.program ≡ P → core.run ≡ no_steps P
+    → HasCome P T 0 core js
+come_to_first P T core js v opens program run = record {
   program = program;
   length = ap len run;
   agree = record { opening = opens ∙ sym (ap (λ (x : Run). x.opening) run); steps = λ j l. absurd (omega arith) };
-  checker = subst (λ (p : Program). IsChecker p core.run c js) (sym program) (subst (λ (x : Run). IsChecker P x c js) (sym run) first);
+  checker = subst (λ (p : Program). IsChecker p core.run js) (sym program) (subst (λ (x : Run). IsChecker P x js) (sym run) first);
 } where
   nothing_at : (k : ℕ) (s : Step) → ¬ (step_at (no_steps P) k ≡ Some s)
   nothing_at k s e = omega (arith, slice_get_within (no_steps P).steps k s e)
 
-  first : IsChecker P (no_steps P) c js
+  first : IsChecker P (no_steps P) js
   first = record {
     well_formed = record { opening = subst IsSound opens v.opening; known = λ k s e. absurd (nothing_at k s e); versions = λ k s e. absurd (nothing_at k s e); few_steps = omega arith };
     legal = record { opening = refl; steps = λ k s e. absurd (nothing_at k s e) };
-    current = inr cursor;
     has_jobs = λ t place m u. absurd (omega (arith, u.before));
   }
 
-module _ (P : Program) (T : Run) (k : ℕ) (core : Core) (c : Cursor) (js : List (Option jobs.TurnSoFar)) (v : WellFormed T) (h : HasCome P T k core c js) where
+module _ (P : Program) (T : Run) (k : ℕ) (core : Core) (js : List (Option jobs.TurnSoFar)) (v : WellFormed T) (h : HasCome P T k core js) where
   -- the next step may follow
   pub next_follows : (s : Step) → step_at T k ≡ Some s → MayFollow core.run s
   next_follows s e =
@@ -89,8 +86,8 @@ module _ (P : Program) (T : Run) (k : ℕ) (core : Core) (c : Cursor) (js : List
   first_illegal s e refused = record { step = s; stands = e; illegal = next_illegal s e refused; earlier = earlier_legal }
 
   -- the checker comes to the place after a legal step
-  pub come_after : (new : Core) (d : Cursor) (ks : List (Option jobs.TurnSoFar)) (s : Step) → step_at T k ≡ Some s → GoesOn core new d ks s → HasCome P T (k + 1) new d ks
-  come_after new d ks s e g = record {
+  pub come_after : (new : Core) (ks : List (Option jobs.TurnSoFar)) (s : Step) → step_at T k ≡ Some s → GoesOn core new ks s → HasCome P T (k + 1) new ks
+  come_after new ks s e g = record {
     program = ap (λ (x : Core). x.program) g.appended ∙ h.program;
     length = ap (λ (x : Core). len x.run) g.appended ∙ omega (arith, len-appended core.run s, h.length);
     agree = record {
@@ -105,7 +102,7 @@ module _ (P : Program) (T : Run) (k : ℕ) (core : Core) (c : Cursor) (js : List
     last : (j : ℕ) → j ≡ k → step_at T j ≡ step_at new.run j
     last j same = ap (step_at T) same ∙ e ∙ sym (last_step core new s g.appended) ∙ ap (step_at new.run) (h.length ∙ sym same)
 
-module _ (P : Program) (T : Run) (k : ℕ) (core : Core) (c : Cursor) (js : List (Option jobs.TurnSoFar)) (h : HasCome P T k core c js) where
+module _ (P : Program) (T : Run) (k : ℕ) (core : Core) (js : List (Option jobs.TurnSoFar)) (h : HasCome P T k core js) where
   -- at the end the run is the trace
   pub whole : k ≡ len T → core.run ≡ T
   whole ends =

@@ -1,39 +1,22 @@
 -- An open turn has one job; it stays the job where others make a step.
-use Rattle.std.proofs.Common.{◌≡◌, ◌≢◌, ℕ, suc, ◌<◌, List, Some, sym, ap, ◌∙◌, subst, arith}
+use Rattle.std.proofs.Common.{◌≢◌, ℕ, suc, ◌<◌, List, Some, sym, ap, ◌∙◌, subst, arith}
 use Rattle.std.specs.Prelude.{option_and_then}
 use Rattle.tau_value.specs.declared.shared.Value.{Value}
 use Rattle.tau_tree.specs.declared.programs.Program.{Program}
 use Rattle.tau_trace.specs.declared.step.Step.{Step}
 use Rattle.tau_trace.specs.declared.step.Step.TheVariants.{Take}
 use Rattle.tau_trace.specs.Steps.{actor}
-use Rattle.tau_trace.specs.Run.{Run, step_at, len, appended, ActsAt}
+use Rattle.tau_trace.specs.Run.{Run, len, appended, ActsAt}
 use Rattle.tau_trace.specs.Numbering.{born, sent}
 use Rattle.tau_trace.specs.Known.{WellFormed}
-use Rattle.tau_trace.proofs.Lists.{same_some}
 use Rattle.tau_trace.proofs.Agreement.{agree_appended, step_at-appended, born-grows, sent-grows}
 use Rattle.tau_trace.proofs.Indexing.{len-appended}
-use Rattle.tau_script.specs.Openings.{program_opening}
 use Rattle.tau_states.specs.Opening.{opening_states}
 use Rattle.tau_eval.specs.Turn as jobs
-use Rattle.tau_legal.specs.Turns.{HasBody, HasValue, RepliesOf, another}
+use Rattle.tau_legal.specs.Turns.{RepliesOf, another}
 use Rattle.tau_legal.proofs.LocalLemmas.{body-same, value-same, replies_of-same}
 use Rattle.tau_rules.specs.Answers.{IsOpenJob}
 use Rattle.tau_check.proofs.Turns.{stays_open}
-use Rattle.tau_check.proofs.Once.{body_once, value_once, replies_once, same_taker, same_taken}
-
--- of two open jobs at one place, both are the same
-pub job_once : (P : Program) (T : Run) → T.opening ≡ program_opening P → (a b : jobs.TurnSoFar) → a.place ≡ b.place → IsOpenJob P T a → IsOpenJob P T b → a ≡ b
-job_once P T opens a b at f g =
-    let takes : Take a.who f.message ≡ Take b.who g.message = same_some (sym f.turn.takes ∙ ap (step_at T) at ∙ g.turn.takes) in
-    let who : a.who ≡ b.who = same_taker a.who b.who f.message g.message takes in
-    let taken : f.message ≡ g.message = same_taken a.who b.who f.message g.message takes in
-    let body : a.body ≡ b.body = body_once P T opens b.who a.body b.body (subst (λ t. HasBody P T t a.body) who f.body) g.body in
-    let value : a.message ≡ b.message = value_once P T opens g.message a.message b.message (subst (λ m. HasValue P T m a.message) taken f.value) g.value in
-    let nodes : a.nodes ≡ b.nodes = f.nodes ∙ sym g.nodes in
-    let opening : List Value = opening_states P.starts in
-    let read : RepliesOf T opening b.who (suc b.place) (len T) a.replies = subst (λ t. RepliesOf T opening t (suc b.place) (len T) a.replies) who (subst (λ k. RepliesOf T opening a.who (suc k) (len T) a.replies) at f.replies) in
-    let replies : a.replies ≡ b.replies = replies_once T opening b.who (suc b.place) (len T) a.replies b.replies read g.replies in
-    λ i. record { body = body i; nodes = nodes i; who = who i; place = at i; message = value i; replies = replies i }
 
 module _ (P : Program) (T : Run) (s : Step) (v : WellFormed T) (w : WellFormed (appended T s)) where
   not_acts : (t : ℕ) → actor s ≢ Some t → ¬ ActsAt (appended T s) t (len T)

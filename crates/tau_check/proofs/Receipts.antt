@@ -5,16 +5,14 @@ use Rattle.tau_trace.specs.declared.step.Step.{Step}
 use Rattle.tau_trace.specs.declared.step.Step.TheVariants.{Take, Drop, Fall, Void, Echo, Heed}
 use Rattle.tau_trace.specs.Steps.{actor, received_by}
 use Rattle.tau_trace.specs.Run.{Run, len, appended, step_at}
-use Rattle.tau_trace.specs.Known.{WellFormed, MayFollow}
+use Rattle.tau_trace.specs.Known.{WellFormed}
 use Rattle.tau_trace.specs.Numbering.{Receives, Removes, InFlight}
 use Rattle.tau_trace.specs.Places.{IsFirst}
 use Rattle.tau_trace.specs.Turns.{Turn, IsOpenTurn}
 use Rattle.tau_trace.proofs.Lists.{same_some}
 use Rattle.tau_trace.proofs.Once.{receives_once}
-use Rattle.tau_trace.proofs.Indexing.{well_formed_appended}
-use Rattle.tau_script.specs.declared.cursor.Cursor.{Cursor}
 use Rattle.tau_legal.specs.Fits.{Fits}
-use Rattle.tau_legal.specs.Traces.{Fitting, IsLegal}
+use Rattle.tau_legal.specs.Traces.{Fitting, Legal, IsLegal}
 use Rattle.tau_eval.specs.Turn as jobs
 use Rattle.tau_rules.specs.System.{Core, with_step}
 use Rattle.tau_rules.specs.declared.answers.Delivered.{Delivered}
@@ -26,7 +24,8 @@ use Rattle.tau_check.specs.Inner.Checkers.{HasAsked, GoesOn}
 use Rattle.tau_check.proofs.Turns.{BeginsNone}
 use Rattle.tau_check.proofs.Kept.{all_jobs, others_after, jobs_after_idle}
 use Rattle.tau_check.proofs.FamilyLemmas.{one_receipt}
-use Rattle.tau_check.proofs.Endings.{legal_fits, receipt_no_failure, fitting_legal, goes_on, last_step, last_fits}
+use Rattle.tau_due.proofs.Steps.{received}
+use Rattle.tau_check.proofs.Endings.{legal_fits, goes_on, last_step, last_fits}
 
 -- the step is by the receiver of message m, which is in flight, and no turn of it is open
 pub record IsByIdle (T : Run) (k m : ℕ) (s : Step) : Type 0 where
@@ -46,7 +45,7 @@ by_idle P T k m (Echo t n) fitting e f = record { who = t; by = refl; receiver =
 by_idle P T k m (Heed t n) fitting e f = record { who = t; by = refl; receiver = subst (λ x. Receives T x t) (same_some e) f.0.receiver; in_flight = subst (λ x. InFlight T x k) (same_some e) f.0.in_flight; idle = f.0.idle }
 by_idle P T k m s fitting e f = absurd (cc)
 
-module _ (P : Program) (T : Run) (c : Cursor) (m : ℕ) (s : Step) (asked : HasAsked P T c None) (receipt : received_by s ≡ Some m) where
+module _ (P : Program) (T : Run) (m : ℕ) (s : Step) (asked : HasAsked P T None) (receipt : received_by s ≡ Some m) where
   idle_receiver : IsLegal P T (len T) s → IsByIdle T (len T) m s
   idle_receiver l = by_idle P T (len T) m s (legal_fits P T asked.legal) receipt l.fits
 
@@ -61,31 +60,17 @@ module _ (P : Program) (T : Run) (c : Cursor) (m : ℕ) (s : Step) (asked : HasA
       let same : t ≡ r.who = receives_once T m t r.who receives r.receiver in
       r.idle turn open_turn.0 (subst (λ x. Turn T x (len T) turn open_turn.0) same open_turn.1)
 
--- a receipt of the message was appended
-pub record IsReceived (old new : Core) (m : ℕ) : Type 0 where
-  pub step : Step
-  pub receipt : received_by step ≡ Some m
-  pub appended : new ≡ with_step old step
-
-pub received : (old new : Core) (m : ℕ) (d : Delivered) → IsDelivered old new m d → IsReceived old new m
-received old new m (Began job) h = record { step = Take job.who m; receipt = refl; appended = h.appended }
-received old new m Dropped h = record { step = Drop h.0 m; receipt = refl; appended = h.1 }
-received old new m Fell h = record { step = Fall h.0 m; receipt = refl; appended = h.1 }
-received old new m Voided h = record { step = Void h.0 m; receipt = refl; appended = h.1 }
-received old new m Echoed h = record { step = Echo h.0 m; receipt = refl; appended = h.1 }
-received old new m Heeded h = record { step = Heed h.0 m; receipt = refl; appended = h.1 }
-
 -- what was appended is one step
 same_appended : (old new : Core) (r s : Step) → new ≡ with_step old r → new ≡ with_step old s → r ≡ s
 same_appended old new r s e f = same_some (sym (last_step old new r e) ∙ last_step old new s f)
 
-module _ (old new : Core) (c : Cursor) (m : ℕ) (s : Step) (d : Delivered) (asked : HasAsked old.program old.run c None)
+module _ (old new : Core) (m : ℕ) (s : Step) (d : Delivered) (asked : HasAsked old.program old.run None)
     (receipt : received_by s ≡ Some m) (delivered : IsDelivered old new m d) where
   -- where another step than the one that was appended stands there, it isn't legal
-  pub receipt_illegal : WellFormed new.run → Fitting new.program new.run → ¬ (step_at new.run (len old.run) ≡ Some s) → ¬ IsLegal old.program old.run (len old.run) s
+  pub receipt_illegal : WellFormed new.run → Legal new.program new.run → ¬ (step_at new.run (len old.run) ≡ Some s) → ¬ IsLegal old.program old.run (len old.run) s
   receipt_illegal w f other l =
       let r = received old new m d delivered in
-      let fits : Fits old.program old.run (len old.run) r.step = last_fits old new r.step asked.well_formed w f r.appended in
+      let fits : Fits old.program old.run (len old.run) r.step = last_fits old new r.step asked.well_formed w (legal_fits new.program new.run f) r.appended in
       let same : r.step ≡ s = one_receipt old.program old.run (len old.run) m r.step s r.receipt receipt fits l.fits in
       other (last_step old new r.step r.appended ∙ ap Some same)
 
@@ -117,13 +102,13 @@ module _ (old new : Core) (m : ℕ) (s : Step) (js ks : List (Option jobs.TurnSo
   jobs_received Heeded h kept = jobs_kept (Heed h.0 m) (λ t k e. cc) (same_appended old new s (Heed h.0 m) is h.1) kept
 
 -- the receipt that was appended is legal, and the checker goes on
-pub receipt_goes_on : (old new : Core) (c : Cursor) (m : ℕ) (s : Step) (d : Delivered) (js ks : List (Option jobs.TurnSoFar)) → HasAsked old.program old.run c None → MayFollow old.run s
-    → received_by s ≡ Some m → HasJobs old.program old.run js → IsDelivered old new m d → WellFormed new.run → Fitting new.program new.run → step_at new.run (len old.run) ≡ Some s → IsKeptBegun js ks d
-    → GoesOn old new c ks s
-receipt_goes_on old new c m s d js ks asked may receipt has delivered whole f here kept =
-    let is : new ≡ with_step old s = is_appended old new c m s d asked receipt delivered here in
-    let w : WellFormed (appended old.run s) = well_formed_appended old.run s asked.well_formed may in
-    let fits : Fits old.program old.run (len old.run) s = last_fits old new s asked.well_formed whole f is in
+pub receipt_goes_on : (old new : Core) (m : ℕ) (s : Step) (d : Delivered) (js ks : List (Option jobs.TurnSoFar)) → HasAsked old.program old.run None
+    → received_by s ≡ Some m → HasJobs old.program old.run js → IsDelivered old new m d → WellFormed new.run → Legal new.program new.run → step_at new.run (len old.run) ≡ Some s → IsKeptBegun js ks d
+    → GoesOn old new ks s
+receipt_goes_on old new m s d js ks asked receipt has delivered whole f here kept =
+    let is : new ≡ with_step old s = is_appended old new m s d asked receipt delivered here in
+    let w : WellFormed (appended old.run s) = subst (λ (k : Core). WellFormed k.run) is whole in
+    let fits : Fits old.program old.run (len old.run) s = last_fits old new s asked.well_formed whole (legal_fits new.program new.run f) is in
     let idle : IsByIdle old.run (len old.run) m s = by_idle old.program old.run (len old.run) m s (legal_fits old.program old.run asked.legal) receipt fits in
-    goes_on old new c c None s ks asked may (fitting_legal old.program old.run c s asked (receipt_no_failure s m receipt) fits) is refl
+    goes_on old new s ks asked.well_formed whole f is
     (jobs_received old new m s js ks asked.well_formed w is idle has d delivered kept)

@@ -8,24 +8,20 @@ use Rattle.tau_trace.specs.declared.step.Step.{Step}
 use Rattle.tau_trace.specs.declared.step.Step.TheVariants.{Get, Set, Skip, Send, New, Stabilize, Ask, Checkpoint, Hold, Rollback, Stay, Done, Trap}
 use Rattle.tau_trace.specs.Steps.{actor, ends_turn}
 use Rattle.tau_trace.specs.Run.{Run, len, appended, step_at}
-use Rattle.tau_trace.specs.Known.{WellFormed, MayFollow}
+use Rattle.tau_trace.specs.Known.{WellFormed}
 use Rattle.tau_trace.specs.Turns.{IsOpenTurn}
 use Rattle.tau_trace.proofs.Lists.{same_some}
-use Rattle.tau_trace.proofs.Indexing.{well_formed_appended}
-use Rattle.tau_script.specs.Openings.{program_opening}
-use Rattle.tau_script.specs.declared.cursor.Cursor.{Cursor}
-use Rattle.tau_legal.specs.Fits.{Fits, is_of_turn}
-use Rattle.tau_legal.specs.Traces.{Fitting, IsLegal}
+use Rattle.tau_legal.specs.Fits.{is_of_turn}
+use Rattle.tau_legal.specs.Traces.{Legal, IsLegal}
 use Rattle.tau_eval.specs.Turn as jobs
 use Rattle.tau_rules.specs.System.{Core, with_step}
-use Rattle.tau_rules.specs.Answers.{IsOpenJob, IsStepped, IsRedone, NoTurnFrom, IsActed, acted_by}
+use Rattle.tau_rules.specs.Answers.{IsOpenJob, IsStepped, IsActed, acted_by}
 use Rattle.tau_check.specs.Families.{turn_of}
-use Rattle.tau_check.specs.Inner.Jobs.{HasJobOf, HasJobs, HasOtherJobs, KeepsOthers, IsTurnStep, IsKeptAfter}
+use Rattle.tau_check.specs.Inner.Jobs.{HasJobOf, HasJobs, HasOtherJobs, KeepsOthers, IsKeptAfter}
 use Rattle.tau_check.specs.Inner.Checkers.{HasAsked, GoesOn}
 use Rattle.tau_check.proofs.Kept.{all_jobs, others_after, jobs_after_end}
-use Rattle.tau_check.proofs.JobLemmas.{job_once}
 use Rattle.tau_check.proofs.FamilyLemmas.{of_effect, one_turn_step}
-use Rattle.tau_check.proofs.Endings.{turn_no_failure, fitting_legal, goes_on, last_step}
+use Rattle.tau_check.proofs.Endings.{goes_on, last_step}
 
 -- the transactor of a step of a turn makes it
 pub acts_in_turn : (s : Step) (t : ℕ) → actor s ≡ Some t → IsTrue (is_of_turn s) → turn_of s ≡ Some t
@@ -50,29 +46,16 @@ idle_illegal P T s who idle by l =
     let h = of_effect P T who (len T) s by l.fits in
     idle h.has.place h.has.message h.has.turn
 
--- the job of an open turn is its record
-pub not_redone : (old new : Core) (job other : jobs.TurnSoFar) → old.run.opening ≡ program_opening old.program → IsOpenJob old.program old.run job → ¬ IsRedone old new job other
-not_redone old new job other opens is_open r = r.differs (job_once old.program old.run opens other job r.place r.is_open is_open)
-
--- and its turn is open
-pub not_stale : (P : Program) (T : Run) (job : jobs.TurnSoFar) → IsOpenJob P T job → ¬ NoTurnFrom T job.place
-not_stale P T job is_open none = none job.who is_open.message is_open.turn
-
--- what came of the effect of its record's job, is a step of its turn
-pub turn_step : (old new : Core) (job : jobs.TurnSoFar) (reply : Option Value) → IsActed old new job (acted_by reply) → IsTurnStep old new job reply
-turn_step old new job None h = (h.0, h.1, h.2)
-turn_step old new job (Some x) h = (h.0, h.1, h.4)
-
 -- the step that was made
-abbrev pub made : (old new : Core) (job : jobs.TurnSoFar) (reply : Option Value) → IsTurnStep old new job reply → (s : Step) × IsStepped old new job s
+abbrev pub made : (old new : Core) (job : jobs.TurnSoFar) (reply : Option Value) → IsActed old new job (acted_by reply) → (s : Step) × IsStepped old new job s
 made old new job None h = (h.0, h.1)
 made old new job (Some x) h = (h.0, h.1)
 
-module _ (old new : Core) (c : Cursor) (job : jobs.TurnSoFar) (s : Step) (reply : Option Value) (asked : HasAsked old.program old.run c None)
-    (by : turn_of s ≡ Some job.who) (h : IsTurnStep old new job reply) where
+module _ (old new : Core) (job : jobs.TurnSoFar) (s : Step) (reply : Option Value) (asked : HasAsked old.program old.run None)
+    (by : turn_of s ≡ Some job.who) (h : IsActed old new job (acted_by reply)) where
   -- where another step than the one that was made stands there, it isn't legal
-  pub turn_illegal : WellFormed new.run → Fitting new.program new.run → ¬ (step_at new.run (len old.run) ≡ Some s) → ¬ IsLegal old.program old.run (len old.run) s
-  turn_illegal w f other l =
+  pub turn_illegal : ¬ (step_at new.run (len old.run) ≡ Some s) → ¬ IsLegal old.program old.run (len old.run) s
+  turn_illegal other l =
       let r = (made old new job reply h).0 in
       let stepped = (made old new job reply h).1 in
       let own : turn_of r ≡ Some job.who = acts_in_turn r job.who stepped.step.by stepped.step.of_turn in
@@ -88,10 +71,10 @@ module _ (old new : Core) (c : Cursor) (job : jobs.TurnSoFar) (s : Step) (reply 
 module _ (old new : Core) (job : jobs.TurnSoFar) (s : Step) (js ks : List (Option jobs.TurnSoFar)) (v : WellFormed old.run) (w : WellFormed (appended old.run s)) (is : new ≡ with_step old s)
     (by : actor s ≡ Some job.who) (others : HasOtherJobs old.program old.run job.who js) where
   -- the jobs after the step
-  pub jobs_made : (reply : Option Value) (h : IsTurnStep old new job reply) → (made old new job reply h).0 ≡ s → IsKeptAfter js ks job reply → HasJobs old.program (appended old.run s) ks
+  pub jobs_made : (reply : Option Value) (h : IsActed old new job (acted_by reply)) → (made old new job reply h).0 ≡ s → IsKeptAfter js ks job reply → HasJobs old.program (appended old.run s) ks
   jobs_made (Some x) h same kept =
       let next : jobs.TurnSoFar = jobs.with_reply job (val_of x) in
-      let open_after : IsOpenJob old.program (appended old.run s) next = subst (λ (k : Core). IsOpenJob k.program k.run next) is h.2 in
+      let open_after : IsOpenJob old.program (appended old.run s) next = subst (λ (k : Core). IsOpenJob k.program k.run next) is h.4 in
       all_jobs old.program (appended old.run s) job.who ks
       (others_after old.program old.run s v w job.who js ks by others kept.others)
       (λ place n u. record { job = next; kept = kept.kept; who = refl; is_open = open_after })
@@ -100,16 +83,15 @@ module _ (old new : Core) (job : jobs.TurnSoFar) (s : Step) (js ks : List (Optio
       (jobs_after_end old.program old.run s v w job.who js by (sym (ap ends_turn same) ∙ h.2) others)
 
 -- the step that was made is legal, and the checker goes on
-pub turn_goes_on : (old new : Core) (c : Cursor) (job : jobs.TurnSoFar) (s : Step) (reply : Option Value) (js ks : List (Option jobs.TurnSoFar)) → HasAsked old.program old.run c None → MayFollow old.run s
-    → turn_of s ≡ Some job.who → HasOtherJobs old.program old.run job.who js → IsTurnStep old new job reply → step_at new.run (len old.run) ≡ Some s → IsKeptAfter js ks job reply → GoesOn old new c ks s
-turn_goes_on old new c job s reply js ks asked may turn others h here kept =
+pub turn_goes_on : (old new : Core) (job : jobs.TurnSoFar) (s : Step) (reply : Option Value) (js ks : List (Option jobs.TurnSoFar)) → HasAsked old.program old.run None → WellFormed new.run → Legal new.program new.run
+    → turn_of s ≡ Some job.who → HasOtherJobs old.program old.run job.who js → IsActed old new job (acted_by reply) → step_at new.run (len old.run) ≡ Some s → IsKeptAfter js ks job reply → GoesOn old new ks s
+turn_goes_on old new job s reply js ks asked whole legal turn others h here kept =
     let stepped = (made old new job reply h).1 in
-    let same = same_made old new c job s reply asked turn h here in
+    let same = same_made old new job s reply asked turn h here in
     let is : new ≡ with_step old s = stepped.appended ∙ ap (with_step old) same in
-    let w : WellFormed (appended old.run s) = well_formed_appended old.run s asked.well_formed may in
-    let fits : Fits old.program old.run (len old.run) s = subst (Fits old.program old.run (len old.run)) same stepped.step.fits in
+    let w : WellFormed (appended old.run s) = subst (λ (k : Core). WellFormed k.run) is whole in
     let by : actor s ≡ Some job.who = sym (ap actor same) ∙ stepped.step.by in
-    goes_on old new c c None s ks asked may (fitting_legal old.program old.run c s asked (turn_no_failure s job.who turn) fits) is refl
+    goes_on old new s ks asked.well_formed whole legal is
     (jobs_made old new job s js ks asked.well_formed w is by others reply h same kept)
 
 -- the job that is kept for an open turn is its record

@@ -25,7 +25,7 @@ pub fn check(alloc: Global, program: &Program, trace: &Trace) -> Result<Legality
     requires opening { trace.now.run.opening ≡ program_opening program.now }
     ensures { IfOk result (IsLegality program.now trace.now.run) }
 {
-    let (mut checker, bad) = step_through(alloc, program, trace)?;
+    let (checker, bad) = step_through(alloc, program, trace)?;
     match bad {
         Some(place) => Ok(Legality::Bad { place }),
         None => Ok(Legality::Legal {

@@ -10,17 +10,9 @@ ghost use Rattle.tau_check.specs.Inner.Checkers.{HasSteppedTo};
 use crate::checker::Checker;
 use std::alloc::{AllocError, Global};
 use tau_clean::MarkedHearing;
-use tau_rules::System;
-use tau_script::Cursor;
+use tau_due::LegalSystem;
 use tau_trace::Trace;
 use tau_tree::Program;
-
-/// The system of a program behind the steps of a legal trace, and the cursor of its script there.
-#[derive(Drop)]
-pub struct Followed<'p> {
-    pub system: System<'p, MarkedHearing>,
-    pub cursor: Cursor,
-}
 
 /// The system of a program behind the steps of a legal trace, and the cursor of its script there (docs/definitions.md, "Fitting
 /// and legal steps", "Due step"). Each turn is evaluated anew, as `check` does. The error is want of memory.
@@ -28,7 +20,7 @@ pub fn follow<'p>(
     alloc: Global,
     program: &'p Program,
     trace: &Trace,
-) -> Result<Followed<'p>, AllocError>
+) -> Result<LegalSystem<'p, MarkedHearing>, AllocError>
     requires sound { Sound program.now }
     requires legal { Legal program.now trace.now.run }
     ensures program { IfOk result (λ f. f.system.program ≡ program.entry.now) }
@@ -38,10 +30,7 @@ pub fn follow<'p>(
     let (checker, bad) = step_through(alloc, program, trace)?;
     match bad {
         Some(_) => unreachable!(),
-        None => {
-            let (system, cursor) = checker.into_parts();
-            Ok(Followed { system, cursor })
-        }
+        None => Ok(checker.into_system()),
     }
 }
 
@@ -54,7 +43,7 @@ pub(crate) fn step_through<'p>(
 ) -> Result<(Checker<'p>, Option<u32>), AllocError>
     requires sound { Sound program.now }
     requires opening { trace.now.run.opening ≡ program_opening program.now }
-    ensures { IfOk result (λ r. HasSteppedTo program.entry.now trace.now.run r.0.system r.0.cursor r.0.jobs.items r.1) }
+    ensures { IfOk result (λ r. HasSteppedTo program.entry.now trace.now.run r.0.legal.system r.0.jobs.items r.1) }
 {
     let mut checker = Checker::open(alloc, program)?;
     let length = trace.len();

@@ -8,10 +8,9 @@ mod families;
 mod following;
 mod jobs;
 mod laws;
-mod making;
 mod reading;
 mod same;
 
 pub use checking::{Legality, check};
-pub use following::{Followed, follow};
+pub use following::follow;
 pub use laws::one_step_of_a_family_fits;

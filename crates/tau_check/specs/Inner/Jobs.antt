@@ -1,17 +1,14 @@
 -- The jobs that are kept for the open turns of a run, each at the place of its transactor.
-use Rattle.std.specs.Prelude.{◌≡◌, ◌≢◌, ℕ, IsTrue, List, Option, Some, None, slice_get}
+use Rattle.std.specs.Prelude.{◌≡◌, ◌≢◌, ℕ, List, Option, Some, None, slice_get}
 use Rattle.tau_value.specs.declared.shared.Value.{Value}
 use Rattle.tau_value.specs.Value.{val_of}
 use Rattle.tau_tree.specs.declared.programs.Program.{Program}
-use Rattle.tau_trace.specs.declared.step.Step.{Step}
-use Rattle.tau_trace.specs.Steps.{ends_turn}
 use Rattle.tau_trace.specs.Run.{Run, len}
 use Rattle.tau_trace.specs.Turns.{Turn}
 use Rattle.tau_eval.specs.Turn as jobs
 use Rattle.tau_rules.specs.declared.answers.Delivered.{Delivered}
 use Rattle.tau_rules.specs.declared.answers.Delivered.TheVariants.{Began, Dropped, Fell, Voided, Echoed, Heeded}
-use Rattle.tau_rules.specs.System.{Core}
-use Rattle.tau_rules.specs.Answers.{IsOpenJob, IsStepped}
+use Rattle.tau_rules.specs.Answers.{IsOpenJob}
 
 -- a job is kept for a transactor
 abbrev pub IsKeptFor : ℕ → List (Option jobs.TurnSoFar) → Type 0
@@ -49,11 +46,6 @@ IsKeptBegun old new Fell = new ≡ old
 IsKeptBegun old new Voided = new ≡ old
 IsKeptBegun old new Echoed = new ≡ old
 IsKeptBegun old new Heeded = new ≡ old
-
--- the step of a job's turn was made: with a reply, with which the turn goes on; or without one, and the turn is over
-abbrev pub IsTurnStep : Core → Core → jobs.TurnSoFar → Option Value → Type 0
-IsTurnStep old new pending (Some r) = (s : Step) × IsStepped old new pending s × IsOpenJob new.program new.run (jobs.with_reply pending (val_of r))
-IsTurnStep old new pending None = (s : Step) × IsStepped old new pending s × IsTrue (ends_turn s)
 
 -- the job after the step of its turn is kept, if the turn goes on
 abbrev pub IsKeptAfter : List (Option jobs.TurnSoFar) → List (Option jobs.TurnSoFar) → jobs.TurnSoFar → Option Value → Type 0

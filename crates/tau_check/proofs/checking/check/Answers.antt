@@ -10,7 +10,7 @@ returns c =
     let P : Program = c.args.program.now in
     let T : Run = c.args.trace.now.run in
     let checker = c.in_ok-checker.checker in
-    let come = subst (λ (bad : Option ℕ). HasSteppedTo P T checker.system checker.cursor checker.jobs.items bad) c.in-None.is c.in_ok-checker.ensures in (
-      all_legal P T (len T) checker.system checker.cursor checker.jobs.items come refl,
-      completeness P T (len T) checker.system checker.cursor checker.jobs.items come c.is_complete.result refl c.is_complete.ensures,
+    let come = subst (λ (bad : Option ℕ). HasSteppedTo P T checker.legal.system checker.jobs.items bad) c.in-None.is c.in_ok-checker.ensures in (
+      all_legal P T (len T) checker.legal.system checker.jobs.items come refl,
+      completeness P T (len T) checker.legal.system checker.jobs.items come c.is_complete.result refl c.is_complete.ensures,
     )

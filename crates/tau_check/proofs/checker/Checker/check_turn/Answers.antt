@@ -9,19 +9,19 @@ use Rattle.tau_check.proofs.checker.Checker.check_turn.Goals as goal
 
 pub returns-then-is_none : goal.returns-then-is_none
 returns-then-is_none c =
-    let old : Core = c.args.self.now.system in
+    let old : Core = c.args.self.now.legal.system in
     idle_illegal old.program old.run c.args.step.now c.args.who (not_in_turn old.run c.args.who c.open_turn.result c.is_none.result c.open_turn.ensures c.is_none.ensures c.if-is_none.true) c.requires.turn
 
 pub take_job-requires : goal.take_job-requires
 take_job-requires c =
-    let old : Core = c.args.self.now.system in
+    let old : Core = c.args.self.now.legal.system in
     let u = in_turn old.run c.args.who c.open_turn.result c.is_none.result c.open_turn.ensures c.is_none.ensures c.if-is_none.false in
     let h = c.requires.has_jobs c.args.who u.0 u.1 u.2 in
     (h.job, h.kept)
 
 pub check_effect-requires : goal.check_effect-requires
 check_effect-requires c =
-    let old : Core = c.args.self.now.system in
+    let old : Core = c.args.self.now.legal.system in
     let u = in_turn old.run c.args.who c.open_turn.result c.is_none.result c.open_turn.ensures c.is_none.ensures c.if-is_none.false in
     let job : jobs.TurnSoFar = c.take_job.result in
     let kept = kept_job old.program old.run c.args.self.now.jobs.items c.args.who job (c.requires.has_jobs c.args.who u.0 u.1 u.2) c.take_job.ensures.job in
