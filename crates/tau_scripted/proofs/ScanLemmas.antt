@@ -4,11 +4,8 @@ use Rattle.std.specs.List.{Contains}
 use Rattle.std.specs.Option.{is_some, option_eq}
 use Rattle.std.proofs.lemmas.List.Quantifiers.{all_pairs_push}
 use Rattle.std.proofs.lemmas.List.Elements.{Contains-append_left, Contains-push, Contains-push_cases, Contains-get_or}
-use Rattle.std.proofs.lemmas.Option.{slice_get_within}
 use Rattle.tau_mailbox.specs.declared.letter.Letter.{Letter}
 use Rattle.tau_mailbox.specs.Letters.{AllBelow}
-use Rattle.tau_tree.specs.declared.programs.Program.{Program}
-use Rattle.tau_tree.specs.Sound.{Sound}
 use Rattle.tau_trace.specs.declared.step.Step.TheVariants.{Take}
 use Rattle.tau_trace.specs.Run.{Run, len, step_at}
 use Rattle.tau_trace.specs.Known.{WellFormed, IsSound}
@@ -17,18 +14,11 @@ use Rattle.tau_trace.specs.Numbering.{born, sent, Removes, Receives, IsHome, InF
 use Rattle.tau_trace.specs.Turns.{Turn, IsOpenTurn, HasOpenTurn}
 use Rattle.tau_trace.proofs.Lists.{same_some}
 use Rattle.tau_trace.proofs.Once.{home_once, receives_once}
-use Rattle.tau_script.specs.declared.cursor.Cursor.{Cursor}
-use Rattle.tau_script.specs.Cursors.{CursorAt}
-use Rattle.tau_script.specs.Openings.{program_opening}
-use Rattle.tau_legal.specs.Traces.{Legal}
 use Rattle.tau_rules.proofs.ActLemmas.{one_open_turn}
 use Rattle.tau_rules.proofs.ActLemmasOfJobs.{taker_exists}
 use Rattle.tau_check.proofs.Once.{same_taker}
-use Rattle.tau_scripted.specs.declared.index.Index.{Index}
 use Rattle.tau_scripted.specs.OpenTurns.{IsOpenFrom, AreOpenTurns}
 use Rattle.tau_scripted.specs.Flight.{IsWaiting, AreInFlight}
-use Rattle.tau_scripted.specs.ScriptedRun.{IsScripted}
-use Rattle.tau_scripted.specs.Inner.Index.{IsIndexOf}
 use Rattle.tau_scripted.specs.Inner.Scans.{AreLettersBelow, AreThoseBelow, AreInTurnBelow, AreOpenBelow}
 use Rattle.tau_scripted.proofs.Members.{contains_nothing}
 use Rattle.tau_scripted.proofs.Homes.{below_or_last}
@@ -166,24 +156,7 @@ all_open T n places is h = record {
   each = λ place. (λ c. ((h.each place).0 c).1, λ f. (h.each place).1 (omega (arith, f.turn.before, is), f));
 }
 
--- what is kept of a legal run, by the index of it
-pub indexed : (P : Program) (T : Run) (c : Cursor) (index : Index) → Sound P → WellFormed T → Legal P T → CursorAt P.script T (len T) c → IsIndexOf T index
-    → IsScripted P T c index.mailboxes.nodes index.mailboxes.letters index.mailboxes.busy index.turns.items
-indexed P T c index sound w legal cursor is = record {
-  sound = sound;
-  well_formed = w;
-  legal = legal;
-  cursor_is = cursor;
-  nodes_are = is.nodes;
-  letters_are = is.letters;
-  busy_are = is.busy;
-  turns_are = is.turns;
-}
-
--- a run without steps is legal, and has no open turns
-pub legal_first : (P : Program) (T : Run) → T ≡ record { opening = program_opening P; steps = [] } → Legal P T
-legal_first P T e = record { opening = ap (λ (x : Run). x.opening) e; steps = λ k s at. absurd (omega (arith, slice_get_within T.steps k s at, ap len e)) }
-
+-- a run without steps has no open turns
 pub no_turns_first : (T : Run) (places : List ℕ) → len T ≡ 0 → AreOpenTurns T places → places ≡ []
 no_turns_first T [] none h = refl
 no_turns_first T (p ∷ ps) none h = absurd (omega (arith, few_turns T (p ∷ ps) h, none))

@@ -3,16 +3,11 @@ use Rattle.std.specs.Prelude.{◌≡◌, ◌↔◌, ℕ, Bool, true, false, List
 use Rattle.std.specs.List.{Contains}
 use Rattle.tau_mailbox.specs.declared.letter.Letter.{Letter}
 use Rattle.tau_mailbox.specs.MailState.{is_deliverable}
-use Rattle.tau_tree.specs.declared.programs.Program.{Program}
-use Rattle.tau_tree.specs.Sound.{Sound}
 use Rattle.tau_trace.specs.declared.step.Step.{Step}
 use Rattle.tau_trace.specs.Run.{Run, len}
-use Rattle.tau_trace.specs.Known.{WellFormed}
 use Rattle.tau_trace.specs.Turns.{HasOpenTurn}
 use Rattle.tau_script.specs.declared.cursor.Cursor.{Cursor}
-use Rattle.tau_script.specs.Cursors.{CursorAt}
 use Rattle.tau_script.specs.Scripts.{DueStep, NoneDue}
-use Rattle.tau_legal.specs.Traces.{Legal}
 use Rattle.tau_rules.specs.System.{Core, with_step}
 use Rattle.tau_rules.specs.declared.answers.Acted.{Acted}
 use Rattle.tau_rules.specs.declared.answers.Acted.TheVariants.{Reply, TurnOver, Redo}
@@ -28,13 +23,8 @@ pub record ScriptedRun : Type 0 where
   pub messages : List ℕ
   pub turns : List ℕ
 
--- the run is legal, the cursor is the script's, and these are the number of nodes, the letters of the messages in flight, the transactors
--- in a turn and the open turns
-pub record IsScripted (P : Program) (T : Run) (cursor : Cursor) (nodes : ℕ) (letters : List Letter) (busy turns : List ℕ) : Type 0 where
-  pub sound : Sound P
-  pub well_formed : WellFormed T
-  pub legal : Legal P T
-  pub cursor_is : CursorAt P.script T (len T) cursor
+-- these are the number of nodes, the letters of the messages in flight, the transactors in a turn and the open turns
+pub record IsIndexed (T : Run) (nodes : ℕ) (letters : List Letter) (busy turns : List ℕ) : Type 0 where
   pub nodes_are : nodes ≡ T.opening.nodes
   pub letters_are : AreInFlight T letters
   pub busy_are : (t : ℕ) → Contains busy t ↔ HasOpenTurn T t (len T)

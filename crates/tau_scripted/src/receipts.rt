@@ -6,7 +6,6 @@ ghost use Rattle.tau_script.specs.Scripts.{NoneDue};
 ghost use Rattle.tau_rules.specs.Answers.{IsDelivered};
 
 use crate::Scripted;
-use crate::cursors::due_by;
 use crate::letters::notice_of;
 use crate::making::make_receipt;
 use std::alloc::AllocError;
@@ -28,13 +27,12 @@ impl<'p, K: Knowledge + Drop> Scripted<'p, K> {
         let Some(letter) = self.index.mailboxes.deliverable(number) else {
             unreachable!()
         };
-        let notice = notice_of(self.system.trace(), letter);
+        let notice = notice_of(self.legal.trace(), letter);
         self.index.reserve_for(notice)?;
         self.index.reserve_turn()?;
-        let place = self.system.trace().len();
-        let delivered = make_receipt(&mut self.system, letter)?;
+        let place = self.legal.trace().len();
+        let delivered = make_receipt(&mut self.legal, letter)?;
         self.index.receive(letter, notice, place, &delivered);
-        let _due = due_by(&self.system, &mut self.cursor);
         Ok(delivered)
     }
 }

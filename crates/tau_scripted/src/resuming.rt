@@ -23,7 +23,6 @@ impl<'p> Scripted<'p, MarkedHearing> {
         ensures program { IfOk result (λ s. s.system.program ≡ program.entry.now) }
         ensures run { IfOk result (λ s. s.system.run ≡ trace.now.run) }
     {
-        let followed = follow(alloc, program, trace)?;
-        Scripted::over(alloc, followed.system, followed.cursor)
+        Scripted::over(alloc, follow(alloc, program, trace)?)
     }
 }

@@ -1,26 +1,24 @@
 //! The system with its script.
-ghost use Rattle.std.specs.Prelude.{◌≡◌, ◌≤◌, ◌↔◌, [], IfOk, IfSome, ℕ, ◌<◌, IsTrue, length};
-ghost use Rattle.tau_value.specs.declared.limits.TheConstants.{STEP_LIMIT, ENTRY_LIMIT};
+ghost use Rattle.std.specs.Prelude.{◌≡◌, ◌≤◌, ◌↔◌, [], IfOk, IsTrue, length};
+ghost use Rattle.tau_value.specs.declared.limits.TheConstants.{STEP_LIMIT};
 ghost use Rattle.tau_tree.specs.Sound.{Sound};
-ghost use Rattle.tau_trace.specs.declared.step.Step.TheVariants as steps;
 ghost use Rattle.tau_trace.specs.Run.{len};
 ghost use Rattle.tau_trace.specs.Known.{WellFormed};
 ghost use Rattle.tau_script.specs.Cursors.{CursorAt};
 ghost use Rattle.tau_script.specs.Openings.{program_opening};
 ghost use Rattle.tau_legal.specs.Traces.{Legal, Complete, Fitting};
-ghost use Rattle.tau_check.specs.Inner.Checkers.{HasAsked, NothingLeft};
+ghost use Rattle.tau_due.specs.LegalRun.{NothingLeft};
 ghost use Rattle.tau_scripted.specs.OpenTurns.{AreOpenTurns};
 ghost use Rattle.tau_scripted.specs.Flight.{AreInFlight, AreDeliverable};
 
-use crate::cursors::due_by;
 use crate::index::Index;
 use crate::indexing::index_of;
 use std::alloc::{AllocError, Global};
 use std::marker::Model;
+use tau_due::LegalSystem;
 use tau_knowledge::Knowledge;
 use tau_rules::System;
-use tau_script::Cursor;
-use tau_trace::{Step, Trace};
+use tau_trace::Trace;
 use tau_tree::Program;
 
 /// A system whose run is legal (docs/definitions.md, "Fitting and legal steps"), with the cursor of the script, the messages in
@@ -28,8 +26,7 @@ use tau_tree::Program;
 /// messages, and the places of the open turns.
 #[derive(Drop)]
 pub struct Scripted<'p, K: Knowledge + Drop> {
-    pub(crate) system: System<'p, K>,
-    pub(crate) cursor: Cursor,
+    pub(crate) legal: LegalSystem<'p, K>,
     pub(crate) index: Index,
 }
 
@@ -37,15 +34,15 @@ impl<'p, K: Knowledge + Drop> Model for Scripted<'p, K> {
     ghost use Rattle.std.specs.Coded.{codes};
     ghost use Rattle.tau_value.specs.Val.{val_code};
     ghost use Rattle.tau_tree.specs.Code.{code_code};
-    ghost use Rattle.tau_scripted.specs.ScriptedRun.{ScriptedRun, IsScripted, messages_of};
+    ghost use Rattle.tau_scripted.specs.ScriptedRun.{ScriptedRun, IsIndexed, messages_of};
 
     ghost Value = { ScriptedRun };
 
     ghost coded = { Prim.hlevel (codes, val_code, code_code) };
 
-    ghost view = { λ s. record { system = s.system; cursor = s.cursor; letters = s.index.mailboxes.letters; messages = messages_of s.index.mailboxes.busy s.index.mailboxes.letters; turns = s.index.turns.items } };
+    ghost view = { λ s. record { system = s.legal.system; cursor = s.legal.cursor; letters = s.index.mailboxes.letters; messages = messages_of s.index.mailboxes.busy s.index.mailboxes.letters; turns = s.index.turns.items } };
 
-    ghost invariant = { λ s. IsScripted s.system.program s.system.run s.cursor s.index.mailboxes.nodes s.index.mailboxes.letters s.index.mailboxes.busy s.index.turns.items };
+    ghost invariant = { λ s. IsIndexed s.legal.system.run s.index.mailboxes.nodes s.index.mailboxes.letters s.index.mailboxes.busy s.index.turns.items };
 }
 
 impl<'p, K: Knowledge + Drop> Scripted<'p, K> {
@@ -56,30 +53,20 @@ impl<'p, K: Knowledge + Drop> Scripted<'p, K> {
         ensures run { IfOk result (λ s. s.system.run ≡ record { opening = program_opening program.entry.now; steps = [] }) }
         ensures turns { IfOk result (λ s. s.turns ≡ []) }
     {
-        let system = System::open(alloc, program)?;
-        let mut cursor = Cursor::first();
-        let _due = due_by(&system, &mut cursor);
-        Scripted::over(alloc, system, cursor)
+        let legal = LegalSystem::open(alloc, program)?;
+        Scripted::over(alloc, legal)
     }
 
-    /// A system whose run is legal and the cursor of its script there, with what a worker chooses from. The error is want of memory.
+    /// A system whose run is legal, with what a worker chooses from. The error is want of memory.
     pub(crate) fn over(
         alloc: Global,
-        system: System<'p, K>,
-        cursor: Cursor,
+        legal: LegalSystem<'p, K>,
     ) -> Result<Scripted<'p, K>, AllocError>
-        requires sound { Sound system.program }
-        requires legal { Legal system.program system.run }
-        requires cursor { CursorAt system.program.script system.run (len system.run) cursor }
-        ensures system { IfOk result (λ s. s.system ≡ system.entry) }
-        ensures turns { IfOk result (λ s. AreOpenTurns system.entry.run s.turns) }
+        ensures system { IfOk result (λ s. s.system ≡ legal.entry.system) }
+        ensures turns { IfOk result (λ s. AreOpenTurns legal.entry.system.run s.turns) }
     {
-        let index = index_of(alloc, system.trace())?;
-        Ok(Scripted {
-            system,
-            cursor,
-            index,
-        })
+        let index = index_of(alloc, legal.trace())?;
+        Ok(Scripted { legal, index })
     }
 
     /// The system.
@@ -92,7 +79,7 @@ impl<'p, K: Knowledge + Drop> Scripted<'p, K> {
         ensures turns { AreOpenTurns self.now.system.run self.now.turns }
         ensures messages { AreDeliverable self.now.system.run self.now.messages }
     {
-        &self.system
+        self.legal.system()
     }
 
     /// How many steps the run has.
@@ -100,7 +87,7 @@ impl<'p, K: Knowledge + Drop> Scripted<'p, K> {
         ensures length { result ≡ len self.now.system.run }
         ensures few { len self.now.system.run ≤ STEP_LIMIT }
     {
-        self.system.trace().len()
+        self.legal.trace().len()
     }
 
     /// The places of the Takes of the open turns, in ascending order.
@@ -109,6 +96,8 @@ impl<'p, K: Knowledge + Drop> Scripted<'p, K> {
         ensures turns { AreOpenTurns self.now.system.run result.now }
         ensures fitting { Fitting self.now.system.program self.now.system.run }
     {
+        // Its contract says that the run is legal.
+        let _trace = self.legal.trace();
         &self.index.turns
     }
 
@@ -116,6 +105,8 @@ impl<'p, K: Knowledge + Drop> Scripted<'p, K> {
     pub fn open_turns(&self) -> u32
         ensures { result ≡ length self.now.turns }
     {
+        // Its contract says that the run is well formed.
+        let _trace = self.legal.trace();
         self.index.turns.len() as u32
     }
 
@@ -130,31 +121,20 @@ impl<'p, K: Knowledge + Drop> Scripted<'p, K> {
     pub fn is_complete(&self) -> bool
         ensures { IsTrue result ↔ Complete self.now.system.program self.now.system.run }
     {
-        if self.due().is_some() {
-            return false;
-        }
-        self.has_nothing_left()
+        let nothing_left = self.has_nothing_left();
+        self.legal.is_complete(nothing_left)
     }
 
     /// Whether no turn is open and no message is in flight.
     fn has_nothing_left(&self) -> bool
         ensures { IsTrue result ↔ NothingLeft self.now.system.run }
     {
+        // Its contract says that the run is legal.
+        let _trace = self.legal.trace();
         if !self.index.has_no_turn() {
             return false;
         }
         self.index.mailboxes.is_empty()
-    }
-
-    /// The due step of the script.
-    pub(crate) fn due(&self) -> Option<Step>
-        ensures asked { HasAsked self.now.system.program self.now.system.run self.now.cursor result }
-        ensures entries { length self.now.system.program.script ≤ ENTRY_LIMIT }
-        ensures entry { IfSome result (λ s. self.now.cursor.entry < length self.now.system.program.script) }
-        ensures who { IfSome result (λ s. (t : ℕ) → s ≡ steps.Fail t → t < u32.MAX) }
-    {
-        let mut cursor = self.cursor;
-        due_by(&self.system, &mut cursor)
     }
 
     /// The trace of the run.
@@ -163,6 +143,6 @@ impl<'p, K: Knowledge + Drop> Scripted<'p, K> {
         ensures well_formed { WellFormed result.run }
         ensures legal { Legal self.entry.system.program result.run }
     {
-        self.system.into_trace()
+        self.legal.into_trace()
     }
 }

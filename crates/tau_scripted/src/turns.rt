@@ -8,7 +8,6 @@ ghost use Rattle.tau_scripted.specs.ScriptedRun.{IsUnchangedAtRedo};
 ghost use Rattle.tau_scripted.specs.Inner.Index.{IsNodeOf};
 
 use crate::Scripted;
-use crate::cursors::due_by;
 use std::alloc::AllocError;
 use tau_eval::{Effect, Pending};
 use tau_knowledge::Knowledge;
@@ -30,11 +29,10 @@ impl<'p, K: Knowledge + Drop> Scripted<'p, K> {
     {
         let effect = pending.effect();
         self.index.reserve_letter(effect)?;
-        let message = self.system.trace().sent();
-        let node = node_of(self.system.trace(), effect);
-        let acted = self.system.act(pending)?;
+        let message = self.legal.trace().sent();
+        let node = node_of(self.legal.trace(), effect);
+        let acted = self.legal.act(pending)?;
         self.index.act(message, node, pending, effect, &acted);
-        let _due = due_by(&self.system, &mut self.cursor);
         Ok(acted)
     }
 
@@ -51,11 +49,10 @@ impl<'p, K: Knowledge + Drop> Scripted<'p, K> {
     {
         let effect = pending.effect();
         self.index.reserve_letter(effect)?;
-        let message = self.system.trace().sent();
-        let node = node_of(self.system.trace(), effect);
-        let reply = self.system.act_open(pending)?;
+        let message = self.legal.trace().sent();
+        let node = node_of(self.legal.trace(), effect);
+        let reply = self.legal.act_open(pending)?;
         self.index.act_open(message, node, pending, effect, &reply);
-        let _due = due_by(&self.system, &mut self.cursor);
         Ok(reply)
     }
 }

@@ -1,13 +1,11 @@
 -- What the index of messages and open turns becomes.
-use Rattle.std.specs.Prelude.{◌≡◌, ◌<◌, ◌↔◌, ℕ, List, [], ◌∷◌, ◌++◌, Option, Some, None, filter}
-use Rattle.std.specs.List.{Contains}
+use Rattle.std.specs.Prelude.{◌≡◌, ◌<◌, ℕ, List, [], ◌∷◌, ◌++◌, Option, Some, None, filter}
 use Rattle.tau_mailbox.specs.declared.letter.Letter.{Letter}
 use Rattle.tau_mailbox.specs.Letters.{is_other}
 use Rattle.tau_mailbox.specs.MailState.{is_not}
 use Rattle.tau_trace.specs.Run.{Run, len}
 use Rattle.tau_trace.specs.Numbering.{born, sent, HasSender, IsHome}
 use Rattle.tau_trace.specs.Histories.{Ended}
-use Rattle.tau_trace.specs.Turns.{HasOpenTurn}
 use Rattle.tau_eval.specs.declared.effects.Effect.{Effect}
 use Rattle.tau_eval.specs.declared.effects.Effect.TheVariants.{Send}
 use Rattle.tau_rules.specs.declared.answers.Delivered.{Delivered}
@@ -15,8 +13,7 @@ use Rattle.tau_rules.specs.declared.answers.Delivered.TheVariants.{Began, Droppe
 use Rattle.tau_rules.specs.declared.answers.Acted.{Acted}
 use Rattle.tau_rules.specs.declared.answers.Acted.TheVariants.{Reply, TurnOver, Redo}
 use Rattle.tau_scripted.specs.declared.index.Index.{Index}
-use Rattle.tau_scripted.specs.OpenTurns.{AreOpenTurns}
-use Rattle.tau_scripted.specs.Flight.{AreInFlight}
+use Rattle.tau_scripted.specs.ScriptedRun.{IsIndexed}
 
 -- the same nodes, letters, receivers in a turn, and open turns
 pub record IsSame (old new : Index) : Type 0 where
@@ -25,12 +22,9 @@ pub record IsSame (old new : Index) : Type 0 where
   pub busy : new.mailboxes.busy ≡ old.mailboxes.busy
   pub turns : new.turns.items ≡ old.turns.items
 
--- the nodes, the letters of the messages in flight, the transactors in a turn and the open turns are those of the run
-pub record IsIndexOf (T : Run) (index : Index) : Type 0 where
-  pub nodes : index.mailboxes.nodes ≡ T.opening.nodes
-  pub letters : AreInFlight T index.mailboxes.letters
-  pub busy : (t : ℕ) → Contains index.mailboxes.busy t ↔ HasOpenTurn T t (len T)
-  pub turns : AreOpenTurns T index.turns.items
+-- the index is that of the run
+abbrev pub IsIndexOf : Run → Index → Type 0
+IsIndexOf T index = IsIndexed T index.mailboxes.nodes index.mailboxes.letters index.mailboxes.busy index.turns.items
 
 -- the receiver of the message that an effect sends
 abbrev pub receiver_of : Effect → Option ℕ

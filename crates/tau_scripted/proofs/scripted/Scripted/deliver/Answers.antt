@@ -4,8 +4,8 @@ use Rattle.tau_mailbox.specs.declared.letter.Letter.{Letter}
 use Rattle.tau_mailbox.specs.Letters.{AllBelow}
 use Rattle.tau_mailbox.specs.MailState.{is_busy, room}
 use Rattle.tau_trace.specs.Run.{Run, len}
+use Rattle.tau_trace.specs.Known.{WellFormed}
 use Rattle.tau_trace.specs.Numbering.{sent}
-use Rattle.tau_script.specs.Scripts.{NoneDue}
 use Rattle.tau_rules.specs.System.{Core}
 use Rattle.tau_rules.specs.Answers.{IsDelivered}
 use Rattle.tau_scripted.specs.ScriptedRun.{ScriptedRun}
@@ -19,25 +19,25 @@ use Rattle.tau_scripted.proofs.scripted.Scripted.deliver.Goals as goal
 pub notice_of-notice-requires : goal.notice_of-notice-requires
 notice_of-notice-requires g c =
     let s = c.self.inside in
-    let waits = letter_waits s.system.run s.index.mailboxes.letters s.index.mailboxes.busy c.self.invariant.letters_are c.self.invariant.busy_are c.args.number c.in-Some.letter (sym c.deliverable.ensures ∙ c.in-Some.is) in
+    let waits = letter_waits s.legal.system.run s.index.mailboxes.letters s.index.mailboxes.busy c.self.invariant.letters_are c.self.invariant.busy_are c.args.number c.in-Some.letter (sym c.deliverable.ensures ∙ c.in-Some.is) in
     subst (λ (T : Run). c.in-Some.letter.message < sent T (len T)) (sym c.trace.ensures.run) waits.in_flight.exists
 
 pub make_receipt-requires-clause-waits : goal.make_receipt-requires-clause-waits
 make_receipt-requires-clause-waits g c =
     let s = c.self.inside in
-    letter_waits s.system.run s.index.mailboxes.letters s.index.mailboxes.busy c.self.invariant.letters_are c.self.invariant.busy_are c.args.number c.in-Some.letter (sym c.deliverable.ensures ∙ c.in-Some.is)
+    letter_waits s.legal.system.run s.index.mailboxes.letters s.index.mailboxes.busy c.self.invariant.letters_are c.self.invariant.busy_are c.args.number c.in-Some.letter (sym c.deliverable.ensures ∙ c.in-Some.is)
 
 pub make_receipt-requires-clause-idle : goal.make_receipt-requires-clause-idle
 make_receipt-requires-clause-idle g c =
     let s = c.self.inside in
-    receiver_idle s.system.run s.index.mailboxes.letters s.index.mailboxes.busy c.self.invariant.letters_are c.self.invariant.busy_are c.args.number c.in-Some.letter (sym c.deliverable.ensures ∙ c.in-Some.is)
+    receiver_idle s.legal.system.run s.index.mailboxes.letters s.index.mailboxes.busy c.self.invariant.letters_are c.self.invariant.busy_are c.args.number c.in-Some.letter (sym c.deliverable.ensures ∙ c.in-Some.is)
 
 pub receive-requires-clause-idle : goal.receive-requires-clause-idle
 receive-requires-clause-idle g c =
     let s = c.self.inside in
     ap (λ (busy : List ℕ). is_busy busy c.in-Some.letter.who) (c.in_ok-reserve_turn.ensures.same.busy ∙ c.in_ok-reserve_for.ensures.same.busy)
     ∙ not_busy s.index.mailboxes.busy c.in-Some.letter.who
-    (receiver_free s.system.run s.index.mailboxes.letters s.index.mailboxes.busy c.self.invariant.letters_are c.self.invariant.busy_are c.args.number c.in-Some.letter (sym c.deliverable.ensures ∙ c.in-Some.is))
+    (receiver_free s.legal.system.run s.index.mailboxes.letters s.index.mailboxes.busy c.self.invariant.letters_are c.self.invariant.busy_are c.args.number c.in-Some.letter (sym c.deliverable.ensures ∙ c.in-Some.is))
 
 pub receive-requires-clause-node : goal.receive-requires-clause-node
 receive-requires-clause-node g c =
@@ -49,10 +49,10 @@ pub receive-requires-clause-last : goal.receive-requires-clause-last
 receive-requires-clause-last g c =
     let s = c.self.inside in
     let l : Letter = c.in-Some.letter in
-    let tells : IsNoticeLetter s.system.run l.who l.message c.notice_of-notice.result = subst (λ (T : Run). IsNoticeLetter T l.who l.message c.notice_of-notice.result) c.trace.ensures.run c.notice_of-notice.ensures.tells in
+    let tells : IsNoticeLetter s.legal.system.run l.who l.message c.notice_of-notice.result = subst (λ (T : Run). IsNoticeLetter T l.who l.message c.notice_of-notice.result) c.trace.ensures.run c.notice_of-notice.ensures.tells in
     let same : c.reserve_turn.new.self.mailboxes.letters ≡ s.index.mailboxes.letters = c.in_ok-reserve_turn.ensures.same.letters ∙ c.in_ok-reserve_for.ensures.same.letters in
     subst (λ (ls : List Letter). IfSome c.notice_of-notice.result (λ x. AllBelow x.message ls)) (sym same)
-    (notice_last s.system.run l.who l.message c.notice_of-notice.result s.index.mailboxes.letters tells c.self.invariant.letters_are)
+    (notice_last s.legal.system.run l.who l.message c.notice_of-notice.result s.index.mailboxes.letters tells c.self.invariant.letters_are)
 
 pub receive-requires-clause-room : goal.receive-requires-clause-room
 receive-requires-clause-room g c =
@@ -61,25 +61,25 @@ receive-requires-clause-room g c =
 pub invariant_of-self-2 : goal.invariant_of-self-2
 invariant_of-self-2 g c =
     let s = c.self.inside in
-    let old : Core = s.system in
-    let new : Core = c.make_receipt.new.system in
+    let old : Core = s.legal.system in
+    let new : Core = c.make_receipt.new.system.system in
     let l : Letter = c.in-Some.letter in
     let at = sym c.deliverable.ensures ∙ c.in-Some.is in
-    let none : NoneDue old.program.script old.run (len old.run) = subst (λ (r : ScriptedRun). NoneDue r.system.program.script r.system.run (len r.system.run)) (sym c.self.view_is) c.requires.none_due in
+    let well : WellFormed old.run = subst WellFormed c.trace.ensures.run c.trace.ensures.well_formed in
     let place : c.len-place.result ≡ len old.run = c.len-place.ensures.len ∙ ap len c.trace-2.ensures.run in
     let notice = c.notice_of-notice.result in
     let tells : IsNoticeLetter old.run l.who l.message notice = subst (λ (T : Run). IsNoticeLetter T l.who l.message notice) c.trace.ensures.run c.notice_of-notice.ensures.tells in
     let delivered = c.in_ok-delivered.delivered in
-    of_lists new.program new.run c.due_by-due.new.cursor s.index.mailboxes.nodes c.receive.new.self.mailboxes.nodes (letters_received l.message notice s.index.mailboxes.letters delivered) c.receive.new.self.mailboxes.letters (busy_received l.who s.index.mailboxes.busy delivered) c.receive.new.self.mailboxes.busy
+    of_lists new.run s.index.mailboxes.nodes c.receive.new.self.mailboxes.nodes (letters_received l.message notice s.index.mailboxes.letters delivered) c.receive.new.self.mailboxes.letters (busy_received l.who s.index.mailboxes.busy delivered) c.receive.new.self.mailboxes.busy
     (turns_received (len old.run) s.index.turns.items delivered) c.receive.new.self.turns.items
     (c.receive.ensures.nodes ∙ c.in_ok-reserve_turn.ensures.same.nodes ∙ c.in_ok-reserve_for.ensures.same.nodes)
     (c.receive.ensures.letters ∙ ap (λ (ls : List Letter). letters_received l.message notice ls delivered) (c.in_ok-reserve_turn.ensures.same.letters ∙ c.in_ok-reserve_for.ensures.same.letters))
     (c.receive.ensures.busy ∙ ap (λ (bs : List ℕ). busy_received l.who bs delivered) (c.in_ok-reserve_turn.ensures.same.busy ∙ c.in_ok-reserve_for.ensures.same.busy))
     (c.receive.ensures.turns ∙ (λ i. turns_received (place i) ((c.in_ok-reserve_turn.ensures.same.turns ∙ c.in_ok-reserve_for.ensures.same.turns) i) delivered))
-    (after_receipt old new s.cursor c.due_by-due.new.cursor s.index.mailboxes.nodes s.index.mailboxes.letters s.index.mailboxes.busy s.index.turns.items c.self.invariant c.due_by-due.ensures.well_formed c.due_by-due.ensures.fitting
-    l (letter_waits s.system.run s.index.mailboxes.letters s.index.mailboxes.busy c.self.invariant.letters_are c.self.invariant.busy_are c.args.number l at)
-    (receiver_idle s.system.run s.index.mailboxes.letters s.index.mailboxes.busy c.self.invariant.letters_are c.self.invariant.busy_are c.args.number l at)
-    none c.due_by-due.ensures.current notice tells delivered c.in_ok-delivered.ensures.ok)
+    (after_receipt old new s.index.mailboxes.nodes s.index.mailboxes.letters s.index.mailboxes.busy s.index.turns.items c.self.invariant well c.make_receipt.ensures.well_formed c.make_receipt.ensures.legal
+    l (letter_waits s.legal.system.run s.index.mailboxes.letters s.index.mailboxes.busy c.self.invariant.letters_are c.self.invariant.busy_are c.args.number l at)
+    (receiver_idle s.legal.system.run s.index.mailboxes.letters s.index.mailboxes.busy c.self.invariant.letters_are c.self.invariant.busy_are c.args.number l at)
+    notice tells delivered c.in_ok-delivered.ensures.ok)
 
 pub returns-clause-ok : goal.returns-clause-ok
 returns-clause-ok g c m e =
@@ -87,9 +87,9 @@ returns-clause-ok g c m e =
     let l : Letter = c.in-Some.letter in
     let at = sym c.deliverable.ensures ∙ c.in-Some.is in
     let here = subst (λ (r : ScriptedRun). slice_get r.messages c.args.number ≡ Some m) (sym c.self.view_is) e in
-    let same : l.message ≡ m = message_is s.system.run s.index.mailboxes.letters s.index.mailboxes.busy c.self.invariant.letters_are c.self.invariant.busy_are c.args.number l at m here in
-    subst (λ (r : ScriptedRun). IsDelivered r.system c.make_receipt.new.system m c.in_ok-delivered.delivered) c.self.view_is
-    (subst (λ (n : ℕ). IsDelivered s.system c.make_receipt.new.system n c.in_ok-delivered.delivered) same c.in_ok-delivered.ensures.ok)
+    let same : l.message ≡ m = message_is s.legal.system.run s.index.mailboxes.letters s.index.mailboxes.busy c.self.invariant.letters_are c.self.invariant.busy_are c.args.number l at m here in
+    subst (λ (r : ScriptedRun). IsDelivered r.system c.make_receipt.new.system.system m c.in_ok-delivered.delivered) c.self.view_is
+    (subst (λ (n : ℕ). IsDelivered s.legal.system c.make_receipt.new.system.system n c.in_ok-delivered.delivered) same c.in_ok-delivered.ensures.ok)
 
 pub returns-clause-turns : goal.returns-clause-turns
 returns-clause-turns g c =

@@ -1,9 +1,8 @@
-use Rattle.std.proofs.Common.{◌≤◌, ℕ, Some, List, length, sym, subst}
-use Rattle.tau_trace.specs.declared.step.Step.TheVariants.{Fail}
+use Rattle.std.proofs.Common.{◌≤◌, ℕ, List, length, sym, subst}
 use Rattle.tau_trace.specs.Run.{Run, len}
+use Rattle.tau_trace.specs.Known.{WellFormed}
 use Rattle.tau_trace.specs.Turns.{IsOpenTurn}
 use Rattle.tau_rules.specs.System.{Core}
-use Rattle.tau_check.specs.Inner.Checkers.{HasAsked}
 use Rattle.tau_scripted.specs.ScriptedRun.{ScriptedRun}
 use Rattle.tau_scripted.specs.Inner.Index.{busy_ended, turns_ended}
 use Rattle.tau_scripted.proofs.Steps.{after_fail, of_lists}
@@ -13,14 +12,14 @@ use Rattle.tau_scripted.proofs.scripted.Scripted.fail.Goals as goal
 pub invariant_of-self-2 : goal.invariant_of-self-2
 invariant_of-self-2 g c =
     let s = c.self.inside in
-    let old : Core = s.system in
-    let new : Core = c.make_fail.new.system in
-    let asked : HasAsked old.program old.run s.cursor (Some (Fail c.args.who)) = subst (λ (r : ScriptedRun). HasAsked r.system.program r.system.run r.cursor (Some (Fail c.args.who))) (sym c.self.view_is) c.requires.asked in
+    let old : Core = s.legal.system in
+    let new : Core = c.make_due.new.self.system in
+    let well : WellFormed old.run = subst WellFormed c.trace.ensures.run c.trace.ensures.well_formed in
     let turn : IsOpenTurn old.run c.args.who (len old.run) c.open_turn-turn.result = subst (λ (T : Run). IsOpenTurn T c.args.who (len T) c.open_turn-turn.result) c.trace.ensures.run c.open_turn-turn.ensures in
-    of_lists new.program new.run c.move_past.new.cursor s.index.mailboxes.nodes c.end.new.self.mailboxes.nodes s.index.mailboxes.letters c.end.new.self.mailboxes.letters (busy_ended c.args.who s.index.mailboxes.busy c.open_turn-turn.result) c.end.new.self.mailboxes.busy
+    of_lists new.run s.index.mailboxes.nodes c.end.new.self.mailboxes.nodes s.index.mailboxes.letters c.end.new.self.mailboxes.letters (busy_ended c.args.who s.index.mailboxes.busy c.open_turn-turn.result) c.end.new.self.mailboxes.busy
     (turns_ended s.index.turns.items c.open_turn-turn.result) c.end.new.self.turns.items c.end.ensures.nodes c.end.ensures.letters c.end.ensures.busy c.end.ensures.turns
-    (after_fail old new s.cursor c.move_past.new.cursor s.index.mailboxes.nodes s.index.mailboxes.letters s.index.mailboxes.busy s.index.turns.items c.self.invariant c.move_past.ensures.well_formed c.move_past.ensures.fitting
-    c.args.who c.open_turn-turn.result asked c.in_ok-make_fail.ensures.ok c.move_past.ensures.current turn)
+    (after_fail old new s.index.mailboxes.nodes s.index.mailboxes.letters s.index.mailboxes.busy s.index.turns.items c.self.invariant well c.make_due.ensures.well_formed c.make_due.ensures.legal
+    c.args.who c.open_turn-turn.result c.in_ok-make_due.ensures.ok turn)
 
 pub returns-clause-turns : goal.returns-clause-turns
 returns-clause-turns g c =

@@ -1,10 +1,10 @@
 use Rattle.std.proofs.Common.{subst}
 use Rattle.tau_legal.specs.Traces.{Fitting}
-use Rattle.tau_check.proofs.Endings.{legal_fits}
+use Rattle.tau_legal.proofs.TraceLemmas.{legal_fitting}
 use Rattle.tau_scripted.specs.ScriptedRun.{ScriptedRun}
 use Rattle.tau_scripted.proofs.scripted.Scripted.turns.Goals as goal
 
 pub returns-clause-fitting : goal.returns-clause-fitting
 returns-clause-fitting g c =
     let s = c.self.inside in
-    subst (λ (r : ScriptedRun). Fitting r.system.program r.system.run) c.self.view_is (legal_fits s.system.program s.system.run c.self.invariant.legal)
+    subst (λ (r : ScriptedRun). Fitting r.system.program r.system.run) c.self.view_is (subst (Fitting s.legal.system.program) c.trace-trace.ensures.run (legal_fitting s.legal.system.program c.trace-trace.result.now.run c.trace-trace.ensures.legal))
