@@ -8,7 +8,7 @@ use Rattle.tau_trace.specs.declared.step.Step.TheVariants.{Take, Drop, Fall, Voi
 use Rattle.tau_trace.specs.Steps.{actor, removed_by, makes_message, ends_turn}
 use Rattle.tau_trace.specs.Run.{Run, len, appended}
 use Rattle.tau_trace.specs.Known.{WellFormed, IsKnownAt, MayFollow}
-use Rattle.tau_trace.specs.Numbering.{born, sent, Receives, IsHome, InFlight}
+use Rattle.tau_trace.specs.Numbering.{born, sent, Receives, IsHome}
 use Rattle.tau_trace.specs.Histories.{Ended}
 use Rattle.tau_trace.specs.Turns.{IsOpenTurn}
 use Rattle.tau_trace.proofs.Agreement.{agree_appended, step_at-appended, born-same, sent-same}
