@@ -1,5 +1,6 @@
 -- What a choice is.
-use Rattle.std.proofs.Common.{◌≡◌, ℕ, suc, ◌+◌, ◌<◌, ◌≤◌, Some, List, [], ◌∷◌, length, refl, ap, ◌∙◌, subst, arith}
+use Rattle.std.proofs.Common.{◌≡◌, ◌↔◌, ℕ, suc, ◌+◌, ◌<◌, ◌≤◌, nat_lt, IsTrue, Some, List, [], ◌∷◌, length, refl, ap, ◌∙◌, subst, arith}
+use Rattle.std.proofs.lemmas.Bool.{lt-ltb, ltb-true}
 use Rattle.std.specs.Prelude.{slice_get}
 use Rattle.std.specs.List.{Contains}
 use Rattle.rand_pcg.specs.Lcg.{Lcg}
@@ -15,15 +16,20 @@ use Rattle.tau_rules.specs.Answers.{IsDelivered}
 use Rattle.tau_rules.specs.declared.answers.Delivered.{Delivered}
 use Rattle.tau_rules.specs.declared.answers.Delivered.TheVariants.{Began, Dropped, Fell, Voided, Echoed, Heeded}
 use Rattle.tau_scripted.specs.OpenTurns.{AreOpenTurns}
-use Rattle.tau_scripted.specs.Flight.{AreDeliverable}
+use Rattle.tau_scripted.specs.Flight.{IsDeliverable, AreDeliverable}
 use Rattle.tau_scripted.specs.ScriptedRun.{ScriptedRun}
-use Rattle.tau_scripted.proofs.Members.{contains_nothing}
+use Rattle.tau_scripted.proofs.Members.{contains_nothing, contains_here}
 use Rattle.tau_legal.proofs.ReceiverLemmas.{receivers_of_fitting}
 use Rattle.tau_scripted.proofs.Homes.{at_place}
 use Rattle.tau_book.specs.Hands.{Held, IsNumbered}
 use Rattle.tau_book.specs.Books.{booked, GoesOn}
 use Rattle.tau_book.specs.Offers.{Offer, jobs_with, store_without, options, number_drawn, generator_after}
 use Rattle.tau_book.specs.Nexts.{IsIdle, IsHandedOut, IsReceived, begun_with}
+
+-- a message is deliverable where some are listed
+pub some_deliverable : (T : Run) (messages : List ℕ) → AreDeliverable T messages → IsTrue (nat_lt 0 (length messages)) ↔ ((m : ℕ) × IsDeliverable T m)
+some_deliverable T [] are = (λ t. absurd (omega (arith, ltb-true 0 0 t)), λ d. absurd (contains_nothing d.0 ((are.each d.0).1 d.1)))
+some_deliverable T (m ∷ ms) are = (λ t. (m, (are.each m).0 (contains_here m ms)), λ d. lt-ltb 0 (suc (length ms)) (omega arith))
 
 -- where nothing is deliverable and the run isn't complete, a turn is open
 pub some_open : (P : Program) (T : Run) (turns messages : List ℕ) → Fitting P T → AreOpenTurns T turns → AreDeliverable T messages → messages ≡ [] → NoneDue P.script T (len T) → ¬ Complete P T → 1 ≤ length turns
