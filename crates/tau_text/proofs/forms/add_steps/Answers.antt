@@ -7,5 +7,5 @@ loop-place-init c = steps_none c.args.trace.now.run c.args.text.now.items
 
 pub loop-place-preserved : goal.loop-place-preserved
 loop-place-preserved c =
-    steps_more c.args.trace.now.run c.loop-place.place c.args.text.now.items c.loop-place.text.items c.add_form.new.text.items (tree_of c.in_ok-form_of_step.field-0)
-    c.in_ok-add_form.ensures c.in_ok-form_of_step.ensures.form c.in_ok-form_of_step.ensures.value c.loop-place.invariant
+    steps_more c.args.trace.now.run c.loop-place.place c.args.text.now.items c.loop-place.text.items c.add_form.new.text.items (tree_of c.in_ok-form.form)
+    c.in_ok-add_form.ensures c.in_ok-form.ensures.form c.in_ok-form.ensures.value c.loop-place.invariant
