@@ -11,5 +11,5 @@ loop-preserved g c = record {
   is_finite = tt;
   size = c.next-in-loop.ensures.size ∙ c.loop.invariant.size;
   left =
-      idle_left (λ _. Unit {0}) _ _ c.args.hand.now c.loop.hand c.next-in-loop.new.hand c.in_ok-answer.answer c.in-Idle.out c.in_ok-answer.ensures.ok c.in-Idle.is (λ job closed. tt) c.loop.invariant.left;
+      idle_left (λ _. Unit {0}) _ _ c.args.hand.now c.loop.hand c.next-in-loop.new.hand c.in_ok-next.field-0 c.in-Idle.out c.in_ok-next.ensures.ok c.in-Idle.is (λ job closed. tt) c.loop.invariant.left;
 }
