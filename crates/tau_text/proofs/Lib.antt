@@ -7,3 +7,5 @@ pub mod MarkedForms
 pub mod Telling
 pub mod SpellingLemmas
 pub mod Writing
+pub mod ValueTexts
+pub mod StepTexts

@@ -1,5 +1,5 @@
 -- The texts that are added where a run text is made.
-use Rattle.std.proofs.Common.{◌≡◌, ◌⊎◌, ⊎_elim, ℕ, ◌+◌, ◌<◌, ◌≤◌, List, [], ◌∷◌, ◌++◌, append-nil, append_assoc, Some, None, refl, sym, ap, ◌∙◌, subst, arith}
+use Rattle.std.proofs.Common.{◌≡◌, ◌⊎◌, ⊎_elim, ℕ, ◌+◌, ◌<◌, ◌≤◌, List, [], ◌∷◌, ◌++◌, append-nil, append_assoc, None, refl, sym, ap, ◌∙◌, subst, arith}
 use Rattle.std.specs.Prelude.{slice_get, option_map}
 use Rattle.std.proofs.lemmas.Option.{slice_get_past}
 use Rattle.std.proofs.lemmas.List.{length_push}
@@ -16,7 +16,7 @@ use Rattle.tau_steps.specs.StepForms.{step_form, step_form_at, IsWrittenAt}
 use Rattle.tau_trace.proofs.Sequences.{cases_last}
 use Rattle.tau_trace.proofs.Lists.{slice_get-front, slice_get-last}
 use Rattle.tau_text.specs.RunText.{trace_mark, report_mark, AreStepForms, AreRunForms, IsRunText, IsReadBack}
-use Rattle.tau_text.specs.Inner.Written.{AddsForms, AddsSteps, AddsReport}
+use Rattle.tau_text.specs.Inner.Written.{AddsForms, AddsStep, AddsSteps, AddsReport}
 use Rattle.tau_text.proofs.SpellingLemmas.{both_spelled}
 
 -- no forms
@@ -35,18 +35,19 @@ pub steps_none : (T : Run) (old : List ℕ) → AddsSteps T 0 old old
 steps_none T old = record { steps = []; count = refl; each = λ k l. absurd (omega arith); values = λ k l. absurd (omega arith); added = forms_none old }
 
 -- one more
-pub steps_more : (T : Run) (n : ℕ) (old now new : List ℕ) (form : Tree) → AddsForms (form ∷ []) now new → Some form ≡ step_form_at T n → IsWrittenAt T n → AddsSteps T n old now → AddsSteps T (n + 1) old new
-steps_more T n old now new form here is value before =
+pub steps_more : (T : Run) (n : ℕ) (old now new : List ℕ) → AddsStep T n now new → AddsSteps T n old now → AddsSteps T (n + 1) old new
+steps_more T n old now new here before =
+    let form = here.form in
     let steps = before.steps ++ form ∷ [] in
     record {
       steps = steps;
       count = omega (arith, length_push before.steps form, before.count);
       each = λ k l. ⊎_elim
-          (λ (e : k ≡ n). ap (slice_get steps) (e ∙ sym before.count) ∙ slice_get-last before.steps form ∙ is ∙ ap (step_form_at T) (sym e))
+          (λ (e : k ≡ n). ap (slice_get steps) (e ∙ sym before.count) ∙ slice_get-last before.steps form ∙ here.form_is ∙ ap (step_form_at T) (sym e))
           (λ (b : k < n). sym (slice_get-front before.steps form k (omega (arith, before.count))) ∙ before.each k b)
           (cases_last k n (omega arith));
-      values = λ k l. ⊎_elim (λ (e : k ≡ n). subst (IsWrittenAt T) (sym e) value) (λ (b : k < n). before.values k b) (cases_last k n (omega arith));
-      added = forms_more before.steps (form ∷ []) old now new before.added here;
+      values = λ k l. ⊎_elim (λ (e : k ≡ n). subst (IsWrittenAt T) (sym e) here.value) (λ (b : k < n). before.values k b) (cases_last k n (omega arith));
+      added = forms_more before.steps (form ∷ []) old now new before.added here.added;
     }
 
 below_or_past : (k n : ℕ) → (k < n) ⊎ (n ≤ k)

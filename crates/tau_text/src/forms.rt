@@ -11,17 +11,17 @@ ghost use Rattle.tau_script.specs.Openings.{program_opening};
 ghost use Rattle.tau_text.specs.RunText.{mark as mark_of, IsRunText, IsReadBack};
 ghost use Rattle.tau_text.specs.Inner.Written.{AddsForms, AddsSteps, AddsReport};
 
+use crate::steps::put_step;
 use std::alloc::{AllocError, Global};
 use tau_forms::forms_of;
 use tau_report::report_forms;
 use tau_sexpr::{Form, Forms, Word, put_form_line, put_forms};
-use tau_steps::form_of_step;
 use tau_trace::Trace;
 use tau_tree::Program;
 
 /// The run text of a program and a trace (docs/formats.md, "Run text"), from which both can be read back. It passes over the
 /// trace once for the steps and once for the report. Beside the text, the forms of one part at a time take memory: those of the
-/// program, of a step or of the report. The error is want of memory.
+/// program or of the report. The error is want of memory.
 #[tactic(auto, using(tau_sexpr::proofs::Literals::word_literal), unfolding(tau_sexpr::specs::Bytes::is_word_byte, tau_sexpr::specs::Bytes::is_letter_or_digit, tau_sexpr::specs::Bytes::is_word_sign))]
 pub fn run_text(alloc: Global, program: &Program, trace: &Trace) -> Result<Vec<u8>, AllocError>
     requires opening { trace.now.run.opening ≡ program_opening program.now }
@@ -32,7 +32,7 @@ pub fn run_text(alloc: Global, program: &Program, trace: &Trace) -> Result<Vec<u
     let mut text = Vec::new(alloc);
     add_program(alloc, &mut text, program)?;
     add_mark(alloc, &mut text, b"trace")?;
-    add_steps(alloc, &mut text, trace)?;
+    add_steps(&mut text, trace)?;
     add_mark(alloc, &mut text, b"report")?;
     add_report(alloc, &mut text, program, trace)?;
     Ok(text)
@@ -60,12 +60,11 @@ fn add_mark(alloc: Global, text: &mut Vec<u8>, word: &[u8]) -> Result<(), AllocE
 }
 
 /// Adds the texts of the steps of a trace, in order.
-fn add_steps(alloc: Global, text: &mut Vec<u8>, trace: &Trace) -> Result<(), AllocError>
+fn add_steps(text: &mut Vec<u8>, trace: &Trace) -> Result<(), AllocError>
     ensures { OnOk result (AddsSteps trace.now.run (len trace.now.run) text.old.items text.new.items) }
 {
     for place in 0..trace.len() {
-        let form = form_of_step(alloc, trace, place)?;
-        add_form(text, &form)?;
+        put_step(text, trace, place)?;
     }
     Ok(())
 }

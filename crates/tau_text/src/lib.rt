@@ -9,6 +9,8 @@ mod marks;
 mod parts;
 mod printing;
 mod reading;
+mod steps;
+mod values;
 
 pub use errors::InputError;
 pub use faults::InputFault;

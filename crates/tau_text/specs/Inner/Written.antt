@@ -1,5 +1,5 @@
 -- What is added to a text, where a run text is made.
-use Rattle.std.specs.Prelude.{◌≡◌, ℕ, ◌<◌, List, ◌++◌, length, slice_get}
+use Rattle.std.specs.Prelude.{◌≡◌, ℕ, ◌<◌, List, [], ◌∷◌, ◌++◌, length, Some, slice_get}
 use Rattle.tau_sexpr.specs.Tree.{Tree}
 use Rattle.tau_sexpr.specs.Printing.{printed}
 use Rattle.tau_sexpr.specs.Spelling.{IsSpelling}
@@ -12,6 +12,13 @@ use Rattle.tau_report.specs.Report.{IsReport}
 pub record AddsForms (forms : List Tree) (old new : List ℕ) : Type 0 where
   pub new_is : new ≡ old ++ printed forms
   pub spelled : IsSpelling (printed forms) forms
+
+-- the new text is the old one and that of the form of the step at place k, which spells it; its value is read back
+pub record AddsStep (T : Run) (k : ℕ) (old new : List ℕ) : Type 0 where
+  pub form : Tree
+  pub form_is : Some form ≡ step_form_at T k
+  pub value : IsWrittenAt T k
+  pub added : AddsForms (form ∷ []) old new
 
 -- the new text is the old one and that of the forms of the first n steps
 pub record AddsSteps (T : Run) (n : ℕ) (old new : List ℕ) : Type 0 where

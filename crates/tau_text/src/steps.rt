@@ -1,0 +1,183 @@
+//! The texts of steps, put straight behind a text: no form of a step is made.
+ghost use Rattle.std.specs.Prelude.{◌≡◌, ◌<◌, ◌∷◌, ◌++◌, [], All, OnOk};
+ghost use Rattle.std.specs.Fmt.{decimal};
+ghost use Rattle.tau_sexpr.specs.Bytes.{IsWordByte};
+ghost use Rattle.tau_sexpr.specs.Printing.{print_of, print_rest, printed, HasBytes, AllHaveBytes};
+ghost use Rattle.tau_sexpr.specs.Tree as tree;
+ghost use Rattle.tau_value.specs.Names.{AreNames};
+ghost use Rattle.tau_value.specs.Value.{val_of};
+ghost use Rattle.tau_value.specs.Written.{name_written, written};
+ghost use Rattle.tau_trace.specs.Run.{len};
+ghost use Rattle.tau_steps.specs.StepForms.{kind_word, truth_form, item_forms, step_form, IsWritten, ValueIsWritten};
+ghost use Rattle.tau_text.specs.Inner.Written.{AddsStep};
+
+use crate::values::{put_count, put_name, put_truth, put_value};
+use std::alloc::AllocError;
+use tau_trace::{Opening, Step, Trace};
+use tau_value::{Names, Value};
+
+/// Adds the text of the form of the step at a place (docs/formats.md, "Steps") and a line feed, in time for the step's own
+/// size. What is added is read back as this form, and its value, if it has one, as the step's. It takes memory for the text
+/// alone. The error is want of memory, and a part of the text may then be added.
+pub(crate) fn put_step(out: &mut Vec<u8>, trace: &Trace, place: u32) -> Result<(), AllocError>
+    requires { place < len trace.now.run }
+    ensures { OnOk result (AddsStep trace.now.run place out.old.items out.new.items) }
+{
+    let steps = trace.len();
+    prove!(place < steps);
+    match (trace.step(place), trace.made_at(place)) {
+        (Some(step), Some(made)) => put_line(out, trace.opening(), made, step),
+        _ => unreachable!(),
+    }
+}
+
+/// Adds the text of a step's form and a line feed; `made` is the number that a Send, an Echo, a Repeat or a New makes.
+fn put_line(out: &mut Vec<u8>, opening: &Opening, made: u32, step: &Step) -> Result<(), AllocError>
+    requires { AreNames opening.now.names }
+    ensures text { OnOk result (out.new.items ≡ out.old.items ++ printed (step_form opening.now made step.now ∷ [])) }
+    ensures bytes { OnOk result (HasBytes (step_form opening.now made step.now)) }
+    ensures value { OnOk result (ValueIsWritten opening.now step.now) }
+{
+    out.push(b'(')?;
+    out.extend_from_slice(kind_of(step))?;
+    add_items(out, opening, made, step)?;
+    out.extend_from_slice(b")\n")
+}
+
+/// The word that begins the form of a step.
+#[tactic(auto, using(tau_sexpr::proofs::Literals::word_literal), unfolding(tau_sexpr::specs::Bytes::is_word_byte, tau_sexpr::specs::Bytes::is_letter_or_digit, tau_sexpr::specs::Bytes::is_word_sign))]
+fn kind_of(step: &Step) -> &'static [u8]
+    ensures value { result.now ≡ kind_word step.now }
+    ensures word { All IsWordByte result.now }
+{
+    match step {
+        Step::Take { .. } => b"take",
+        Step::Drop { .. } => b"drop",
+        Step::Fall { .. } => b"fall",
+        Step::Void { .. } => b"void",
+        Step::Get { .. } => b"get",
+        Step::Set { .. } => b"set",
+        Step::Skip { .. } => b"skip",
+        Step::Send { .. } => b"send",
+        Step::New { .. } => b"new",
+        Step::Stabilize { .. } => b"stabilize",
+        Step::Ask { .. } => b"ask",
+        Step::Checkpoint { .. } => b"checkpoint",
+        Step::Hold { .. } => b"hold",
+        Step::Rollback { .. } => b"rollback",
+        Step::Stay { .. } => b"stay",
+        Step::Done { .. } => b"done",
+        Step::Trap { .. } => b"trap",
+        Step::Fail { .. } => b"fail",
+        Step::Lose { .. } => b"lose",
+        Step::Echo { .. } => b"echo",
+        Step::Heed { .. } => b"heed",
+        Step::Repeat { .. } => b"repeat",
+    }
+}
+
+/// Adds the items of a step's form after its word, each behind a space.
+fn add_items(out: &mut Vec<u8>, opening: &Opening, made: u32, step: &Step) -> Result<(), AllocError>
+    requires { AreNames opening.now.names }
+    ensures text { OnOk result (out.new.items ≡ out.old.items ++ print_rest (tree.inside (item_forms opening.now made step.now))) }
+    ensures bytes { OnOk result (AllHaveBytes (tree.inside (item_forms opening.now made step.now))) }
+    ensures value { OnOk result (ValueIsWritten opening.now step.now) }
+{
+    match step {
+        Step::Take { who, message }
+        | Step::Drop { who, message }
+        | Step::Fall { who, message }
+        | Step::Void { who, message }
+        | Step::Heed { who, message } => {
+            add_name(out, &opening.names, *who)?;
+            add_count(out, *message)
+        }
+        Step::Set { who, value } => {
+            add_name(out, &opening.names, *who)?;
+            add_value(out, &opening.names, value)
+        }
+        Step::Send { who, to, value } => {
+            add_name(out, &opening.names, *who)?;
+            add_count(out, made)?;
+            add_name(out, &opening.names, *to)?;
+            add_value(out, &opening.names, value)
+        }
+        Step::New {
+            who,
+            behaviour,
+            node,
+            state,
+        } => {
+            add_name(out, &opening.names, *who)?;
+            add_count(out, made)?;
+            add_name(out, &opening.behaviours, *behaviour)?;
+            add_count(out, *node)?;
+            add_value(out, &opening.names, state)
+        }
+        Step::Ask { who, answer } => {
+            add_name(out, &opening.names, *who)?;
+            add_truth(out, *answer)
+        }
+        Step::Trap { who, code } => {
+            add_name(out, &opening.names, *who)?;
+            add_count(out, u32::from(*code))
+        }
+        Step::Lose { message } => add_count(out, *message),
+        Step::Echo { who, message } => {
+            add_name(out, &opening.names, *who)?;
+            add_count(out, made)?;
+            add_count(out, *message)
+        }
+        Step::Repeat { message } => {
+            add_count(out, made)?;
+            add_count(out, *message)
+        }
+        Step::Get { who }
+        | Step::Skip { who }
+        | Step::Stabilize { who }
+        | Step::Checkpoint { who }
+        | Step::Hold { who }
+        | Step::Rollback { who }
+        | Step::Stay { who }
+        | Step::Done { who }
+        | Step::Fail { who } => add_name(out, &opening.names, *who),
+    }
+}
+
+/// Adds a space and the name at a number, or the number where the list has none.
+fn add_name(out: &mut Vec<u8>, names: &Names, number: u32) -> Result<(), AllocError>
+    ensures text { OnOk result (out.new.items ≡ out.old.items ++ 32 ∷ name_written names.now number) }
+    ensures bytes { OnOk result (All IsWordByte (name_written names.now number)) }
+{
+    out.push(b' ')?;
+    put_name(out, names, number)
+}
+
+/// Adds a space and a number.
+fn add_count(out: &mut Vec<u8>, count: u32) -> Result<(), AllocError>
+    ensures text { OnOk result (out.new.items ≡ out.old.items ++ 32 ∷ decimal count) }
+    ensures bytes { OnOk result (All IsWordByte (decimal count)) }
+{
+    out.push(b' ')?;
+    put_count(out, count)
+}
+
+/// Adds a space and a truth.
+fn add_truth(out: &mut Vec<u8>, truth: bool) -> Result<(), AllocError>
+    ensures text { OnOk result (out.new.items ≡ out.old.items ++ 32 ∷ print_of (truth_form truth)) }
+    ensures bytes { OnOk result (HasBytes (truth_form truth)) }
+{
+    out.push(b' ')?;
+    put_truth(out, truth)
+}
+
+/// Adds a space and a value.
+fn add_value(out: &mut Vec<u8>, names: &Names, value: &Value) -> Result<(), AllocError>
+    requires { AreNames names.now }
+    ensures text { OnOk result (out.new.items ≡ out.old.items ++ 32 ∷ print_of (written names.now (val_of value.now))) }
+    ensures bytes { OnOk result (HasBytes (written names.now (val_of value.now))) }
+    ensures value { OnOk result (IsWritten names.now value.now) }
+{
+    out.push(b' ')?;
+    put_value(out, value, names)
+}
