@@ -2,6 +2,7 @@
 ghost use Rattle.std.specs.Prelude.{◌≤◌, IfOk};
 
 use crate::ended::Ended;
+use std::alloc::Allocator;
 use std::env;
 use std::rt::Env;
 
@@ -22,30 +23,38 @@ pub fn read_numbers<R: Env + Alloc>(rt: &R) -> Result<Numbers, Ended>
     ensures steps { IfOk result (λ n. n.steps ≤ 200000) }
 {
     let mut words = env::args(rt).map_err(|_| Ended::NoMemory)?.skip(1);
-    let (Some(workers), Some(jobs), Some(seed), Some(steps), None) = (
-        words.next(),
-        words.next(),
-        words.next(),
-        words.next(),
-        words.next(),
-    ) else {
-        return Err(Ended::Words);
-    };
+    let workers = number_within(words.next(), 1, 32)?;
+    let jobs = number_within(words.next(), 1, 16)?;
+    let seed = number_of(words.next())?;
+    let steps = number_within(words.next(), 0, 200_000)?;
     Ok(Numbers {
-        workers: number_within(workers.as_str(), 1, 32)?,
-        jobs: number_within(jobs.as_str(), 1, 16)?,
-        seed: seed.as_str().parse::<u64>().map_err(|_| Ended::Words)?,
-        steps: number_within(steps.as_str(), 0, 200_000)?,
+        workers,
+        jobs,
+        seed,
+        steps,
     })
 }
 
 /// The number that a word spells, which is within these two.
-fn number_within(word: &str, least: u32, most: u32) -> Result<u32, Ended>
+fn number_within<A: Allocator + Drop>(
+    word: Option<String<A>>,
+    least: u32,
+    most: u32,
+) -> Result<u32, Ended>
     ensures least { IfOk result (λ n. least ≤ n) }
     ensures most { IfOk result (λ n. n ≤ most) }
 {
-    match word.parse::<u32>() {
+    let number = number_of(word)?;
+    match u32::try_from(number) {
         Ok(number) if least <= number && number <= most => Ok(number),
         _ => Err(Ended::Words),
+    }
+}
+
+/// The number that a word spells.
+fn number_of<A: Allocator + Drop>(word: Option<String<A>>) -> Result<u64, Ended> {
+    match word {
+        Some(word) => word.as_str().parse::<u64>().map_err(|_| Ended::Words),
+        None => Err(Ended::Words),
     }
 }
