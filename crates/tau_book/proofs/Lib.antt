@@ -11,3 +11,4 @@ pub mod Choices
 pub mod HandsLeft
 pub mod AdoptLemmas
 pub mod FirstJobs
+pub mod Knowing

@@ -7,6 +7,7 @@ pub mod Tolds
 pub mod Adopted
 pub mod Laws
 pub mod Places
+pub mod Knowing
 pub mod Lefts
 pub mod Working
 pub mod Beginnings

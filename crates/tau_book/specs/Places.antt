@@ -29,6 +29,11 @@ abbrev pub LeavesRoom : Held → Next → Type 0
 LeavesRoom h (nexts.Work job) = length h.jobs < h.size
 LeavesRoom h answer = Unit {0}
 
+-- a job that is handed out is one for which something vouches
+abbrev pub IsVouched : (TurnSoFar → Type 0) → Next → Type 0
+IsVouched Vouches (nexts.Work job) = Vouches job
+IsVouched Vouches answer = Unit {0}
+
 -- an effect that comes back is the one that was brought, and the hand is as it was; where another job is the record of the turn, a
 -- job has joined the hand
 abbrev pub ComesBack : Held → Held → TurnSoFar → Told → Type 0

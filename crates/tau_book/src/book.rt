@@ -7,6 +7,7 @@ ghost use Rattle.tau_trace.specs.Run.{len};
 ghost use Rattle.tau_trace.specs.Known.{WellFormed};
 ghost use Rattle.tau_legal.specs.Traces.{Legal};
 ghost use Rattle.tau_rules.specs.Answers.{IsOpenJob, IsUnacted, acted_by};
+ghost use Rattle.tau_rules.specs.KnownJobs.{WasOpenJob};
 ghost use Rattle.tau_book.specs.Books.{IsBook, IsComplete, IsAtLimit, GoesOn};
 ghost use Rattle.tau_scripted.specs.Flight.{IsDeliverable};
 ghost use Rattle.tau_book.specs.Offers.{OffersMore};
@@ -185,7 +186,7 @@ impl<'p, K: Knowledge + Drop> Book<'p, K> {
     }
 
     /// Whether there is a returned job.
-    fn has_returned(&self) -> bool
+    pub fn has_returned(&self) -> bool
         ensures { IsTrue result ↔ (self.now.store ≢ []) }
     {
         !self.store.is_empty()
@@ -281,6 +282,88 @@ impl<'p, K: Knowledge + Drop> Book<'p, K> {
         self.scripted.act(pending)
     }
 
+    /// `act` of a job that was the record of an open turn at some moment of the book's run (docs/rules.md, "Seats"). It answers the same,
+    /// and compares the job with no record that has as many replies.
+    pub fn act_known(
+        &mut self,
+        hand: &mut Hand<'p>,
+        pending: Pending<'p>,
+    ) -> Result<Told<'p>, (Pending<'p>, AllocError)>
+        requires room { length hand.old.jobs < hand.old.size }
+        requires known { WasOpenJob self.old.system.program self.old.system.run pending }
+        ensures ok { IfOk result (IsTold self.old self.new hand.old hand.new pending.entry) }
+        ensures was_book { IsBook self.old }
+        ensures is_book { IsBook self.new }
+        ensures later { IfOk result (ComesBack hand.old hand.new pending.entry) }
+        ensures size { hand.new.size ≡ hand.old.size }
+        ensures pending_on_err { IfErr result (λ e. e.0 ≡ pending.entry) }
+        ensures book_on_err { OnErr result (self.new ≡ self.old) }
+        ensures hand_on_err { OnErr result (hand.new ≡ hand.old) }
+    {
+        // What holds of the book before and after.
+        let _before = self.system();
+        let told = self.tell_known(hand, pending)?;
+        let _after = self.system();
+        Ok(told)
+    }
+
+    /// The answer of `act_known`.
+    fn tell_known(
+        &mut self,
+        hand: &mut Hand<'p>,
+        pending: Pending<'p>,
+    ) -> Result<Told<'p>, (Pending<'p>, AllocError)>
+        requires room { length hand.old.jobs < hand.old.size }
+        requires known { WasOpenJob self.old.system.program self.old.system.run pending }
+        ensures ok { IfOk result (IsTold self.old self.new hand.old hand.new pending.entry) }
+        ensures later { IfOk result (ComesBack hand.old hand.new pending.entry) }
+        ensures size { hand.new.size ≡ hand.old.size }
+        ensures pending_on_err { IfErr result (λ e. e.0 ≡ pending.entry) }
+        ensures book_on_err { OnErr result (self.new ≡ self.old) }
+        ensures hand_on_err { OnErr result (hand.new ≡ hand.old) }
+    {
+        if self.is_at_limit() {
+            return Ok(Told::Stopped);
+        }
+        match self.make_due() {
+            Ok(true) => Ok(Told::Later(pending)),
+            Ok(false) => self.make_known(hand, pending),
+            Err(failed) => Err((pending, failed)),
+        }
+    }
+
+    /// Makes the step of an effect of a job that was the record of an open turn; none of the script is due.
+    fn make_known(
+        &mut self,
+        hand: &mut Hand<'p>,
+        pending: Pending<'p>,
+    ) -> Result<Told<'p>, (Pending<'p>, AllocError)>
+        requires room { length hand.old.jobs < hand.old.size }
+        requires goes_on { GoesOn self.old }
+        requires known { WasOpenJob self.old.system.program self.old.system.run pending }
+        ensures ok { IfOk result (IsTold self.old self.new hand.old hand.new pending.entry) }
+        ensures later { IfOk result (ComesBack hand.old hand.new pending.entry) }
+        ensures size { hand.new.size ≡ hand.old.size }
+        ensures pending_on_err { IfErr result (λ e. e.0 ≡ pending.entry) }
+        ensures book_on_err { OnErr result (self.new ≡ self.old) }
+        ensures hand_on_err { OnErr result (hand.new ≡ hand.old) }
+    {
+        if self.is_open_still(&pending) {
+            self.bring_open(hand, pending)?;
+            Ok(Told::Stepped)
+        } else {
+            self.make(hand, pending)
+        }
+    }
+
+    /// Whether a job that was the record of an open turn is it still.
+    fn is_open_still(&self, pending: &Pending<'p>) -> bool
+        requires { WasOpenJob self.now.system.program self.now.system.run pending.now }
+        ensures { IsTrue result ↔ IsOpenJob self.now.system.program self.now.system.run pending.now }
+    {
+        self.system().is_open_still(pending)
+    }
+
     /// `act` where the book goes on and the job is known to be the record of an open turn, so nothing is compared: the step of the
     /// effect is appended, and where the turn goes on, the job with the reply joins the hand, which has room. The error is want of
     /// memory, and nothing is different then.
@@ -318,13 +401,35 @@ impl<'p, K: Knowledge + Drop> Book<'p, K> {
         ensures book_on_err { OnErr result (self.new ≡ self.old) }
         ensures hand_on_err { OnErr result (hand.new ≡ hand.old) }
     {
+        match self.bring_open(hand, pending) {
+            Ok(()) => Ok(()),
+            Err((_pending, failed)) => Err(failed),
+        }
+    }
+
+    /// The same; without memory the effect comes back.
+    fn bring_open(
+        &mut self,
+        hand: &mut Hand<'p>,
+        pending: Pending<'p>,
+    ) -> Result<(), (Pending<'p>, AllocError)>
+        requires room { length hand.old.jobs < hand.old.size }
+        requires goes_on { GoesOn self.old }
+        requires is_open { IsOpenJob self.old.system.program self.old.system.run pending }
+        ensures ok { OnOk result (IsTurnStep self.old self.new hand.old hand.new pending.entry) }
+        ensures limit { self.new.limit ≡ self.old.limit }
+        ensures size { hand.new.size ≡ hand.old.size }
+        ensures pending_on_err { IfErr result (λ e. e.0 ≡ pending.entry) }
+        ensures book_on_err { OnErr result (self.new ≡ self.old) }
+        ensures hand_on_err { OnErr result (hand.new ≡ hand.old) }
+    {
         match self.try_open(&pending) {
             Ok(Some(reply)) => {
                 hand.keep(pending.resume(reply));
                 Ok(())
             }
             Ok(None) => Ok(()),
-            Err(failed) => Err(failed),
+            Err(failed) => Err((pending, failed)),
         }
     }
 

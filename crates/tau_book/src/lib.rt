@@ -24,7 +24,7 @@ pub use beginnings::{adopted_has_all_jobs, opened_has_all_jobs, opened_is_at_wor
 pub use book::Book;
 pub use gates::{Gate, OpenGate};
 pub use hand::Hand;
-pub use laws::{adopted_is_not_idle, serial_run_is_unique};
+pub use laws::{adopted_is_not_idle, known_jobs_are_handed_on, serial_run_is_unique};
 pub use limits::JOB_LIMIT;
 pub use place::StepPlace;
 pub use ran::Ran;

@@ -3,7 +3,7 @@ use Rattle.tau_value.specs.declared.shared.Value.{Value}
 use Rattle.tau_rules.specs.Answers.{acted_by}
 use Rattle.tau_book.specs.Hands.{joined}
 use Rattle.tau_book.specs.Tolds.{IsTried, goes_on, is_over}
-use Rattle.tau_book.proofs.book.Book.make_open.Goals as goal
+use Rattle.tau_book.proofs.book.Book.bring_open.Goals as goal
 
 pub returns-in-Ok-Some-clause-ok : goal.returns-in-Ok-Some-clause-ok
 returns-in-Ok-Some-clause-ok g c =
