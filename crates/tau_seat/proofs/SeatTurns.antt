@@ -58,6 +58,10 @@ book_at id k v steps b h key its =
       run_is = λ i. record { opening = (h.legal.opening ∙ ap program_opening program) i; steps = its i };
     }
 
+-- the book that is out has in its turn the steps that the seat had seen, and then others'
+pub book_taken : (id : TableId) (k : Key) (m n : Me (Option Booked) (SeatView Key Step)) (b : Booked) → IsSeat k m → (t : Takes key_of steps_of IsSound m.0 b n) → IsBook b → IsBookAt (seated id k m.0) (m.0.seen ++ t.3.0) b
+book_taken id k m n b s t is_b = book_at id k m.0 (m.0.seen ++ t.3.0) b is_b (key_named k m.0.names (key_of b) k t.4 s.named) (t.5 ∙ ap bare t.3.1)
+
 module _ (id id' : TableId) (k : Key) (m : Me (Option Booked) (SeatView Key Step)) (b c : Booked) (n p : Me (Option Booked) (SeatView Key Step)) where
   -- after the turn the seat has made a step, or none
   pub seat_grows : (g : Bool) → IsSeat k m → Takes key_of steps_of IsSound m.0 b n
@@ -101,7 +105,7 @@ module _ (id id' : TableId) (k : Key) (m : Me (Option Booked) (SeatView Key Step
         others = t.3.0;
         before = b;
         after = c;
-        before_is = book_at id k m.0 (m.0.seen ++ t.3.0) b is_b key (t.5 ∙ ap bare t.3.1);
+        before_is = book_taken id k m n b s t is_b;
         after_is = book_at id k m.0 p.0.seen c is_c (same_key g b c a ∙ key) (its_steps g t a grew stayed);
         called = called;
       }
@@ -134,7 +138,7 @@ pub each_ok : {A E : Type 0} (r : Result A E) (P Q : A → Type 0) → ((a : A) 
 each_ok (Ok a) P Q f h = f a h
 each_ok (Err e) P Q f h = tt
 
-core_at : (old new : Seated) (b : Booked) → new.program ≡ old.program → IsBookAt old new.seen b → b.system ≡ record { program = new.program; run = seen_run new }
+pub core_at : (old new : Seated) (b : Booked) → new.program ≡ old.program → IsBookAt old new.seen b → b.system ≡ record { program = new.program; run = seen_run new }
 core_at old new b p at = λ i. record { program = (at.program_is ∙ sym p) i; run = (at.run_is ∙ ap (λ P. run_of P (bare new.seen)) (sym p)) i }
 
 pub grows_begin : (g : Bool) (old new : Seated) → Grows g old new → Begins old.seen new.seen

@@ -1,5 +1,5 @@
 -- What contracts see of a seat as a worker's place.
-use Rattle.std.specs.Prelude.{◌≡◌, ◌<◌, ◌≤◌, ℕ, Bool, true, false, List, Option, Some, None, length, map}
+use Rattle.std.specs.Prelude.{◌≡◌, ◌<◌, ◌≤◌, ℕ, Bool, true, false, IsTrue, List, Option, Some, None, length, map}
 use Rattle.atomic_table.specs.Seated.{TableId}
 use Rattle.tau_tree.specs.declared.programs.Program.{Program}
 use Rattle.tau_trace.specs.declared.step.Step.{Step}
@@ -14,6 +14,7 @@ use Rattle.tau_book.specs.Places.{End, complete, stopped}
 use Rattle.tau_seat.specs.Lists.{bare, Begins}
 use Rattle.tau_seat.specs.Keys.{run_of}
 use Rattle.tau_seat.specs.Seated.{Seated, seen_run}
+use Rattle.tau_seat.specs.Knowing.{IsSeenOpen}
 
 -- the end of a run: whether it is complete
 abbrev pub end_of : Option Bool → Option End
@@ -21,10 +22,11 @@ end_of None = None
 end_of (Some true) = Some complete
 end_of (Some false) = Some stopped
 
--- the seat, and the end that it was told
+-- the seat, the end that it was told, and whether no job had come back to the book whenever it asked for one
 pub record Placed : Type 0 where
   pub seat : Seated
   pub is_complete : Option Bool
+  pub knows : Bool
 
 -- what no call changes: the table, the numbers, the program and the limit
 pub record PlaceKey : Type 0 where
@@ -58,3 +60,7 @@ completeness_told nexts.Stopped = Some false
 completeness_told (nexts.Idle out) = None
 completeness_told (nexts.Work job) = None
 completeness_told nexts.Stepped = None
+
+-- if no job had come back, the job was the record of an open turn in the run that its seat has seen
+abbrev pub Vouches : Placed → TurnSoFar → Type 0
+Vouches p job = IsTrue p.knows → IsSeenOpen p.seat job

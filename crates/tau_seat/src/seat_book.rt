@@ -1,12 +1,13 @@
 //! The step book with seats.
-ghost use Rattle.std.specs.Prelude.{◌≡◌, ◌≤◌, ◌<◌, ℕ, ◌+◌, [], ◌++◌, IfOk, IfErr, OnErr, length, take, drop, All};
+ghost use Rattle.std.specs.Prelude.{◌≡◌, ◌≤◌, ◌<◌, ℕ, ◌+◌, [], ◌++◌, IsTrue, IfOk, IfErr, OnErr, length, take, drop, All};
 ghost use Rattle.tau_book.specs.Nexts.{IsNext};
 ghost use Rattle.tau_book.specs.Tolds.{IsTold, IsGivenBack};
-ghost use Rattle.tau_book.specs.Places.{LeavesRoom, ComesBack};
+ghost use Rattle.tau_book.specs.Places.{LeavesRoom, IsVouched, ComesBack};
 ghost use Rattle.tau_seat.specs.Lists.{upto, times, bare, Begins, Behind};
 ghost use Rattle.tau_seat.specs.Plays.{longer, shorter, teller_of};
 ghost use Rattle.tau_seat.specs.Keys.{IsSound};
 ghost use Rattle.tau_seat.specs.Seated.{key_at, mine_of, Stays, Watches, Grows, IsBookAt, IsTurn, EndsWith};
+ghost use Rattle.tau_seat.specs.Knowing.{IsSeenOpen};
 ghost use Rattle.tau_seat.specs.Answers.{has_stepped, has_made};
 
 use crate::bell::{Bell, Idlers};
@@ -16,7 +17,7 @@ use crate::table::{Pass, SeatTable};
 use std::alloc::{AllocError, Global};
 use std::marker::Model;
 use std::sync::{MutexGuard, Wait};
-use tau_book::{Book, Hand, Next, Told};
+use tau_book::{Book, Hand, Next, Told, known_jobs_are_handed_on};
 use tau_eval::Pending;
 use tau_knowledge::Knowledge;
 
@@ -154,7 +155,8 @@ impl<'p, K: Knowledge + Drop> SeatBook<'p, K> {
         ensures hand_on_err { OnErr result (hand.new ≡ hand.old) }
     {
         let mut idlers = self.bell.enter(rt);
-        self.next_entered(rt, &mut idlers, seat, hand)
+        let mut knows = false;
+        self.next_entered(rt, &mut idlers, seat, hand, &mut knows)
     }
 
     /// Waits until no other seat is between drawing its ticket and giving up its turn.
@@ -162,13 +164,15 @@ impl<'p, K: Knowledge + Drop> SeatBook<'p, K> {
         self.bell.enter(rt)
     }
 
-    /// `next` of a seat that has entered.
+    /// `next` of a seat that has entered. Where its jobs were known to be records of open turns, they are so on, and what it is handed out is,
+    /// unless a job had come back to the book.
     pub(crate) fn next_entered<R: Wait>(
         &self,
         rt: &R,
         idlers: &mut Idlers,
         seat: &mut BookSeat<'p, K>,
         hand: &mut Hand<'p>,
+        knows: &mut bool,
     ) -> Result<Next<'p>, AllocError>
         requires table { seat.old.table ≡ self.now.table }
         ensures stays { Stays seat.old seat.new }
@@ -180,8 +184,14 @@ impl<'p, K: Knowledge + Drop> SeatBook<'p, K> {
         ensures room { IfOk result (LeavesRoom hand.new) }
         ensures size { hand.new.size ≡ hand.old.size }
         ensures hand_on_err { OnErr result (hand.new ≡ hand.old) }
+        ensures knew { IsTrue knows.new → IsTrue knows.old }
+        ensures known { IsTrue knows.new → All (IsSeenOpen seat.old) hand.old.jobs → All (IsSeenOpen seat.new) hand.new.jobs }
+        ensures work { IsTrue knows.new → All (IsSeenOpen seat.old) hand.old.jobs → IfOk result (IsVouched (IsSeenOpen seat.new)) }
     {
+        // What is known of the jobs afterwards.
+        known_jobs_are_handed_on();
         let mut book = self.table.take(rt, &mut seat.pass);
+        *knows = knows_still(*knows, &book);
         let answer = book.next(hand);
         let offers_more = book.offers_more();
         let grew = has_stepped(&answer);
@@ -214,6 +224,38 @@ impl<'p, K: Knowledge + Drop> SeatBook<'p, K> {
         let _idlers = self.bell.enter(rt);
         let mut book = self.table.take(rt, &mut seat.pass);
         let answer = book.act(hand, pending);
+        let grew = has_made(&answer);
+        self.table.put_back(&mut seat.pass, book, grew);
+        answer
+    }
+
+    /// `act` of the book in the seat's turn, for which it waits, where it is known that the job was the record of an open turn at some moment of
+    /// the run that the seat has seen (docs/rules.md, "Seats"). It answers the same, and compares the job with no record that has as many replies.
+    pub fn act_known<R: Wait>(
+        &self,
+        rt: &R,
+        seat: &mut BookSeat<'p, K>,
+        hand: &mut Hand<'p>,
+        pending: Pending<'p>,
+    ) -> Result<Told<'p>, (Pending<'p>, AllocError)>
+        requires table { seat.old.table ≡ self.now.table }
+        requires room { length hand.old.jobs < hand.old.size }
+        requires known { IsSeenOpen seat.old pending }
+        ensures stays { Stays seat.old seat.new }
+        ensures sound { IsSound (key_at seat.new) (bare seat.new.seen) }
+        ensures prefix { Begins seat.old.seen seat.new.seen }
+        ensures step { Grows (has_made result) seat.old seat.new }
+        ensures answer { IfOk result (λ a. IsTurn seat.old seat.new (λ b c. IsTold b c hand.old hand.new pending.entry a)) }
+        ensures later { IfOk result (ComesBack hand.old hand.new pending.entry) }
+        ensures size { hand.new.size ≡ hand.old.size }
+        ensures pending_on_err { IfErr result (λ e. e.0 ≡ pending.entry) }
+        ensures hand_on_err { OnErr result (hand.new ≡ hand.old) }
+    {
+        let _idlers = self.bell.enter(rt);
+        let mut book = self.table.take(rt, &mut seat.pass);
+        // What holds of the book.
+        let _system = book.system();
+        let answer = book.act_known(hand, pending);
         let grew = has_made(&answer);
         self.table.put_back(&mut seat.pass, book, grew);
         answer
@@ -279,6 +321,15 @@ impl<'p, K: Knowledge + Drop> SeatBook<'p, K> {
         let _system = book.system();
         book
     }
+}
+
+/// Whether jobs are known on: they were, and none has come back to the book.
+fn knows_still<K: Knowledge + Drop>(knows: bool, book: &Book<'_, K>) -> bool
+    ensures knew { IsTrue result → IsTrue knows }
+    ensures none_back { IsTrue result → book.now.store ≡ [] }
+{
+    let has_returned = book.has_returned();
+    knows && !has_returned
 }
 
 /// Whether a step was appended.

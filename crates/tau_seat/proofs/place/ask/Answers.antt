@@ -17,6 +17,8 @@ loop-init g c = record {
   prefix = begins_itself c.args.seat.now.seen;
   watches = watches_itself c.args.seat.now;
   size = refl;
+  knew = λ e. e;
+  known = λ e all. all;
   left = all_left (IsSeenOver c.args.seat.now c.args.seat.now) c.args.hand.now;
 }
 
@@ -36,6 +38,8 @@ loop-preserved g c =
       prefix = seen;
       watches = idle_watches first before after c.in_ok-answer.answer c.in-Idle.out c.loop.invariant.stays.numbers_are c.in-Idle.is c.loop.invariant.watches c.in_ok-answer.ensures.step;
       size = c.next_entered.ensures.size ∙ c.loop.invariant.size;
+      knew = λ e. c.loop.invariant.knew (c.next_entered.ensures.knew e);
+      known = λ e all. c.next_entered.ensures.known e (c.loop.invariant.known (c.next_entered.ensures.knew e) all);
       left =
           idle_left (IsSeenOver first after) turn.before turn.after c.args.hand.now c.loop.hand c.next_entered.new.hand c.in_ok-answer.answer c.in-Idle.out turn.called c.in-Idle.is (over_now first after turn.after.system.run run_is seen)
           (seen_left first before after c.args.hand.now c.loop.hand same.program_is c.next_entered.ensures.prefix c.loop.invariant.left);
@@ -58,3 +62,18 @@ pub returns-in_err-answer-clause-step : goal.returns-in_err-answer-clause-step
 returns-in_err-answer-clause-step g c =
     err_watches c.from_residual.result c.args.seat.now c.next_entered.new.seat c.from_residual.ensures.0
     (grows_longer false c.args.seat.now c.loop.seat c.next_entered.new.seat c.loop.invariant.stays.numbers_are c.loop.invariant.watches c.in_err-answer.ensures.step)
+
+pub returns-in_default-clause-knew : goal.returns-in_default-clause-knew
+returns-in_default-clause-knew g c = λ e. c.loop.invariant.knew (c.next_entered.ensures.knew e)
+
+pub returns-in_default-clause-known : goal.returns-in_default-clause-known
+returns-in_default-clause-known g c = λ e all. c.next_entered.ensures.known e (c.loop.invariant.known (c.next_entered.ensures.knew e) all)
+
+pub returns-in_err-answer-clause-knew : goal.returns-in_err-answer-clause-knew
+returns-in_err-answer-clause-knew g c = λ e. c.loop.invariant.knew (c.next_entered.ensures.knew e)
+
+pub returns-in_err-answer-clause-known : goal.returns-in_err-answer-clause-known
+returns-in_err-answer-clause-known g c = λ e all. c.next_entered.ensures.known e (c.loop.invariant.known (c.next_entered.ensures.knew e) all)
+
+pub returns-in_default-clause-work : goal.returns-in_default-clause-work
+returns-in_default-clause-work g c = λ e all. c.in_ok-answer.ensures.work e (c.loop.invariant.known (c.next_entered.ensures.knew e) all)
