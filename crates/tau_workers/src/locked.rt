@@ -167,6 +167,9 @@ impl<'p, K: Knowledge + Drop + Send> StepPlace<'p> for &LockedBook<'p, K> {
     // Of a book under a lock nobody sees the trace, so of the jobs that are given up nothing is told.
     ghost sees_over = { λ _ _ _. Unit {0} };
 
+    // And each job that is brought is compared with its record.
+    ghost vouches = { λ _ _. Unit {0} };
+
     fn next<R: Wait>(&mut self, rt: &R, hand: &mut Hand<'p>) -> Result<Next<'p>, AllocError> {
         self.desk.next(rt, hand)
     }

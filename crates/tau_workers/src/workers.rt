@@ -1,5 +1,5 @@
 //! Workers, each on a thread of its own.
-ghost use Rattle.std.specs.Prelude.{◌≡◌, ◌<◌, ℕ, [], IsSome, IsTrue, IsFalse, IfOk, OnErr, length, slice_index_or};
+ghost use Rattle.std.specs.Prelude.{◌≡◌, ◌<◌, ℕ, [], IsSome, IsTrue, IsFalse, IfOk, OnOk, OnErr, length, slice_index_or, All};
 ghost use Rattle.tau_book.specs.Hands.{joined};
 
 use std::alloc::AllocError;
@@ -64,12 +64,14 @@ impl<'p, P: StepPlace<'p>> Task for Worker<'p, P> {
 }
 
 impl<'p, P: StepPlace<'p>> Worker<'p, P> {
-    /// Works until the book answers `Complete` or `Stopped`, or memory is short. Then it gives its jobs back.
+    /// Works until the book answers `Complete` or `Stopped`, or memory is short. Then it gives its jobs back. What its hand held before it gives
+    /// back at first, since its place vouches only for what comes from the book.
     fn work_on<R: Wait, G: Gate>(&mut self, rt: &R, gate: &G)
         ensures number { self.new.number ≡ self.old.number }
         ensures key { P.key self.new.place ≡ P.key self.old.place }
         ensures end { IsTrue P.tells_end → IsFalse self.new.short → IsSome (P.end self.new.place) }
     {
+        self.begin_empty(rt);
         for _ in rt.forever() {
             match self.ask(rt, gate) {
                 Ok(true) => {}
@@ -83,11 +85,24 @@ impl<'p, P: StepPlace<'p>> Worker<'p, P> {
         unreachable!()
     }
 
+    /// Gives back the jobs that the hand has, if any.
+    fn begin_empty<R: Wait>(&mut self, rt: &R)
+        ensures number { self.new.number ≡ self.old.number }
+        ensures key { P.key self.new.place ≡ P.key self.old.place }
+        ensures empty { self.new.hand.jobs ≡ [] }
+    {
+        if self.hand.len() > 0 {
+            self.place.give_back(rt, &mut self.hand);
+        }
+    }
+
     /// Asks for something to do, and does it. `false` where the run has ended. The error is want of memory.
     fn ask<R: Wait, G: Gate>(&mut self, rt: &R, gate: &G) -> Result<bool, AllocError>
+        requires known { All (P.vouches self.old.place) self.old.hand.jobs }
         ensures number { self.new.number ≡ self.old.number }
         ensures key { P.key self.new.place ≡ P.key self.old.place }
         ensures end { IfOk result (λ goes_on. IsTrue P.tells_end → IsFalse goes_on → IsSome (P.end self.new.place)) }
+        ensures known { OnOk result (All (P.vouches self.new.place) self.new.hand.jobs) }
     {
         match self.place.next(rt, &mut self.hand)? {
             Next::Work(job) => {
@@ -108,8 +123,11 @@ impl<'p, P: StepPlace<'p>> Worker<'p, P> {
         job: Job<'p>,
     ) -> Result<(), AllocError>
         requires room { length self.old.hand.jobs < self.old.hand.size }
+        requires known { All (P.vouches self.old.place) self.old.hand.jobs }
+        requires job { P.vouches self.old.place job }
         ensures number { self.new.number ≡ self.old.number }
         ensures key { P.key self.new.place ≡ P.key self.old.place }
+        ensures known { OnOk result (All (P.vouches self.new.place) self.new.hand.jobs) }
         ensures kept { OnErr result (self.new.hand ≡ joined self.old.hand job.entry) }
     {
         let turn = job.turn();
@@ -129,8 +147,11 @@ impl<'p, P: StepPlace<'p>> Worker<'p, P> {
     /// job that came to it.
     fn bring<R: Wait>(&mut self, rt: &R, pending: Pending<'p>) -> Result<(), AllocError>
         requires room { length self.old.hand.jobs < self.old.hand.size }
+        requires known { All (P.vouches self.old.place) self.old.hand.jobs }
+        requires pending { P.vouches self.old.place pending }
         ensures number { self.new.number ≡ self.old.number }
         ensures key { P.key self.new.place ≡ P.key self.old.place }
+        ensures known { OnOk result (All (P.vouches self.new.place) self.new.hand.jobs) }
         ensures kept { OnErr result (self.new.hand ≡ joined self.old.hand pending.entry) }
     {
         let mut pending = pending;

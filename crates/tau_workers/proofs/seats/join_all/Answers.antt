@@ -12,7 +12,7 @@ loop-worker-preserved c =
     let left = c.pop-in-loop-worker.new.self.items in
     let items = c.in-Some.ensures.items in
     let parts = with_last t c.loop-worker.workers.items left w items was.ones in
-    let front : HasOne t (record { seat = c.seat_of-front.result; is_complete = w.place.is_complete }) = subst (λ s. IsSeatOf t s × (length s.numbers ≡ 1)) (sym c.seat_of-front.ensures) parts.1 in
+    let front : HasOne t (record { seat = c.seat_of-front.result; is_complete = w.place.is_complete; knows = w.place.knows }) = subst (λ s. IsSeatOf t s × (length s.numbers ≡ 1)) (sym c.seat_of-front.ensures) parts.1 in
     let names = c.join.ensures.names in
     record {
       ones = parts.0;
