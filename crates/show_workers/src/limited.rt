@@ -27,6 +27,8 @@ impl<'b, 'p> StepPlace<'p> for LimitedPlace<'b, 'p> {
 
     ghost sees_over = { λ _ _ _. Unit {0} };
 
+    ghost vouches = { λ _ _. Unit {0} };
+
     fn next<R: Wait>(&mut self, rt: &R, hand: &mut Hand<'p>) -> Result<Next<'p>, AllocError> {
         if self.answers == 0 {
             return Err(AllocError);
