@@ -1,6 +1,6 @@
 -- Jobs of a hand that were records of open turns, after each answer.
-use Rattle.std.proofs.Common.{◌≡◌, ⊎_elim, ℕ, ◌<◌, Bool, true, false, cond, eqb, Some, None, List, [], ◌∷◌, ◌++◌, length, All, get_or, refl, sym, ap, ◌∙◌, subst, arith, append-nil}
-use Rattle.std.specs.Prelude.{Result, Ok, Err, IfOk, nat_lt}
+use Rattle.std.proofs.Common.{◌≡◌, ⊎_elim, ℕ, Bool, true, false, cond, eqb, None, List, [], ◌∷◌, ◌++◌, length, All, get_or, sym, ap, ◌∙◌, subst, arith, append-nil}
+use Rattle.std.specs.Prelude.{nat_lt}
 use Rattle.std.specs.List.{Contains, list_any}
 use Rattle.std.specs.Option.{option_to_list}
 use Rattle.std.proofs.lemmas.List.Elements.{All-same, All-push, All-weaker, All-contains, All-filter, Contains-append_right, Contains-get_or}
@@ -15,30 +15,15 @@ use Rattle.tau_rules.specs.declared.answers.Delivered.TheVariants.{Began, Droppe
 use Rattle.tau_rules.specs.KnownJobs.{WasOpenJob}
 use Rattle.tau_rules.proofs.KnownJobs.{known_longer, open_known}
 use Rattle.tau_scripted.proofs.Members.{contains_here}
-use Rattle.tau_book.specs.declared.answers.Next.{Next}
 use Rattle.tau_book.specs.declared.answers.Next.TheVariants as nexts
-use Rattle.tau_book.specs.declared.answers.Told.{Told}
 use Rattle.tau_book.specs.declared.answers.Told.TheVariants as tolds
-use Rattle.tau_book.specs.Hands.{Held, joined, IsNumbered}
+use Rattle.tau_book.specs.Hands.{Held, IsNumbered}
 use Rattle.tau_book.specs.Books.{Booked}
 use Rattle.tau_book.specs.Offers.{open_jobs, earliest, jobs_with}
-use Rattle.tau_book.specs.Nexts.{IsNext, IsDueMade, IsHandedOut, IsReceived, begun_with}
-use Rattle.tau_book.specs.Tolds.{IsTold, IsTurnStep, goes_on, is_over}
-use Rattle.tau_book.specs.Places.{IsVouched}
-use Rattle.tau_book.specs.Knowing.{IsKnown, AreKnown, IsKnownWork, NextHandsOnKnown, ActHandsOnKnown}
+use Rattle.tau_book.specs.Nexts.{IsDueMade, IsHandedOut, IsReceived, begun_with}
+use Rattle.tau_book.specs.Tolds.{goes_on, is_over}
+use Rattle.tau_book.specs.Knowing.{IsKnown, AreKnown, NextHandsOnKnown, ActHandsOnKnown}
 use Rattle.tau_book.proofs.Chosen.{others_in}
-
--- where something vouches for every job, it vouches for the one that is handed out
-vouched_for_any : (V : TurnSoFar → Type 0) → ((job : TurnSoFar) → V job) → (answer : Next) → IsVouched V answer
-vouched_for_any V all nexts.Complete = tt
-vouched_for_any V all nexts.Stopped = tt
-vouched_for_any V all (nexts.Idle out) = tt
-vouched_for_any V all (nexts.Work job) = all job
-vouched_for_any V all nexts.Stepped = tt
-
-pub vouched_for_all : {E : Type 0} (V : TurnSoFar → Type 0) → ((job : TurnSoFar) → V job) → (r : Result Next E) → IfOk r (IsVouched V)
-vouched_for_all V all (Ok answer) = vouched_for_any V all answer
-vouched_for_all V all (Err e) = tt
 
 -- Jobs of lists.
 
