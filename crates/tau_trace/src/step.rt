@@ -7,7 +7,7 @@ use tau_value::Value;
 
 /// A step of a run (docs/rules.md, "Steps"). `who` is the transactor that makes it. An Echo, a Heed and a Repeat stand in
 /// version 2 alone.
-#[derive(Drop)]
+#[derive(Clone, Drop)]
 pub enum Step {
     Take {
         who: u32,
@@ -147,73 +147,6 @@ impl Step {
     pub fn copy(&self) -> Result<Step, AllocError>
         ensures { IfOk result (λ s. s ≡ self.now) }
     {
-        let copy = match self {
-            Step::Take { who, message } => Step::Take {
-                who: *who,
-                message: *message,
-            },
-            Step::Drop { who, message } => Step::Drop {
-                who: *who,
-                message: *message,
-            },
-            Step::Fall { who, message } => Step::Fall {
-                who: *who,
-                message: *message,
-            },
-            Step::Void { who, message } => Step::Void {
-                who: *who,
-                message: *message,
-            },
-            Step::Get { who } => Step::Get { who: *who },
-            Step::Set { who, value } => Step::Set {
-                who: *who,
-                value: value.copy()?,
-            },
-            Step::Skip { who } => Step::Skip { who: *who },
-            Step::Send { who, to, value } => Step::Send {
-                who: *who,
-                to: *to,
-                value: value.copy()?,
-            },
-            Step::New {
-                who,
-                behaviour,
-                node,
-                state,
-            } => {
-                Step::New {
-                    who: *who,
-                    behaviour: *behaviour,
-                    node: *node,
-                    state: state.copy()?,
-                }
-            }
-            Step::Stabilize { who } => Step::Stabilize { who: *who },
-            Step::Ask { who, answer } => Step::Ask {
-                who: *who,
-                answer: *answer,
-            },
-            Step::Checkpoint { who } => Step::Checkpoint { who: *who },
-            Step::Hold { who } => Step::Hold { who: *who },
-            Step::Rollback { who } => Step::Rollback { who: *who },
-            Step::Stay { who } => Step::Stay { who: *who },
-            Step::Done { who } => Step::Done { who: *who },
-            Step::Trap { who, code } => Step::Trap {
-                who: *who,
-                code: *code,
-            },
-            Step::Fail { who } => Step::Fail { who: *who },
-            Step::Lose { message } => Step::Lose { message: *message },
-            Step::Echo { who, message } => Step::Echo {
-                who: *who,
-                message: *message,
-            },
-            Step::Heed { who, message } => Step::Heed {
-                who: *who,
-                message: *message,
-            },
-            Step::Repeat { message } => Step::Repeat { message: *message },
-        };
-        Ok(copy)
+        self.clone()
     }
 }

@@ -1,7 +1,6 @@
 pub mod Code
 pub mod Expr
 pub mod Behaviour
-pub mod Stored
 pub mod Parts
 pub mod Sound
 pub mod Checks

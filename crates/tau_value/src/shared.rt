@@ -141,6 +141,16 @@ pub fn names_below(value: &Value, bound: u32) -> bool
     names_end(value) <= u64::from(bound)
 }
 
+impl Clone for Value {
+    ghost use Rattle.std.specs.Prelude.{◌≡◌};
+
+    ghost is_clone = { λ v w. w ≡ v };
+
+    fn clone(&self) -> Result<Value, AllocError> {
+        self.copy()
+    }
+}
+
 impl Value {
     /// An equal value, which shares what this one holds. The error is want of memory.
     pub fn copy(&self) -> Result<Value, AllocError>
