@@ -11,4 +11,4 @@ mod writing;
 
 pub use errors::StepError;
 pub use reading::steps_of;
-pub use writing::form_of_step;
+pub use writing::{form_of_step, word_of};

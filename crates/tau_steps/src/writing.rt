@@ -43,14 +43,14 @@ fn write_step(alloc: Global, opening: &Opening, made: u32, step: &Step) -> Resul
     ensures value { OnOk result (ValueIsWritten opening.now step.now) }
 {
     let mut forms = Forms::with_capacity(alloc, MOST_ITEMS)?;
-    forms.add(Form::Word(Word::of(alloc, kind_of(step))?))?;
+    forms.add(Form::Word(Word::of(alloc, word_of(step))?))?;
     add_items(alloc, &mut forms, opening, made, step)?;
     Ok(Form::List(forms))
 }
 
-/// The word that begins the form of a step.
+/// The word that begins the form of a step (docs/formats.md, "Steps").
 #[tactic(auto, using(tau_sexpr::proofs::Literals::word_literal), unfolding(tau_sexpr::specs::Bytes::is_word_byte, tau_sexpr::specs::Bytes::is_letter_or_digit, tau_sexpr::specs::Bytes::is_word_sign))]
-fn kind_of(step: &Step) -> &'static [u8]
+pub fn word_of(step: &Step) -> &'static [u8]
     ensures value { result.now ≡ kind_word step.now }
     ensures word { All IsWordByte result.now }
 {

@@ -8,11 +8,12 @@ ghost use Rattle.tau_value.specs.Names.{AreNames};
 ghost use Rattle.tau_value.specs.Value.{val_of};
 ghost use Rattle.tau_value.specs.Written.{name_written, written};
 ghost use Rattle.tau_trace.specs.Run.{len};
-ghost use Rattle.tau_steps.specs.StepForms.{kind_word, truth_form, item_forms, step_form, IsWritten, ValueIsWritten};
+ghost use Rattle.tau_steps.specs.StepForms.{truth_form, item_forms, step_form, IsWritten, ValueIsWritten};
 ghost use Rattle.tau_text.specs.Inner.Written.{AddsStep};
 
 use crate::values::{put_count, put_name, put_truth, put_value};
 use std::alloc::AllocError;
+use tau_steps::word_of;
 use tau_trace::{Opening, Step, Trace};
 use tau_value::{Names, Value};
 
@@ -39,41 +40,9 @@ fn put_line(out: &mut Vec<u8>, opening: &Opening, made: u32, step: &Step) -> Res
     ensures value { OnOk result (ValueIsWritten opening.now step.now) }
 {
     out.push(b'(')?;
-    out.extend_from_slice(kind_of(step))?;
+    out.extend_from_slice(word_of(step))?;
     add_items(out, opening, made, step)?;
     out.extend_from_slice(b")\n")
-}
-
-/// The word that begins the form of a step.
-#[tactic(auto, using(tau_sexpr::proofs::Literals::word_literal), unfolding(tau_sexpr::specs::Bytes::is_word_byte, tau_sexpr::specs::Bytes::is_letter_or_digit, tau_sexpr::specs::Bytes::is_word_sign))]
-fn kind_of(step: &Step) -> &'static [u8]
-    ensures value { result.now ≡ kind_word step.now }
-    ensures word { All IsWordByte result.now }
-{
-    match step {
-        Step::Take { .. } => b"take",
-        Step::Drop { .. } => b"drop",
-        Step::Fall { .. } => b"fall",
-        Step::Void { .. } => b"void",
-        Step::Get { .. } => b"get",
-        Step::Set { .. } => b"set",
-        Step::Skip { .. } => b"skip",
-        Step::Send { .. } => b"send",
-        Step::New { .. } => b"new",
-        Step::Stabilize { .. } => b"stabilize",
-        Step::Ask { .. } => b"ask",
-        Step::Checkpoint { .. } => b"checkpoint",
-        Step::Hold { .. } => b"hold",
-        Step::Rollback { .. } => b"rollback",
-        Step::Stay { .. } => b"stay",
-        Step::Done { .. } => b"done",
-        Step::Trap { .. } => b"trap",
-        Step::Fail { .. } => b"fail",
-        Step::Lose { .. } => b"lose",
-        Step::Echo { .. } => b"echo",
-        Step::Heed { .. } => b"heed",
-        Step::Repeat { .. } => b"repeat",
-    }
 }
 
 /// Adds the items of a step's form after its word, each behind a space.
