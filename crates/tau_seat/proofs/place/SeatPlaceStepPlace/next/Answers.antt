@@ -1,5 +1,4 @@
 use Rattle.std.proofs.Common.{◌∙◌, All, sym, subst}
-use Rattle.std.specs.Prelude.{IfOk}
 use Rattle.tau_eval.specs.Turn.{TurnSoFar}
 use Rattle.tau_book.specs.Places.{IsVouched}
 use Rattle.tau_book.specs.Lefts.{IsLeftOf}
