@@ -7,7 +7,7 @@ ghost use Rattle.tau_chains.specs.Inner.Distances.{same_point, HasNearer, IsNext
 
 use crate::distance::distances;
 use crate::nearest::{least_at, nearest_of};
-use crate::points::Points;
+use crate::places::Points;
 use crate::turned::Turned;
 use std::alloc::{AllocError, Global};
 use std::collections::HashMap;

@@ -1,5 +1,5 @@
 //! Lists of numbers.
-use tau_value::ItemList;
+use tau_lists::ItemList;
 
 /// A list of numbers.
 pub type Numbers = ItemList<u32>;

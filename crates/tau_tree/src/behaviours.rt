@@ -4,8 +4,8 @@ ghost use Rattle.std.specs.Prelude.{◌≡◌, ◌↔◌, IsTrue, IfOk};
 use crate::Expr;
 use std::alloc::AllocError;
 use std::marker::Model;
+use tau_lists::{Compare, Item, ItemList};
 use tau_sexpr::Word;
-use tau_value::{Item, ItemList};
 
 /// A behaviour: what transactors do with a message (docs/language.md).
 /// Contracts see it as its name and the plain data of its body.
@@ -50,7 +50,9 @@ impl Item for Behaviour {
     fn copied(&self) -> Result<Behaviour, AllocError> {
         self.copy()
     }
+}
 
+impl Compare for Behaviour {
     fn equals(&self, other: &Behaviour) -> bool {
         self.same(other)
     }

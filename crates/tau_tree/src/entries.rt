@@ -1,6 +1,6 @@
 //! Entries of the failure script.
 use std::alloc::AllocError;
-use tau_value::{Item, ItemList};
+use tau_lists::{Compare, Item, ItemList};
 
 /// What a script entry does: a node fails, a message is lost, or, in version 2, a message is repeated (docs/rules.md,
 /// "Scripts").
@@ -22,7 +22,9 @@ impl Item for Entry {
     fn copied(&self) -> Result<Entry, AllocError> {
         Ok(*self)
     }
+}
 
+impl Compare for Entry {
     fn equals(&self, other: &Entry) -> bool {
         self == other
     }

@@ -2,7 +2,8 @@
 ghost use Rattle.std.specs.Prelude.{◌≡◌, ◌↔◌, IsTrue, IfOk};
 
 use std::alloc::AllocError;
-use tau_value::{Item, ItemList, Value};
+use tau_lists::{Compare, Item, ItemList};
+use tau_value::Value;
 
 /// A post: a message that is in flight from the opening. The receiver is a start transactor, by its number
 /// (docs/formats.md, "Programs").
@@ -35,7 +36,9 @@ impl Item for Post {
     fn copied(&self) -> Result<Post, AllocError> {
         self.copy()
     }
+}
 
+impl Compare for Post {
     fn equals(&self, other: &Post) -> bool {
         self.same(other)
     }

@@ -2,8 +2,9 @@
 ghost use Rattle.std.specs.Prelude.{◌≡◌, ◌↔◌, IsTrue, IfOk};
 
 use std::alloc::AllocError;
+use tau_lists::{Compare, Item, ItemList};
 use tau_sexpr::Word;
-use tau_value::{Item, ItemList, Value};
+use tau_value::Value;
 
 /// A start transactor: its name, its behaviour and its node by their numbers, and its opening state
 /// (docs/formats.md, "Programs").
@@ -43,7 +44,9 @@ impl Item for Start {
     fn copied(&self) -> Result<Start, AllocError> {
         self.copy()
     }
+}
 
+impl Compare for Start {
     fn equals(&self, other: &Start) -> bool {
         self.same(other)
     }

@@ -3,7 +3,6 @@
 
 mod faults;
 mod limits;
-mod lists;
 mod name_list;
 mod number_words;
 mod printing;
@@ -12,7 +11,6 @@ mod shared;
 
 pub use faults::ValueError;
 pub use limits::{BEHAVIOUR_LIMIT, ENTRY_LIMIT, NODE_LIMIT, POST_LIMIT, START_LIMIT, STEP_LIMIT};
-pub use lists::{Item, ItemList};
 pub use name_list::{Names, is_name};
 pub use number_words::{count_of, integer_of, word_of_count, word_of_integer};
 pub use printing::form_of;

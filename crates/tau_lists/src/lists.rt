@@ -1,32 +1,12 @@
 //! Lists of items.
 ghost use Rattle.std.specs.Prelude.{◌≡◌, ◌↔◌, [], ◌∷◌, ◌++◌, length, slice_get, IsTrue, IfOk, IfErr, OnOk, option_copied};
 
+use crate::{Compare, Item};
 use std::alloc::{AllocError, Global};
 use std::marker::Model;
 
-/// What a list holds.
-pub trait Item: Drop + Sized {
-    /// An equal item. The error is want of memory.
-    fn copied(&self) -> Result<Self, AllocError>
-        ensures { IfOk result (λ i. i ≡ self.now) };
-
-    /// Whether two items are equal.
-    fn equals(&self, other: &Self) -> bool
-        ensures { IsTrue result ↔ (self.now ≡ other.now) };
-}
-
-impl Item for u32 {
-    fn copied(&self) -> Result<u32, AllocError> {
-        Ok(*self)
-    }
-
-    fn equals(&self, other: &u32) -> bool {
-        self == other
-    }
-}
-
 /// A list of items. Contracts see it as its list.
-#[derive(Drop)]
+#[derive(Debug, Drop)]
 pub struct ItemList<T: Item> {
     items: Vec<T>,
 }
@@ -50,6 +30,13 @@ impl<T: Item> ItemList<T> {
         ItemList {
             items: Vec::new(alloc),
         }
+    }
+
+    /// The list of these items.
+    pub fn from_vec(items: Vec<T>) -> ItemList<T>
+        ensures { result ≡ items.items }
+    {
+        ItemList { items }
     }
 
     /// Adds an item at the end. Without memory it comes back, and the list stays as it was.
@@ -101,7 +88,9 @@ impl<T: Item> ItemList<T> {
         }
         Ok(ItemList { items })
     }
+}
 
+impl<T: Compare> ItemList<T> {
     /// Whether two lists are equal.
     pub fn same(&self, other: &ItemList<T>) -> bool
         ensures { IsTrue result ↔ (self.now ≡ other.now) }
