@@ -1,10 +1,17 @@
 //! The numbers of `run`.
 ghost use Rattle.std.specs.Prelude.{◌≤◌, IfOk};
+ghost use Rattle.tau_book.specs.declared.limits.TheConstants.{JOB_LIMIT};
+ghost use Rattle.tau_value.specs.declared.limits.TheConstants.{STEP_LIMIT};
 
 use crate::ended::Ended;
 use std::alloc::Allocator;
 use std::env;
 use std::rt::Env;
+use tau_book::JOB_LIMIT;
+
+/// The most workers of a run, and the most steps (docs/limits.md).
+const WORKER_LIMIT: u32 = 32;
+const RUN_LIMIT: u32 = 200_000;
 
 /// The numbers of `run` (docs/formats.md, "Command line").
 #[derive(Clone, Copy)]
@@ -19,14 +26,14 @@ pub struct Numbers {
 pub fn read_numbers<R: Env + Alloc>(rt: &R) -> Result<Numbers, Ended>
     ensures workers { IfOk result (λ n. 1 ≤ n.workers) }
     ensures jobs { IfOk result (λ n. 1 ≤ n.jobs) }
-    ensures few { IfOk result (λ n. n.jobs ≤ 16) }
-    ensures steps { IfOk result (λ n. n.steps ≤ 200000) }
+    ensures few { IfOk result (λ n. n.jobs ≤ JOB_LIMIT) }
+    ensures steps { IfOk result (λ n. n.steps ≤ STEP_LIMIT) }
 {
     let mut words = env::args(rt).map_err(|_| Ended::NoMemory)?.skip(1);
-    let workers = number_within(words.next(), 1, 32)?;
-    let jobs = number_within(words.next(), 1, 16)?;
+    let workers = number_within(words.next(), 1, WORKER_LIMIT)?;
+    let jobs = number_within(words.next(), 1, JOB_LIMIT)?;
     let seed = number_of(words.next())?;
-    let steps = number_within(words.next(), 0, 200_000)?;
+    let steps = number_within(words.next(), 0, RUN_LIMIT)?;
     Ok(Numbers {
         workers,
         jobs,
