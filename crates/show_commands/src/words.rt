@@ -6,9 +6,7 @@ use tau_kept::{Command, Line, Words, read_words};
 pub(crate) fn words_of(alloc: Global, line: &str) -> Result<Words, AllocError> {
     let mut words = Words::new(alloc);
     for word in line.split_whitespace() {
-        if let Err((_line, error)) = words.push(Line::of(alloc, word)?) {
-            return Err(error);
-        }
+        words.add(Line::of(alloc, word)?)?;
     }
     Ok(words)
 }

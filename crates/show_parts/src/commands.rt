@@ -28,9 +28,7 @@ impl Part for Commands {
 fn words_of(alloc: Global, line: &str) -> Result<Words, AllocError> {
     let mut words = Words::new(alloc);
     for word in line.split_whitespace() {
-        if let Err((_word, failed)) = words.push(Line::of(alloc, word)?) {
-            return Err(failed);
-        }
+        words.add(Line::of(alloc, word)?)?;
     }
     Ok(words)
 }

@@ -127,9 +127,7 @@ fn add_ended(
 fn words_of(alloc: Global, line: &str) -> Result<Words, AllocError> {
     let mut words = Words::new(alloc);
     for word in line.split(' ') {
-        if let Err((_line, failed)) = words.push(Line::of(alloc, word)?) {
-            return Err(failed);
-        }
+        words.add(Line::of(alloc, word)?)?;
     }
     Ok(words)
 }

@@ -67,9 +67,7 @@ fn behaviour_names(alloc: Global, behaviours: &[Behaviour]) -> Result<Names, All
 {
     let mut names = Names::new(alloc);
     for behaviour in behaviours {
-        if let Err((_name, failed)) = names.push(behaviour.name.copy()?) {
-            return Err(failed);
-        }
+        names.add(behaviour.name.copy()?)?;
     }
     Ok(names)
 }
@@ -79,9 +77,7 @@ fn start_names(alloc: Global, starts: &[Start]) -> Result<Names, AllocError>
 {
     let mut names = Names::new(alloc);
     for start in starts {
-        if let Err((_name, failed)) = names.push(start.name.copy()?) {
-            return Err(failed);
-        }
+        names.add(start.name.copy()?)?;
     }
     Ok(names)
 }

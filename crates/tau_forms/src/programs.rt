@@ -109,10 +109,7 @@ fn add_behaviour(
         name: name.copy()?,
         body: build_expression(alloc, body, tables)?,
     };
-    match behaviours.push(behaviour) {
-        Ok(()) => Ok(()),
-        Err((_behaviour, failed)) => Err(failed),
-    }
+    behaviours.add(behaviour)
 }
 
 fn add_start(
@@ -130,10 +127,7 @@ fn add_start(
         node: number_meant(parts.node)?,
         state: value_meant(alloc, parts.state, &tables.starts)?,
     };
-    match starts.push(start) {
-        Ok(()) => Ok(()),
-        Err((_start, failed)) => Err(failed),
-    }
+    starts.add(start)
 }
 
 fn add_post(
@@ -149,10 +143,7 @@ fn add_post(
         to: number_of(&tables.starts, parts.to)?,
         value: value_meant(alloc, parts.value, &tables.starts)?,
     };
-    match posts.push(post) {
-        Ok(()) => Ok(()),
-        Err((_post, failed)) => Err(failed),
-    }
+    posts.add(post)
 }
 
 fn add_entry(script: &mut Script, parts: EntryParts<'_>) -> Result<(), AllocError>
@@ -166,10 +157,7 @@ fn add_entry(script: &mut Script, parts: EntryParts<'_>) -> Result<(), AllocErro
         FailureWord::Repeat => Failure::Repeat { message: number },
         FailureWord::Other => return Ok(()),
     };
-    match script.push(Entry { at, failure }) {
-        Ok(()) => Ok(()),
-        Err((_entry, failed)) => Err(failed),
-    }
+    script.add(Entry { at, failure })
 }
 
 /// What a form at the top defines, by its parts.

@@ -51,10 +51,8 @@ fn behaviours(alloc: Global) -> Result<Behaviours, AllocError>
         body: hop_body(alloc)?,
     };
     let mut behaviours = Behaviours::new(alloc);
-    match behaviours.push(behaviour) {
-        Ok(()) => Ok(behaviours),
-        Err((_behaviour, failed)) => Err(failed),
-    }
+    behaviours.add(behaviour)?;
+    Ok(behaviours)
 }
 
 fn starts(alloc: Global) -> Result<Starts, AllocError>
@@ -63,9 +61,7 @@ fn starts(alloc: Global) -> Result<Starts, AllocError>
     let mut starts = Starts::new(alloc);
     for number in 0..16 {
         let start = start(alloc, number)?;
-        if let Err((_start, failed)) = starts.push(start) {
-            return Err(failed);
-        }
+        starts.add(start)?;
     }
     Ok(starts)
 }
@@ -105,9 +101,7 @@ fn posts(alloc: Global, words: &mut Pcg32) -> Result<Posts, AllocError>
     let mut posts = Posts::new(alloc);
     for _place in 0..32u32 {
         let post = next_post(words);
-        if let Err((_post, failed)) = posts.push(post) {
-            return Err(failed);
-        }
+        posts.add(post)?;
     }
     Ok(posts)
 }
@@ -141,8 +135,5 @@ fn script(alloc: Global, words: &mut Pcg32) -> Result<Script, AllocError>
 fn add_entry(script: &mut Script, at: u32, failure: Failure) -> Result<(), AllocError>
     ensures { OnOk result (script.new ≡ script.old ++ record { at = at; failure = failure } ∷ []) }
 {
-    match script.push(Entry { at, failure }) {
-        Ok(()) => Ok(()),
-        Err((_entry, failed)) => Err(failed),
-    }
+    script.add(Entry { at, failure })
 }

@@ -94,9 +94,7 @@ fn collect_words<R: Env + Alloc>(rt: &R, alloc: Global) -> Result<Words, WordsEr
     let mut words = Words::new(alloc);
     for word in env::args(rt).map_err(words_error)?.skip(1) {
         let line = Line::of(alloc, word.as_str())?;
-        if let Err((_line, error)) = words.push(line) {
-            return Err(error.into());
-        }
+        words.add(line)?;
     }
     Ok(words)
 }

@@ -1,5 +1,5 @@
 //! Lists of items.
-ghost use Rattle.std.specs.Prelude.{◌≡◌, ◌↔◌, [], ◌∷◌, ◌++◌, length, slice_get, IsTrue, IfOk, IfErr, OnOk, option_copied};
+ghost use Rattle.std.specs.Prelude.{◌≡◌, ◌↔◌, [], ◌∷◌, ◌++◌, length, slice_get, IsTrue, IfOk, IfErr, OnOk, OnErr, option_copied};
 
 use crate::{Compare, Item};
 use std::alloc::{AllocError, Global};
@@ -47,6 +47,17 @@ impl<T: Item> ItemList<T> {
         match self.items.push(item) {
             Ok(()) => Ok(()),
             Err(failed) => Err((failed.value, AllocError)),
+        }
+    }
+
+    /// Adds an item at the end. Without memory it is dropped, and the list stays as it was.
+    pub fn add(&mut self, item: T) -> Result<(), AllocError>
+        ensures ok { OnOk result (self.new ≡ self.old ++ item ∷ []) }
+        ensures err { OnErr result (self.new ≡ self.old) }
+    {
+        match self.push(item) {
+            Ok(()) => Ok(()),
+            Err((_item, failed)) => Err(failed),
         }
     }
 

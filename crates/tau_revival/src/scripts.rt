@@ -45,22 +45,12 @@ fn place_of(script: &Script, steps: u32, entry: u32) -> usize
     }
 }
 
-/// Adds an entry at the end.
-fn push(script: &mut Script, entry: Entry) -> Result<(), AllocError>
-    ensures { OnOk result (script.new ≡ script.old ++ entry ∷ []) }
-{
-    match script.push(entry) {
-        Ok(()) => Ok(()),
-        Err((_, error)) => Err(error),
-    }
-}
-
 /// Adds entries at the end.
 fn push_all(script: &mut Script, items: &[Entry]) -> Result<(), AllocError>
     ensures { OnOk result (script.new ≡ script.old ++ items.now) }
 {
     for item in items {
-        push(script, *item)?;
+        script.add(*item)?;
     }
     Ok(())
 }
@@ -70,13 +60,10 @@ fn push_failing(script: &mut Script, nodes: u32, at: u32) -> Result<(), AllocErr
     ensures { OnOk result (script.new ≡ script.old ++ failing_nodes at nodes) }
 {
     for node in 0..nodes {
-        push(
-            script,
-            Entry {
-                at,
-                failure: Failure::Fail { node },
-            },
-        )?;
+        script.add(Entry {
+            at,
+            failure: Failure::Fail { node },
+        })?;
     }
     Ok(())
 }

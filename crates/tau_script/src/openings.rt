@@ -1,11 +1,10 @@
 //! The opening of a program.
-ghost use Rattle.std.specs.Prelude.{◌≡◌, [], ◌∷◌, ◌++◌, map, IfOk, OnOk};
+ghost use Rattle.std.specs.Prelude.{◌≡◌, map, IfOk};
 ghost use Rattle.tau_tree.specs.Sound.{Sound};
 ghost use Rattle.tau_trace.specs.Known.{IsSound};
 ghost use Rattle.tau_script.specs.Openings.{program_opening};
 
 use std::alloc::{AllocError, Global};
-use tau_sexpr::Word;
 use tau_trace::{Numbers, Opening};
 use tau_tree::{Behaviour, Post, Program, Start};
 use tau_value::Names;
@@ -33,7 +32,7 @@ fn start_names(alloc: Global, starts: &[Start]) -> Result<Names, AllocError>
 {
     let mut names = Names::new(alloc);
     for start in starts {
-        add_name(&mut names, &start.name)?;
+        names.add(start.name.copy()?)?;
     }
     Ok(names)
 }
@@ -44,7 +43,7 @@ fn behaviour_names(alloc: Global, behaviours: &[Behaviour]) -> Result<Names, All
 {
     let mut names = Names::new(alloc);
     for behaviour in behaviours {
-        add_name(&mut names, &behaviour.name)?;
+        names.add(behaviour.name.copy()?)?;
     }
     Ok(names)
 }
@@ -55,7 +54,7 @@ fn homes(alloc: Global, starts: &[Start]) -> Result<Numbers, AllocError>
 {
     let mut homes = Numbers::new(alloc);
     for start in starts {
-        add_number(&mut homes, start.node)?;
+        homes.add(start.node)?;
     }
     Ok(homes)
 }
@@ -66,25 +65,7 @@ fn targets(alloc: Global, posts: &[Post]) -> Result<Numbers, AllocError>
 {
     let mut targets = Numbers::new(alloc);
     for post in posts {
-        add_number(&mut targets, post.to)?;
+        targets.add(post.to)?;
     }
     Ok(targets)
-}
-
-fn add_name(names: &mut Names, name: &Word) -> Result<(), AllocError>
-    ensures { OnOk result (names.new ≡ names.old ++ name.now ∷ []) }
-{
-    match names.push(name.copy()?) {
-        Ok(()) => Ok(()),
-        Err((_name, failed)) => Err(failed),
-    }
-}
-
-fn add_number(numbers: &mut Numbers, number: u32) -> Result<(), AllocError>
-    ensures { OnOk result (numbers.new ≡ numbers.old ++ number ∷ []) }
-{
-    match numbers.push(number) {
-        Ok(()) => Ok(()),
-        Err((_number, failed)) => Err(failed),
-    }
 }

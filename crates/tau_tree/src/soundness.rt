@@ -140,8 +140,6 @@ fn is_new(names: &mut Names, word: &Word) -> Result<bool, AllocError>
     ensures names { OnOk result (names.new ≡ names.old ++ word.now ∷ []) }
 {
     let new = names.find(word).is_none();
-    match names.push(word.copy()?) {
-        Ok(()) => Ok(new),
-        Err((_word, failed)) => Err(failed),
-    }
+    names.add(word.copy()?)?;
+    Ok(new)
 }

@@ -98,6 +98,17 @@ impl Names {
         Ok(())
     }
 
+    /// Adds a word at the end. Without memory it is dropped, and the list stays as it was.
+    pub fn add(&mut self, item: Word) -> Result<(), AllocError>
+        ensures ok { OnOk result (self.new ≡ self.old ++ item ∷ []) }
+        ensures err { OnErr result (self.new ≡ self.old) }
+    {
+        match self.push(item) {
+            Ok(()) => Ok(()),
+            Err((_item, failed)) => Err(failed),
+        }
+    }
+
     /// How many words the list has.
     pub fn len(&self) -> usize
         ensures { result ≡ length self.now }
@@ -154,9 +165,7 @@ impl Names {
     {
         let mut names = Names::new(self.alloc);
         for item in &self.items {
-            if let Err((_item, failed)) = names.push(item.copy()?) {
-                return Err(failed);
-            }
+            names.add(item.copy()?)?;
         }
         Ok(names)
     }

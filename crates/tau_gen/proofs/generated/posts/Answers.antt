@@ -10,5 +10,5 @@ loop-place-preserved c =
     record {
       words = λ number at. c.next_post-post.ensures.words number n (before.words number at);
       posts = λ number at.
-          c.in_default.ensures.ok ∙ (λ i. before.posts number at i ++ c.next_post-post.ensures.post number n (before.words number at) i ∷ []) ∙ sym (map-range_with_len_more (post_at number) 0 n n (omega arith));
+          c.in_ok-add.ensures.ok ∙ (λ i. before.posts number at i ++ c.next_post-post.ensures.post number n (before.words number at) i ∷ []) ∙ sym (map-range_with_len_more (post_at number) 0 n n (omega arith));
     }

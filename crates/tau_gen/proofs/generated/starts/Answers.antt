@@ -7,7 +7,7 @@ use Rattle.tau_gen.proofs.generated.starts.Goals as goal
 pub loop-number-preserved : goal.loop-number-preserved
 loop-number-preserved c =
     let n = c.loop-number.number in
-    c.in_default.ensures.ok ∙ (λ i. c.loop-number.invariant i ++ c.in_ok-start.ensures i ∷ []) ∙ sym (map-range_with_len_more start_at 0 n n (omega arith))
+    c.in_ok-add.ensures.ok ∙ (λ i. c.loop-number.invariant i ++ c.in_ok-start.ensures i ∷ []) ∙ sym (map-range_with_len_more start_at 0 n n (omega arith))
 
 pub returns : goal.returns
 unfolding starts
