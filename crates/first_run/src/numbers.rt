@@ -11,6 +11,7 @@ use tau_book::JOB_LIMIT;
 
 /// The most workers of a run, and the most steps (docs/limits.md).
 const WORKER_LIMIT: u32 = 32;
+
 const RUN_LIMIT: u32 = 200_000;
 
 /// The numbers of `run` (docs/formats.md, "Command line").
