@@ -9,9 +9,10 @@ use std::env;
 use std::rt::Env;
 use tau_book::JOB_LIMIT;
 
-/// The most workers of a run, and the most steps (docs/limits.md).
+/// The most workers of a run (docs/limits.md).
 const WORKER_LIMIT: u32 = 32;
 
+/// The most steps of a run (docs/limits.md).
 const RUN_LIMIT: u32 = 200_000;
 
 /// The numbers of `run` (docs/formats.md, "Command line").
