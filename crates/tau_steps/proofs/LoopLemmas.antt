@@ -1,8 +1,9 @@
 -- Forms read one by one: the steps so far, and the first fault.
-use Rattle.std.proofs.Common.{◌≡◌, ◌⊎◌, ⊎_elim, ℕ, zero, suc, ◌+◌, ◌<◌, ◌≤◌, false, ◌-◌, take, drop, List, [], ◌∷◌, length, map, get_or, Some, Result, Ok, Err, IfErr, refl, sym, ap, ◌∙◌, subst, arith, codes}
+use Rattle.std.proofs.Common.{◌≡◌, ◌⊎◌, ⊎_elim, ℕ, zero, suc, ◌+◌, ◌<◌, ◌≤◌, false, ◌-◌, take, drop, List, [], ◌∷◌, ◌++◌, length, map, get_or, Some, Result, Ok, Err, IfErr, refl, sym, ap, ◌∙◌, subst, arith, codes}
 use Rattle.std.specs.Prelude.{slice_get, slice_range, ◌||◌}
 use Rattle.std.proofs.lemmas.List.{take-map, drop-map}
 use Rattle.std.specs.Option.{option_map_or}
+use Rattle.std.specs.Result.{IsErrAnd}
 use Rattle.std.specs.Str.{bytes_eq}
 use Rattle.std.proofs.lemmas.Option.{slice_get_within}
 use Rattle.tau_sexpr.specs.Form.{tree_of}
@@ -34,6 +35,18 @@ item_at [] k f l e = absurd (omega arith)
 item_at (x ∷ xs) zero f l e = ap (λ y. Some (tree_of y)) (sym e)
 item_at (x ∷ xs) (suc k) f l e = item_at xs k f (omega arith) e
 
+-- the same, behind other forms
+pub item_behind : (before : List Tree) (fs : List Form) (n k : ℕ) (f : Form) → n ≡ length before + k → k < length fs → f ≡ get_or fs k f → slice_get (before ++ map tree_of fs) n ≡ Some (tree_of f)
+item_behind [] fs n k f at l e = ap (slice_get (map tree_of fs)) (omega (arith, at)) ∙ item_at fs k f l e
+item_behind (x ∷ xs) fs zero k f at l e = absurd (omega (arith, at))
+item_behind (x ∷ xs) fs (suc n) k f at l e = item_behind xs fs n k f (omega (arith, at)) l e
+
+-- the forms before others
+item_before : (before fs : List Tree) (k : ℕ) → k < length before → slice_get (before ++ fs) k ≡ slice_get before k
+item_before [] fs k l = absurd (omega arith)
+item_before (x ∷ xs) fs zero l = refl
+item_before (x ∷ xs) fs (suc k) l = item_before xs fs k (omega arith)
+
 -- the first forms mean the steps of a run
 pub record IsReadTo (o : Opening) (fs : List Tree) (n : ℕ) (T : Run) : Type 0 where
   pub opening : T.opening ≡ o
@@ -48,6 +61,19 @@ read_whole o fs n T e r = record { opening = r.opening; count = r.count ∙ e; f
 -- forms that mean a run are read as it
 pub whole_read : (o : Opening) (fs : List Tree) (T : Run) → MeansSteps o fs T → IsReadTo o fs (length fs) T
 whole_read o fs T m = record { opening = m.opening; count = m.count; few = m.few; each = m.each }
+
+-- where others follow them, they are read as it up to there
+pub read_before : (o : Opening) (before fs : List Tree) (T : Run) → MeansSteps o before T → IsReadTo o (before ++ fs) (length before) T
+read_before o before fs T m = record {
+  opening = m.opening;
+  count = m.count;
+  few = m.few;
+  each = λ k f s at is. m.each k f s (sym (item_before before fs k (omega (arith, m.count, slice_get_within T.steps k s is))) ∙ at) is;
+}
+
+-- no forms mean no steps
+pub no_steps : (o : Opening) → MeansSteps o [] (record { opening = o; steps = [] })
+no_steps o = record { opening = refl; count = refl; few = omega arith; each = λ k f s at is. absurd (cc) }
 
 -- the words of the kinds tell which steps make a transactor and which a message
 new_word : (s : Step) → bytes_eq (kind_word s) (codes "new") ≡ is_new s
@@ -210,6 +236,11 @@ none_told o fs T (Ok x) m h = h
 none_told o fs T (Err (errors.Shape k)) m h = absurd (no_fault o fs T k shape m h.fault)
 none_told o fs T (Err (errors.Unknown k)) m h = absurd (no_fault o fs T k unknown m h.fault)
 none_told o fs T (Err errors.NoMemory) m h = refl
+
+-- an error that is handed on
+pub handed_on : {X : Type 0} (o : Opening) (fs : List Tree) (answer : Result X StepError) (e : StepError) → IsErrAnd answer (λ x. x ≡ e) → IsFault o fs e → IfErr answer (IsFault o fs)
+handed_on o fs (Ok x) e same fault = tt
+handed_on o fs (Err x) e same fault = subst (IsFault o fs) (sym same) fault
 
 -- the forms of a range
 pub range_told : (xs : List Form) (fs : List Tree) (i j : ℕ) → map tree_of xs ≡ fs → map tree_of (slice_range xs i j) ≡ slice_range fs i j

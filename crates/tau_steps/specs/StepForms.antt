@@ -1,6 +1,5 @@
 -- The forms that steps are written as (docs/formats.md, "Steps").
 use Rattle.std.specs.Prelude.{◌≡◌, ℕ, Bool, List, [], ◌∷◌, Option, Some, option_map, codes, if◌then◌else◌}
-use Rattle.std.specs.Fmt.{decimal}
 use Rattle.tau_sexpr.specs.Tree.{Tree, word, list, inside, depth_of, HasWords}
 use Rattle.tau_value.specs.Sizes.{levels_of}
 use Rattle.tau_value.specs.declared.shared.Value.{Value}

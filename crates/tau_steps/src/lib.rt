@@ -10,5 +10,5 @@ mod rows;
 mod writing;
 
 pub use errors::StepError;
-pub use reading::steps_of;
+pub use reading::{add_steps, steps_of};
 pub use writing::{form_of_step, word_of};

@@ -1,6 +1,8 @@
 //! The steps of a trace, read from forms.
-ghost use Rattle.std.specs.Prelude.{◌≡◌, ◌≤◌, OnOk, List, length, map, slice_range, IfOk, IfErr};
+ghost use Rattle.std.specs.Prelude.{◌≡◌, ◌≤◌, ◌++◌, OnOk, List, length, map, slice_range, IfOk, IfErr};
 ghost use Rattle.tau_sexpr.specs.Form.{tree_of};
+ghost use Rattle.tau_sexpr.specs.Tree.{Tree};
+ghost use Rattle.tau_trace.specs.declared.opening.Opening.{Opening};
 ghost use Rattle.tau_trace.specs.Known.{IsSound, MayFollow};
 ghost use Rattle.tau_trace.specs.Run.{Run, appended};
 ghost use Rattle.tau_steps.specs.Faults.{IsFault};
@@ -34,20 +36,24 @@ pub fn steps_of(
     ensures read { (T : Run) → MeansSteps opening (slice_range forms.now from to) T
         → IfErr result (λ e. e ≡ StepError.NoMemory) }
 {
-    read_all(alloc, &forms.items()[from..to], opening)
+    let mut trace = Trace::begin(alloc, opening)?;
+    add_steps(alloc, &mut trace, &forms.items()[from..to])?;
+    Ok(trace)
 }
 
-/// The trace whose steps all of these forms mean.
-fn read_all(alloc: Global, forms: &[Form], opening: Opening) -> Result<Trace, StepError>
-    requires { IsSound opening }
-    ensures trace { IfOk result (λ t. MeansSteps opening (map tree_of forms.now) t.run) }
-    ensures fault { IfErr result (IsFault opening (map tree_of forms.now)) }
+/// Adds the steps that forms mean behind those of a trace, in this order (docs/formats.md, "Steps"), so that the steps of a long
+/// text can be read in parts. Whether the steps are legal isn't asked. Errors are those of `steps_of`: the first faulty step is
+/// counted over all steps of the trace. The steps before it are then in the trace.
+pub fn add_steps(alloc: Global, trace: &mut Trace, forms: &[Form]) -> Result<(), StepError>
+    ensures steps { (o : Opening) (before : List Tree) → MeansSteps o before trace.old.run
+        → OnOk result (MeansSteps o (before ++ map tree_of forms.now) trace.new.run) }
+    ensures fault { (o : Opening) (before : List Tree) → MeansSteps o before trace.old.run
+        → IfErr result (IsFault o (before ++ map tree_of forms.now)) }
 {
-    let mut trace = Trace::begin(alloc, opening)?;
     for form in forms {
-        add_step(alloc, &mut trace, form)?;
+        add_step(alloc, trace, form)?;
     }
-    Ok(trace)
+    Ok(())
 }
 
 /// Adds the step that a form means behind those of a trace.
