@@ -9,3 +9,5 @@ pub mod SpellingLemmas
 pub mod Writing
 pub mod ValueTexts
 pub mod StepTexts
+pub mod LineLemmas
+pub mod PartialLemmas

@@ -9,22 +9,22 @@ use Rattle.tau_trace.proofs.Sequences.{cases_last}
 use Rattle.tau_sexpr.specs.Tree.{Tree, depths}
 use Rattle.tau_text.specs.Parts.{is_mark, is_marked, before, behind, program_forms, step_forms}
 
-before_mark : (w : List ℕ) (t : Tree) (ts : List Tree) → is_mark w t ≡ true → before w (t ∷ ts) ≡ []
+pub before_mark : (w : List ℕ) (t : Tree) (ts : List Tree) → is_mark w t ≡ true → before w (t ∷ ts) ≡ []
 before_mark w t ts e = ap (λ b. if b then [] else t ∷ before w ts) e
 
-before_other : (w : List ℕ) (t : Tree) (ts : List Tree) → is_mark w t ≡ false → before w (t ∷ ts) ≡ t ∷ before w ts
+pub before_other : (w : List ℕ) (t : Tree) (ts : List Tree) → is_mark w t ≡ false → before w (t ∷ ts) ≡ t ∷ before w ts
 before_other w t ts e = ap (λ b. if b then [] else t ∷ before w ts) e
 
-behind_mark : (w : List ℕ) (t : Tree) (ts : List Tree) → is_mark w t ≡ true → behind w (t ∷ ts) ≡ ts
+pub behind_mark : (w : List ℕ) (t : Tree) (ts : List Tree) → is_mark w t ≡ true → behind w (t ∷ ts) ≡ ts
 behind_mark w t ts e = ap (λ b. if b then ts else behind w ts) e
 
-behind_other : (w : List ℕ) (t : Tree) (ts : List Tree) → is_mark w t ≡ false → behind w (t ∷ ts) ≡ behind w ts
+pub behind_other : (w : List ℕ) (t : Tree) (ts : List Tree) → is_mark w t ≡ false → behind w (t ∷ ts) ≡ behind w ts
 behind_other w t ts e = ap (λ b. if b then ts else behind w ts) e
 
-any_mark : (w : List ℕ) (t : Tree) (ts : List Tree) → is_mark w t ≡ true → is_marked w (t ∷ ts) ≡ true
+pub any_mark : (w : List ℕ) (t : Tree) (ts : List Tree) → is_mark w t ≡ true → is_marked w (t ∷ ts) ≡ true
 any_mark w t ts e = ap (λ b. b || is_marked w ts) e
 
-any_other : (w : List ℕ) (t : Tree) (ts : List Tree) → is_mark w t ≡ false → is_marked w (t ∷ ts) ≡ is_marked w ts
+pub any_other : (w : List ℕ) (t : Tree) (ts : List Tree) → is_mark w t ≡ false → is_marked w (t ∷ ts) ≡ is_marked w ts
 any_other w t ts e = ap (λ b. b || is_marked w ts) e
 
 -- the first mark stands behind forms that are none

@@ -1,5 +1,5 @@
 -- What is written of a program, or of a program and a run, is read back as it.
-use Rattle.std.proofs.Common.{◌≡◌, ℕ, ◌<◌, true, false, List, [], ◌∷◌, ◌++◌, length, get_or, Some, refl, sym, ap, ◌∙◌, subst, arith, codes}
+use Rattle.std.proofs.Common.{◌≡◌, ℕ, ◌<◌, true, false, List, [], ◌∷◌, ◌++◌, length, get_or, Some, refl, sym, ap, ◌∙◌, subst, codes}
 use Rattle.std.specs.Prelude.{slice_get, All}
 use Rattle.std.proofs.lemmas.Option.{get_or_from_slice_get}
 use Rattle.tau_sexpr.specs.Tree.{Tree}
@@ -12,6 +12,7 @@ use Rattle.tau_trace.specs.Run.{Run}
 use Rattle.tau_script.specs.Openings.{program_opening}
 use Rattle.tau_steps.specs.Meaning.{MeansSteps}
 use Rattle.tau_steps.proofs.LawLemmas.{printed_trace}
+use Rattle.tau_steps.proofs.LoopLemmas.{no_steps}
 use Rattle.tau_text.specs.RunText.{trace_mark, report_mark}
 use Rattle.tau_text.proofs.MarkedForms.{program_unmarked, steps_unmarked}
 use Rattle.tau_text.specs.Parts as parts
@@ -21,12 +22,9 @@ use Rattle.tau_text.specs.InputLaws.{RunTextsAreReadBack}
 use Rattle.tau_text.proofs.MarkLemmas.{not_mark}
 use Rattle.tau_text.proofs.PartLemmas.{no_mark, all_before, none_behind, cut_before, cut_behind, cut_marked}
 
--- no forms mean no steps
+-- a run with no steps
 abbrev pub empty_run : Opening → Run
 empty_run o = record { opening = o; steps = [] }
-
-no_steps : (o : Opening) → MeansSteps o [] (empty_run o)
-no_steps o = record { opening = refl; count = refl; few = omega arith; each = λ k f s at is. absurd (cc) }
 
 -- where no `(trace)` stands among forms that mean a program, they mean it and a run with no steps
 pub unmarked_run : (ts : List Tree) (p : Program) → length (parts.program_forms ts) ≡ length ts → Means ts p → MeansRun ts p (empty_run (program_opening p))

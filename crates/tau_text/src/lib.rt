@@ -1,6 +1,7 @@
 //! Run texts: a program, the steps of a run and its report (docs/formats.md, "Run text").
 #![tactic(auto)]
 
+mod by_parts;
 mod errors;
 mod faults;
 mod forms;

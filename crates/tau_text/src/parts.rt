@@ -79,7 +79,7 @@ pub(crate) fn printed_program(alloc: Global, forms: &Forms) -> Result<Program, I
 }
 
 /// The program and the trace of forms, of which so many stand before `(trace)`.
-fn read_parts(alloc: Global, forms: &Forms, mark: usize) -> Result<RunText, InputError>
+pub(crate) fn read_parts(alloc: Global, forms: &Forms, mark: usize) -> Result<RunText, InputError>
     requires depth { depths forms.now ≤ 200 }
     requires mark { mark ≡ length (program_forms forms.now) }
     requires marked { mark < length forms.now }

@@ -8,6 +8,7 @@ ghost use Rattle.tau_text.specs.Errors.{TellsInputFault};
 ghost use Rattle.tau_text.specs.Faults.{IsProgramFault, IsRunFault, IsPrintFault};
 ghost use Rattle.tau_text.specs.Meaning.{IsProgram, IsRunInput, IsPrintInput};
 
+use crate::by_parts::read_by_parts;
 use crate::parts::{marked_text, printed_program, whole_program};
 use crate::{InputError, RunText};
 use std::alloc::Global;
@@ -35,6 +36,9 @@ pub fn read_program(alloc: Global, bytes: &[u8]) -> Result<Program, InputError>
 /// is sound, and the trace begins as it says.
 /// `Fault` comes exactly where they mean none, with the first of the faults 1 to 9 and 11 to 13 in the order of
 /// docs/formats.md, "Input faults".
+/// Beside the program and the trace, the forms of the program and then those of one part of the text at a time, of 64 KiB or a
+/// longer line, take memory, where `(trace)` stands in a line of its own and each form behind it within one line. Otherwise, and
+/// where there is a fault, the text is read as a whole, so that all its forms take memory at once.
 pub fn read_run_text(alloc: Global, bytes: &[u8]) -> Result<RunText, InputError>
     ensures text { IfOk result (λ r. IsRunInput bytes.now r.program r.trace.run) }
     ensures sound { IfOk result (λ r. Sound r.program) }
@@ -45,6 +49,9 @@ pub fn read_run_text(alloc: Global, bytes: &[u8]) -> Result<RunText, InputError>
     ensures faulty { (fault at : ℕ) → IsRunFault bytes.now fault at
         → (result ≡ Err (InputError.Fault fault at)) ⊎ (result ≡ Err InputError.NoMemory) }
 {
+    if let Some(text) = read_by_parts(alloc, bytes)? {
+        return Ok(text);
+    }
     let forms = read_forms(alloc, bytes)?;
     marked_text(alloc, &forms)
 }
@@ -53,6 +60,7 @@ pub fn read_run_text(alloc: Global, bytes: &[u8]) -> Result<RunText, InputError>
 /// text, whose steps are read too (docs/formats.md, "Run text"). It is sound.
 /// `Fault` comes exactly where they mean none, with the first of the faults 1 to 9, 12 and 13 in the order of
 /// docs/formats.md, "Input faults".
+/// A run text takes memory as with `read_run_text`; the forms of a program alone take it all at once.
 pub fn read_printed(alloc: Global, bytes: &[u8]) -> Result<Program, InputError>
     ensures program { IfOk result (IsPrintInput bytes.now) }
     ensures sound { IfOk result Sound }
@@ -62,6 +70,9 @@ pub fn read_printed(alloc: Global, bytes: &[u8]) -> Result<Program, InputError>
     ensures faulty { (fault at : ℕ) → IsPrintFault bytes.now fault at
         → (result ≡ Err (InputError.Fault fault at)) ⊎ (result ≡ Err InputError.NoMemory) }
 {
+    if let Some(text) = read_by_parts(alloc, bytes)? {
+        return Ok(text.program);
+    }
     let forms = read_forms(alloc, bytes)?;
     printed_program(alloc, &forms)
 }

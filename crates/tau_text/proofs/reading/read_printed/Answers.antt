@@ -1,21 +1,31 @@
+use Rattle.std.proofs.Common.{subst}
+use Rattle.std.specs.Prelude.{IfSome}
 use Rattle.std.proofs.lemmas.Result.{IfOk-weaker}
 use Rattle.tau_trace.specs.Run.{Run}
 use Rattle.tau_text.specs.Faults.{PartsFault, IsPrintFault}
-use Rattle.tau_text.specs.Meaning.{IsPrintInput, MeansRun}
+use Rattle.tau_text.specs.Meaning.{IsRunInput, IsPrintInput, MeansRun}
 use Rattle.tau_text.proofs.AnswerLemmas.{from_bytes, from_forms, none_answered, fault_answered, no_answer}
 use Rattle.tau_text.proofs.FaultLemmas.{print_unique}
+use Rattle.tau_text.proofs.PartialLemmas.{printed_run}
 use Rattle.tau_text.proofs.reading.read_printed.Goals as goal
+
+pub returns-in-Some-clause-faulty : goal.returns-in-Some-clause-faulty
+returns-in-Some-clause-faulty c fault at h =
+    let bytes = c.args.bytes.now in
+    let text = c.in-Some.text in
+    let meant = subst (λ o. IfSome o (λ r. IsRunInput bytes r.program r.trace.run)) c.in-Some.is c.in_ok-text.ensures.text in
+    absurd ((print_unique bytes).not_both text.program fault at (printed_run bytes text.program text.trace.run meant) h)
 
 pub returns-in_err-forms-clause-fault : goal.returns-in_err-forms-clause-fault
 returns-in_err-forms-clause-fault c =
-    from_bytes PartsFault c.from_residual.result c.args.bytes.now c.in_err-forms.field-0.0 c.from_residual.ensures.1 c.in_err-forms.ensures.faulty
+    from_bytes PartsFault c.from_residual-in_err-forms.result c.args.bytes.now c.in_err-forms.field-0.0 c.from_residual-in_err-forms.ensures.1 c.in_err-forms.ensures.faulty
 
 pub returns-in_err-forms-clause-faulty : goal.returns-in_err-forms-clause-faulty
 returns-in_err-forms-clause-faulty c fault at h =
     let bytes = c.args.bytes.now in
-    let told = from_bytes PartsFault c.from_residual.result bytes c.in_err-forms.field-0.0 c.from_residual.ensures.1 c.in_err-forms.ensures.faulty in
-    let none = no_answer (λ r. IsPrintInput bytes r) _ c.from_residual.result c.from_residual.ensures.1 in
-    fault_answered (IsPrintInput bytes) (IsPrintFault bytes) (λ p. p) c.from_residual.result (print_unique bytes) none told fault at h
+    let told = from_bytes PartsFault c.from_residual-in_err-forms.result bytes c.in_err-forms.field-0.0 c.from_residual-in_err-forms.ensures.1 c.in_err-forms.ensures.faulty in
+    let none = no_answer (λ r. IsPrintInput bytes r) _ c.from_residual-in_err-forms.result c.from_residual-in_err-forms.ensures.1 in
+    fault_answered (IsPrintInput bytes) (IsPrintFault bytes) (λ p. p) c.from_residual-in_err-forms.result (print_unique bytes) none told fault at h
 
 pub returns-clause-read : goal.returns-clause-read
 returns-clause-read c p m =
