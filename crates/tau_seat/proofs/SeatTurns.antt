@@ -58,6 +58,10 @@ book_at id k v steps b h key its =
       run_is = λ i. record { opening = (h.legal.opening ∙ ap program_opening program) i; steps = its i };
     }
 
+-- the book behind the address that was taken out is the one that was taken
+pub taken_as : (m n : Me (Option Booked) (SeatView Key Step)) (b d : Booked) → b ≡ d → Takes key_of steps_of IsSound m.0 d n → Takes key_of steps_of IsSound m.0 b n
+taken_as m n b d is t = subst (λ (x : Booked). Takes key_of steps_of IsSound m.0 x n) (sym is) t
+
 -- the book that is out has in its turn the steps that the seat had seen, and then others'
 pub book_taken : (id : TableId) (k : Key) (m n : Me (Option Booked) (SeatView Key Step)) (b : Booked) → IsSeat k m → (t : Takes key_of steps_of IsSound m.0 b n) → IsBook b → IsBookAt (seated id k m.0) (m.0.seen ++ t.3.0) b
 book_taken id k m n b s t is_b = book_at id k m.0 (m.0.seen ++ t.3.0) b is_b (key_named k m.0.names (key_of b) k t.4 s.named) (t.5 ∙ ap bare t.3.1)

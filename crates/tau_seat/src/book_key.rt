@@ -1,11 +1,10 @@
-//! The book as a value that a table of seats keeps.
+//! What a book is of.
 ghost use Rattle.std.specs.Prelude.{◌≡◌};
+ghost use Rattle.tau_seat.specs.Keys.{key_of};
 
-use crate::kept::Kept;
 use std::marker::Model;
 use tau_book::Book;
 use tau_knowledge::Knowledge;
-use tau_trace::Step;
 use tau_tree::Program;
 
 /// What a book is of: its program, and its limit of steps. Contracts see both.
@@ -29,6 +28,16 @@ impl<'p> Model for BookKey<'p> {
 }
 
 impl<'p> BookKey<'p> {
+    /// What a book is of.
+    pub(crate) fn of<K: Knowledge + Drop>(book: &Book<'p, K>) -> BookKey<'p>
+        ensures { result ≡ key_of book.now }
+    {
+        BookKey {
+            program: book.system().program(),
+            limit: book.limit(),
+        }
+    }
+
     /// The same key.
     pub(crate) fn again(&self) -> BookKey<'p>
         ensures { result ≡ self.now }
@@ -36,30 +45,6 @@ impl<'p> BookKey<'p> {
         BookKey {
             program: self.program,
             limit: self.limit,
-        }
-    }
-}
-
-impl<'p, K: Knowledge + Drop> Kept for Book<'p, K> {
-    type Key = BookKey<'p>;
-
-    type Entry = Step;
-
-    ghost use Rattle.tau_seat.specs.Keys.{key_of, steps_of, IsSound};
-    ghost use Rattle.tau_seat.specs.Beginnings.{beginnings_sound};
-
-    ghost key_of = { key_of };
-
-    ghost entries = { steps_of };
-
-    ghost is_sound = { IsSound };
-
-    ghost prefixes = { beginnings_sound };
-
-    fn key(&self) -> BookKey<'p> {
-        BookKey {
-            program: self.system().program(),
-            limit: self.limit(),
         }
     }
 }

@@ -1,11 +1,11 @@
 //! A seat as the place of a worker.
-ghost use Rattle.std.specs.Prelude.{◌≡◌, ◌<◌, [], None, IsSome, IsTrue, IfOk, IfErr, OnErr, length, All};
+ghost use Rattle.std.specs.Prelude.{◌≡◌, ◌<◌, ◌⊎◌, [], None, IsSome, IsTrue, IfOk, IfErr, OnErr, length, All};
 ghost use Rattle.tau_eval.specs.Turn.{TurnSoFar};
 ghost use Rattle.tau_book.specs.Places.{EndsBy, IsNotIdle, LeavesRoom, IsVouched, ComesBack};
 ghost use Rattle.tau_book.specs.Lefts.{IsLeftOf};
 ghost use Rattle.tau_seat.specs.Lists.{Begins};
 ghost use Rattle.tau_seat.specs.Seated.{Stays, Watches, Grows, EndsWith};
-ghost use Rattle.tau_seat.specs.Knowing.{IsSeenOpen};
+ghost use Rattle.tau_seat.specs.Knowing.{IsSeenOpen, HadReturned};
 ghost use Rattle.tau_seat.specs.SeatPlaces.{HasEnded, IsSeenOver, Vouches, completeness_told, key_of_place, end_of};
 ghost use Rattle.tau_seat.specs.Answers.{has_stepped, has_made};
 
@@ -88,7 +88,8 @@ impl<'a, 'p, K: Knowledge + Drop> StepPlace<'p> for SeatPlace<'a, 'p, K> {
 
     ghost vouches = { Vouches };
 
-    // As of each place, and the seat has made a step where the answer tells one, and none where it doesn't.
+    // As of each place, and the seat has made a step where the answer tells one, and none where it doesn't. The place goes on to know its
+    // jobs, but where one had come back to the book of one of its turns.
     fn next<R: Wait>(&mut self, rt: &R, hand: &mut Hand<'p>) -> Result<Next<'p>, AllocError>
         requires known { All (Vouches self.old) hand.old.jobs }
         ensures key { key_of_place self.new ≡ key_of_place self.old }
@@ -102,6 +103,7 @@ impl<'a, 'p, K: Knowledge + Drop> StepPlace<'p> for SeatPlace<'a, 'p, K> {
         ensures known { All (Vouches self.new) hand.new.jobs }
         ensures work { IfOk result (IsVouched (Vouches self.new)) }
         ensures step { Grows (has_stepped result) self.old.seat self.new.seat }
+        ensures knows { (self.new.knows ≡ self.old.knows) ⊎ HadReturned self.old.seat self.new.seat }
     {
         match self.is_complete {
             Some(true) => return Ok(Next::Complete),
@@ -131,6 +133,7 @@ impl<'a, 'p, K: Knowledge + Drop> StepPlace<'p> for SeatPlace<'a, 'p, K> {
         ensures vouched { (job : TurnSoFar) → Vouches self.old job → Vouches self.new job }
         ensures known { All (Vouches self.new) hand.new.jobs }
         ensures step { Grows (has_made result) self.old.seat self.new.seat }
+        ensures knows { self.new.knows ≡ self.old.knows }
     {
         bring(rt, self.table, &mut self.seat, hand, pending, self.knows)
     }
@@ -142,6 +145,7 @@ impl<'a, 'p, K: Knowledge + Drop> StepPlace<'p> for SeatPlace<'a, 'p, K> {
         ensures size { hand.new.size ≡ hand.old.size }
         ensures vouched { (job : TurnSoFar) → Vouches self.old job → Vouches self.new job }
         ensures step { Watches self.old.seat self.new.seat }
+        ensures knows { self.new.knows ≡ self.old.knows }
     {
         self.table.give_back(rt, &mut self.seat, hand);
     }
@@ -166,6 +170,7 @@ fn ask<'p, K: Knowledge + Drop, R: Wait>(
     ensures hand_on_err { OnErr result (IsLeftOf (IsSeenOver seat.old seat.new) hand.old hand.new) }
     ensures size { hand.new.size ≡ hand.old.size }
     ensures knew { IsTrue knows.new → IsTrue knows.old }
+    ensures knows { (knows.new ≡ knows.old) ⊎ HadReturned seat.old seat.new }
     ensures known { IsTrue knows.new → All (IsSeenOpen seat.old) hand.old.jobs → All (IsSeenOpen seat.new) hand.new.jobs }
     ensures work { IsTrue knows.new → All (IsSeenOpen seat.old) hand.old.jobs → IfOk result (IsVouched (IsSeenOpen seat.new)) }
 {

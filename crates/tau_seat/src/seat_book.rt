@@ -1,5 +1,5 @@
 //! The step book with seats.
-ghost use Rattle.std.specs.Prelude.{◌≡◌, ◌≤◌, ◌<◌, ℕ, ◌+◌, [], ◌++◌, IsTrue, IfOk, IfErr, OnErr, length, take, drop, All};
+ghost use Rattle.std.specs.Prelude.{◌≡◌, ◌≤◌, ◌<◌, ◌⊎◌, ℕ, ◌+◌, [], ◌++◌, IsTrue, IfOk, IfErr, OnErr, length, take, drop, All};
 ghost use Rattle.tau_book.specs.Nexts.{IsNext};
 ghost use Rattle.tau_book.specs.Tolds.{IsTold, IsGivenBack};
 ghost use Rattle.tau_book.specs.Places.{LeavesRoom, IsVouched, ComesBack};
@@ -7,12 +7,12 @@ ghost use Rattle.tau_seat.specs.Lists.{upto, times, bare, Begins, Behind};
 ghost use Rattle.tau_seat.specs.Plays.{longer, shorter, teller_of};
 ghost use Rattle.tau_seat.specs.Keys.{IsSound};
 ghost use Rattle.tau_seat.specs.Seated.{key_at, mine_of, Stays, Watches, Grows, IsBookAt, IsTurn, EndsWith};
-ghost use Rattle.tau_seat.specs.Knowing.{IsSeenOpen};
+ghost use Rattle.tau_seat.specs.Knowing.{IsSeenOpen, HadReturned};
 ghost use Rattle.tau_seat.specs.Answers.{has_stepped, has_made};
 
 use crate::bell::{Bell, Idlers};
 use crate::book_key::BookKey;
-use crate::kept::Kept;
+use crate::boxed_book::BoxedBook;
 use crate::table::{Pass, SeatTable};
 use std::alloc::{AllocError, Global};
 use std::marker::Model;
@@ -25,7 +25,7 @@ use tau_knowledge::Knowledge;
 /// seats share, the program and the limit of the book.
 #[derive(Drop)]
 pub struct SeatBook<'p, K: Knowledge + Drop> {
-    table: SeatTable<Book<'p, K>>,
+    table: SeatTable<BoxedBook<'p, K>>,
     bell: Bell,
 }
 
@@ -47,7 +47,7 @@ impl<'p, K: Knowledge + Drop> Model for SeatBook<'p, K> {
 /// the steps that it has seen, each with the number that owns its place.
 #[derive(Drop)]
 pub struct BookSeat<'p, K: Knowledge + Drop> {
-    pass: Pass<Book<'p, K>>,
+    pass: Pass<BoxedBook<'p, K>>,
     key: BookKey<'p>,
 }
 
@@ -88,13 +88,17 @@ impl<'p, K: Knowledge + Drop> SeatBook<'p, K> {
     {
         // What holds of the book.
         let _system = book.system();
-        let key = book.key();
-        match SeatTable::new(alloc, book, n) {
+        let key = BookKey::of(&book);
+        let boxed = match BoxedBook::new(alloc, book) {
+            Ok(boxed) => boxed,
+            Err(book) => return Err((book, AllocError)),
+        };
+        match SeatTable::new(alloc, boxed, n) {
             Ok((table, pass)) => {
                 let bell = Bell::new();
                 Ok((SeatBook { table, bell }, BookSeat { pass, key }))
             }
-            Err(book) => Err((book, AllocError)),
+            Err(boxed) => Err((boxed.into_book(), AllocError)),
         }
     }
 
@@ -185,17 +189,19 @@ impl<'p, K: Knowledge + Drop> SeatBook<'p, K> {
         ensures size { hand.new.size ≡ hand.old.size }
         ensures hand_on_err { OnErr result (hand.new ≡ hand.old) }
         ensures knew { IsTrue knows.new → IsTrue knows.old }
+        ensures knows { (knows.new ≡ knows.old) ⊎ HadReturned seat.old seat.new }
         ensures known { IsTrue knows.new → All (IsSeenOpen seat.old) hand.old.jobs → All (IsSeenOpen seat.new) hand.new.jobs }
         ensures work { IsTrue knows.new → All (IsSeenOpen seat.old) hand.old.jobs → IfOk result (IsVouched (IsSeenOpen seat.new)) }
     {
         // What is known of the jobs afterwards.
         known_jobs_are_handed_on();
-        let mut book = self.table.take(rt, &mut seat.pass);
-        *knows = knows_still(*knows, &book);
+        let mut boxed = self.table.take(rt, &mut seat.pass);
+        let book = &mut *boxed.book;
+        *knows = knows_still(*knows, book);
         let answer = book.next(hand);
         let offers_more = book.offers_more();
         let grew = has_stepped(&answer);
-        self.table.put_back(&mut seat.pass, book, grew);
+        self.table.put_back(&mut seat.pass, boxed, grew);
         self.tell(idlers, &answer, offers_more);
         answer
     }
@@ -222,10 +228,11 @@ impl<'p, K: Knowledge + Drop> SeatBook<'p, K> {
         ensures hand_on_err { OnErr result (hand.new ≡ hand.old) }
     {
         let _idlers = self.bell.enter(rt);
-        let mut book = self.table.take(rt, &mut seat.pass);
+        let mut boxed = self.table.take(rt, &mut seat.pass);
+        let book = &mut *boxed.book;
         let answer = book.act(hand, pending);
         let grew = has_made(&answer);
-        self.table.put_back(&mut seat.pass, book, grew);
+        self.table.put_back(&mut seat.pass, boxed, grew);
         answer
     }
 
@@ -252,12 +259,13 @@ impl<'p, K: Knowledge + Drop> SeatBook<'p, K> {
         ensures hand_on_err { OnErr result (hand.new ≡ hand.old) }
     {
         let _idlers = self.bell.enter(rt);
-        let mut book = self.table.take(rt, &mut seat.pass);
+        let mut boxed = self.table.take(rt, &mut seat.pass);
+        let book = &mut *boxed.book;
         // What holds of the book.
         let _system = book.system();
         let answer = book.act_known(hand, pending);
         let grew = has_made(&answer);
-        self.table.put_back(&mut seat.pass, book, grew);
+        self.table.put_back(&mut seat.pass, boxed, grew);
         answer
     }
 
@@ -273,12 +281,13 @@ impl<'p, K: Knowledge + Drop> SeatBook<'p, K> {
         ensures size { hand.new.size ≡ hand.old.size }
     {
         let mut idlers = self.bell.enter(rt);
-        let mut book = self.table.take(rt, &mut seat.pass);
+        let mut boxed = self.table.take(rt, &mut seat.pass);
+        let book = &mut *boxed.book;
         // What holds of the book before and after.
         let _before = book.system();
         book.give_back(hand);
         let _after = book.system();
-        self.table.put_back(&mut seat.pass, book, false);
+        self.table.put_back(&mut seat.pass, boxed, false);
         self.bell.ring(&mut idlers);
     }
 
@@ -316,7 +325,8 @@ impl<'p, K: Knowledge + Drop> SeatBook<'p, K> {
     {
         let SeatBook { table, bell: _bell } = self;
         let BookSeat { pass, key: _key } = seat;
-        let book = table.close(pass);
+        let boxed = table.close(pass);
+        let book = boxed.into_book();
         // What holds of the book.
         let _system = book.system();
         book
@@ -327,6 +337,7 @@ impl<'p, K: Knowledge + Drop> SeatBook<'p, K> {
 fn knows_still<K: Knowledge + Drop>(knows: bool, book: &Book<'_, K>) -> bool
     ensures knew { IsTrue result → IsTrue knows }
     ensures none_back { IsTrue result → book.now.store ≡ [] }
+    ensures on { book.now.store ≡ [] → result ≡ knows }
 {
     let has_returned = book.has_returned();
     knows && !has_returned
