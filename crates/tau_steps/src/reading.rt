@@ -43,7 +43,7 @@ pub fn steps_of(
 
 /// Adds the steps that forms mean behind those of a trace, in this order (docs/formats.md, "Steps"), so that the steps of a long
 /// text can be read in parts. Whether the steps are legal isn't asked. Errors are those of `steps_of`: the first faulty step is
-/// counted over all steps of the trace. The steps before it are then in the trace.
+/// counted over all steps of the trace. After an error nothing is promised of the trace.
 pub fn add_steps(alloc: Global, trace: &mut Trace, forms: &[Form]) -> Result<(), StepError>
     ensures steps { (o : Opening) (before : List Tree) → MeansSteps o before trace.old.run
         → OnOk result (MeansSteps o (before ++ map tree_of forms.now) trace.new.run) }
