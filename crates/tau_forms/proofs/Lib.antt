@@ -8,6 +8,8 @@ pub mod TopLemmas
 pub mod BuiltLemmas
 pub mod BuildingLemmas
 pub mod ProgramLemmas
+pub mod LineTexts
+pub mod ValueTexts
 pub mod PrintedLemmas
 pub mod SoundFaults
 pub mod SoundExpressions

@@ -1,14 +1,17 @@
 -- The forms that a program is printed as are read back as the program.
-use Rattle.std.proofs.Common.{◌≡◌, ℕ, zero, suc, ◌+◌, ◌^◌, ◌<◌, ◌≤◌, ◌==◌, ◌||◌, Bool, true, false, cond, nat_lt, List, [], ◌∷◌, ◌++◌, length, map, get_or, Option, Some, None, unwrap_or, slice_get, Result, Ok, Err, IfOk, OnOk, refl, sym, ap, subst, ◌∙◌, arith, codes}
+use Rattle.std.proofs.Common.{◌≡◌, ℕ, zero, suc, ◌+◌, ◌^◌, ◌<◌, ◌≤◌, ◌==◌, ◌||◌, Bool, true, false, cond, nat_lt, List, [], ◌∷◌, ◌++◌, length, map, get_or, Option, Some, None, unwrap_or, slice_get, Result, Ok, Err, OnOk, refl, sym, ap, subst, ◌∙◌, arith, codes}
 use Rattle.std.specs.Fmt.{decimal}
 use Rattle.std.specs.List.{All, filter, filter_map, cons_option, list_any}
 use Rattle.std.specs.Option.{option_or}
-use Rattle.std.specs.declared.alloc.AllocError.{AllocError}
 use Rattle.std.proofs.lemmas.Bool.{le-ltb}
 use Rattle.std.proofs.lemmas.Bool.Decides.{Decides-eqb}
 use Rattle.std.proofs.lemmas.List.Folds.{list_any_none}
 use Rattle.std.proofs.lemmas.List.{append-nil, length-map}
 use Rattle.std.proofs.lemmas.List.Elements.{All-head, All-tail, All-nil, All-cons, All-append, All-map, filter_map-append}
+use Rattle.tau_sexpr.specs.Printing as print
+use Rattle.tau_sexpr.specs.Printing.{HasBytes}
+use Rattle.tau_sexpr.specs.Spelling.{IsSpelling}
+use Rattle.tau_sexpr.proofs.PrintLemmas.{spells_printed}
 use Rattle.tau_sexpr.specs.Tree.{Tree, inside, depth_of, depths, depths-append, HasWords, headed}
 use Rattle.tau_value.specs.Names.{AreNames}
 use Rattle.tau_value.specs.Numbers.{count_in}
@@ -436,7 +439,7 @@ module _ (p : Program) (sound : Sound p) (fitting : IsFitting p) where
       all n f h
   none_faulty n f (no_nodes z e) = let both : Some p.nodes ≡ None = sym nodes_are ∙ e in cc
 
-  pub means_printed : Means (printed p) p
+  means_printed : Means (printed p) p
   means_printed = record { limits = limits_kept; faultless = none_faulty; is = sym is_given }
 
   -- how deep the lists are
@@ -452,7 +455,7 @@ module _ (p : Program) (sound : Sound p) (fitting : IsFitting p) where
   depth_with true = omega (arith, depth_body)
   depth_with false = depth_body
 
-  pub depth_printed : depths (printed p) ≤ 200
+  depth_printed : depths (printed p) ≤ 200
   depth_printed = depth_with two
 
   -- no word in them is empty
@@ -468,18 +471,14 @@ module _ (p : Program) (sound : Sound p) (fitting : IsFitting p) where
   words_first true = All-cons HasWords version_list [] (λ e. cc, (decimal_filled p.version version_small, tt)) (All-nil HasWords)
   words_first false = All-nil HasWords
 
-  pub words_printed : All HasWords (printed p)
+  words_printed : All HasWords (printed p)
   words_printed = All-append HasWords (heads two) body_lists (words_first two) words_body
 
--- what a writer of these forms gives
-pub read_back_from : (p : Program) (r : Result (List Tree) AllocError) → Sound p → IfOk r (λ f. f ≡ printed p) → OnOk r (IsFitting p) → IfOk r (λ f. Means f p)
-read_back_from p (Ok f) sound is fits = subst (λ ts. Means ts p) (sym is) (means_printed p sound fits)
-read_back_from p (Err e) sound is fits = tt
+-- what a printer of these forms gives
+pub means_from : {A E : Type 0} (p : Program) (r : Result A E) → Sound p → OnOk r (IsFitting p) → OnOk r (Means (printed p) p)
+means_from p (Ok x) sound fits = means_printed p sound fits
+means_from p (Err e) sound fits = tt
 
-pub depth_from : (p : Program) (r : Result (List Tree) AllocError) → Sound p → IfOk r (λ f. f ≡ printed p) → OnOk r (IsFitting p) → IfOk r (λ f. depths f ≤ 200)
-depth_from p (Ok f) sound is fits = subst (λ ts. depths ts ≤ 200) (sym is) (depth_printed p sound fits)
-depth_from p (Err e) sound is fits = tt
-
-pub words_from : (p : Program) (r : Result (List Tree) AllocError) → Sound p → IfOk r (λ f. f ≡ printed p) → OnOk r (IsFitting p) → IfOk r (λ f. All HasWords f)
-words_from p (Ok f) sound is fits = subst (All HasWords) (sym is) (words_printed p sound fits)
-words_from p (Err e) sound is fits = tt
+pub spells_from : {A E : Type 0} (p : Program) (r : Result A E) → Sound p → OnOk r (All HasBytes (printed p)) → OnOk r (IsFitting p) → OnOk r (IsSpelling (print.printed (printed p)) (printed p))
+spells_from p (Ok x) sound bytes fits = spells_printed (printed p) (depth_printed p sound fits) (words_printed p sound fits) bytes
+spells_from p (Err e) sound bytes fits = tt

@@ -1,4 +1,4 @@
-//! Programs read from forms, and the forms that they are printed as (docs/formats.md, "Programs").
+//! Programs read from forms, and the texts that they are printed as (docs/formats.md, "Programs").
 #![tactic(auto)]
 
 mod build;
@@ -14,10 +14,12 @@ mod rows;
 mod scopes;
 mod tables;
 mod tops;
+mod values;
 mod wanted;
 mod writing;
 
 pub use faults::ProgramError;
 pub use laws::forms_mean_one_program;
-pub use printing::forms_of;
+pub use printing::{forms_of, put_program};
 pub use reading::program_of;
+pub use values::{put_count, put_name, put_truth, put_value};

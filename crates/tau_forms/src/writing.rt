@@ -1,230 +1,233 @@
-//! The forms of expressions (docs/language.md, "Expressions").
-ghost use Rattle.std.specs.Prelude.{◌≡◌, ◌∷◌, ◌++◌, [], codes, All, IfOk, OnOk};
+//! The texts of expressions, put straight behind a text (docs/language.md, "Expressions"): no form of an expression is made.
+//! Each call takes memory for the text alone. The error is want of memory, and a part of the text may then be added.
+ghost use Rattle.std.specs.Prelude.{◌≡◌, ◌∷◌, ◌++◌, [], codes, All, OnOk};
 ghost use Rattle.tau_sexpr.specs.Bytes.{IsWordByte};
-ghost use Rattle.tau_sexpr.specs.Form.{tree_of};
+ghost use Rattle.tau_sexpr.specs.Printing.{print_of, HasBytes};
 ghost use Rattle.tau_sexpr.specs.Tree.{word, list, none, more, headed};
 ghost use Rattle.tau_tree.specs.Code.{let_in, if_else, fold, set, send, new, inside as codes_in};
 ghost use Rattle.tau_tree.specs.Expr.{code_of, codes_of};
 ghost use Rattle.tau_tree.specs.Parts.{Throughout, AllThroughout};
 ghost use Rattle.tau_forms.specs.Inner.Fitting.{HasFittingInteger};
 ghost use Rattle.tau_forms.specs.Printed.{prim_word, name_of, code_form, code_forms};
-ghost use Rattle.tau_value.specs.Written.{count_form};
 
 use crate::tables::Tables;
-use std::alloc::{AllocError, Global};
-use tau_sexpr::{Form, Forms, Word};
+use crate::values::{put_integer, put_text, put_truth};
+use std::alloc::AllocError;
+use tau_sexpr::Word;
 use tau_tree::{Expr, Exprs, Prim};
-use tau_value::{Names, word_of_count, word_of_integer};
+use tau_value::Names;
 
-/// The form of an expression, with the names of the behaviours and starts. The error is want of memory.
-#[cycle(write)]
+/// Adds the text of an expression's form, with the names of the behaviours and starts.
+#[cycle(put)]
 #[tactic(auto, using(tau_sexpr::proofs::Literals::word_literal), unfolding(tau_sexpr::specs::Bytes::is_word_byte, tau_sexpr::specs::Bytes::is_letter_or_digit, tau_sexpr::specs::Bytes::is_word_sign))]
-pub(crate) fn write_expression(
-    alloc: Global,
+pub(crate) fn put_expression(
+    out: &mut Vec<u8>,
     expr: &Expr,
     tables: &Tables,
-) -> Result<Form, AllocError>
-    ensures form { IfOk result (λ f. tree_of f ≡ code_form tables.now.behaviours tables.now.starts (code_of expr.now)) }
+) -> Result<(), AllocError>
+    ensures text { OnOk result (out.new.items ≡ out.old.items ++ print_of (code_form tables.now.behaviours tables.now.starts (code_of expr.now))) }
+    ensures bytes { OnOk result (HasBytes (code_form tables.now.behaviours tables.now.starts (code_of expr.now))) }
     ensures integers { OnOk result (Throughout HasFittingInteger (code_of expr.now)) }
 {
     match expr {
-        Expr::Unit => form_of_word(alloc, b"unit"),
-        Expr::Truth(true) => form_of_word(alloc, b"true"),
-        Expr::Truth(false) => form_of_word(alloc, b"false"),
-        Expr::Int(integer) => Ok(Form::Word(word_of_integer(alloc, *integer)?)),
-        Expr::Text(text) => Ok(Form::Text(text.copy()?)),
-        Expr::Msg => form_of_word(alloc, b"msg"),
-        Expr::Own => form_of_word(alloc, b"self"),
-        Expr::Var(name) => Ok(Form::Word(name.copy()?)),
-        Expr::Start(number) => write_start(alloc, *number, &tables.starts),
-        Expr::List(items) => write_all(alloc, b"list", items, tables),
-        Expr::Let { name, value, body } => write_let(alloc, name, value, body, tables),
-        Expr::If { test, yes, no } => write_if(alloc, test, yes, no, tables),
-        Expr::Seq(items) => write_all(alloc, b"seq", items, tables),
+        Expr::Unit => put_word(out, b"unit"),
+        Expr::Truth(truth) => put_truth(out, *truth),
+        Expr::Int(integer) => put_integer(out, *integer),
+        Expr::Text(text) => put_text(out, text),
+        Expr::Msg => put_word(out, b"msg"),
+        Expr::Own => put_word(out, b"self"),
+        Expr::Var(name) => put_word(out, name.bytes()),
+        Expr::Start(number) => put_start_name(out, *number, &tables.starts),
+        Expr::List(items) => put_all(out, b"list", items, tables),
+        Expr::Let { name, value, body } => put_let(out, name, value, body, tables),
+        Expr::If { test, yes, no } => put_if(out, test, yes, no, tables),
+        Expr::Seq(items) => put_all(out, b"seq", items, tables),
         Expr::Fold {
             list,
             first,
             sum,
             item,
             body,
-        } => write_fold(alloc, list, first, sum, item, body, tables),
-        Expr::Apply { prim, args } => write_all(alloc, word_of(*prim), args, tables),
-        Expr::Get => write_alone(alloc, b"get"),
-        Expr::Set(value) => write_set(alloc, value, tables),
-        Expr::Send { to, value } => write_send(alloc, to, value, tables),
+        } => put_fold(out, list, first, sum, item, body, tables),
+        Expr::Apply { prim, args } => put_all(out, word_of(*prim), args, tables),
+        Expr::Get => put_alone(out, b"get"),
+        Expr::Set(value) => put_set(out, value, tables),
+        Expr::Send { to, value } => put_send(out, to, value, tables),
         Expr::New {
             behaviour,
             node,
             state,
-        } => write_new(alloc, *behaviour, node, state, tables),
-        Expr::Stabilize => write_alone(alloc, b"stabilize"),
-        Expr::Checkpoint => write_alone(alloc, b"checkpoint"),
-        Expr::Rollback => write_alone(alloc, b"rollback"),
-        Expr::Dependent => write_alone(alloc, b"dependent"),
+        } => put_new(out, *behaviour, node, state, tables),
+        Expr::Stabilize => put_alone(out, b"stabilize"),
+        Expr::Checkpoint => put_alone(out, b"checkpoint"),
+        Expr::Rollback => put_alone(out, b"rollback"),
+        Expr::Dependent => put_alone(out, b"dependent"),
     }
 }
 
-/// A list of a word and expressions.
-#[cycle(write)]
-fn write_all(alloc: Global, head: &[u8], items: &Exprs, tables: &Tables) -> Result<Form, AllocError>
+/// Adds a list of a word and expressions.
+#[cycle(put)]
+fn put_all(out: &mut Vec<u8>, head: &[u8], items: &Exprs, tables: &Tables) -> Result<(), AllocError>
     requires { All IsWordByte head.now }
-    ensures form { IfOk result (λ f. tree_of f ≡ list (more (word head.now) (code_forms tables.now.behaviours tables.now.starts (codes_in (codes_of items.now))))) }
+    ensures text { OnOk result (out.new.items ≡ out.old.items ++ print_of (list (more (word head.now) (code_forms tables.now.behaviours tables.now.starts (codes_in (codes_of items.now)))))) }
+    ensures bytes { OnOk result (HasBytes (list (more (word head.now) (code_forms tables.now.behaviours tables.now.starts (codes_in (codes_of items.now)))))) }
     ensures integers { OnOk result (AllThroughout HasFittingInteger (codes_in (codes_of items.now))) }
 {
-    let mut forms = begin(alloc, head)?;
+    begin(out, head)?;
     for item in items.items() {
-        add_expression(alloc, &mut forms, item, tables)?;
+        add_expression(out, item, tables)?;
     }
-    Ok(Form::List(forms))
+    end(out)
 }
 
-/// `(let NAME e e)`.
-#[cycle(write)]
+/// Adds `(let NAME e e)`.
+#[cycle(put)]
 #[tactic(auto, using(tau_sexpr::proofs::Literals::word_literal), unfolding(tau_sexpr::specs::Bytes::is_word_byte, tau_sexpr::specs::Bytes::is_letter_or_digit, tau_sexpr::specs::Bytes::is_word_sign))]
-fn write_let(
-    alloc: Global,
+fn put_let(
+    out: &mut Vec<u8>,
     name: &Word,
     value: &Expr,
     body: &Expr,
     tables: &Tables,
-) -> Result<Form, AllocError>
-    ensures form { IfOk result (λ f. tree_of f ≡ code_form tables.now.behaviours tables.now.starts (let_in name.now (code_of value.now) (code_of body.now))) }
+) -> Result<(), AllocError>
+    ensures text { OnOk result (out.new.items ≡ out.old.items ++ print_of (code_form tables.now.behaviours tables.now.starts (let_in name.now (code_of value.now) (code_of body.now)))) }
+    ensures bytes { OnOk result (HasBytes (code_form tables.now.behaviours tables.now.starts (let_in name.now (code_of value.now) (code_of body.now)))) }
     ensures integers { OnOk result (Throughout HasFittingInteger (let_in name.now (code_of value.now) (code_of body.now))) }
 {
-    let mut forms = begin(alloc, b"let")?;
-    forms.add(Form::Word(name.copy()?))?;
-    add_expression(alloc, &mut forms, value, tables)?;
-    add_expression(alloc, &mut forms, body, tables)?;
-    Ok(Form::List(forms))
+    begin(out, b"let")?;
+    add_word(out, name)?;
+    add_expression(out, value, tables)?;
+    add_expression(out, body, tables)?;
+    end(out)
 }
 
-/// `(if e e e)`.
-#[cycle(write)]
+/// Adds `(if e e e)`.
+#[cycle(put)]
 #[tactic(auto, using(tau_sexpr::proofs::Literals::word_literal), unfolding(tau_sexpr::specs::Bytes::is_word_byte, tau_sexpr::specs::Bytes::is_letter_or_digit, tau_sexpr::specs::Bytes::is_word_sign))]
-fn write_if(
-    alloc: Global,
+fn put_if(
+    out: &mut Vec<u8>,
     test: &Expr,
     yes: &Expr,
     no: &Expr,
     tables: &Tables,
-) -> Result<Form, AllocError>
-    ensures form { IfOk result (λ f. tree_of f ≡ code_form tables.now.behaviours tables.now.starts (if_else (code_of test.now) (code_of yes.now) (code_of no.now))) }
+) -> Result<(), AllocError>
+    ensures text { OnOk result (out.new.items ≡ out.old.items ++ print_of (code_form tables.now.behaviours tables.now.starts (if_else (code_of test.now) (code_of yes.now) (code_of no.now)))) }
+    ensures bytes { OnOk result (HasBytes (code_form tables.now.behaviours tables.now.starts (if_else (code_of test.now) (code_of yes.now) (code_of no.now)))) }
     ensures integers { OnOk result (Throughout HasFittingInteger (if_else (code_of test.now) (code_of yes.now) (code_of no.now))) }
 {
-    let mut forms = begin(alloc, b"if")?;
-    add_expression(alloc, &mut forms, test, tables)?;
-    add_expression(alloc, &mut forms, yes, tables)?;
-    add_expression(alloc, &mut forms, no, tables)?;
-    Ok(Form::List(forms))
+    begin(out, b"if")?;
+    add_expression(out, test, tables)?;
+    add_expression(out, yes, tables)?;
+    add_expression(out, no, tables)?;
+    end(out)
 }
 
-/// `(fold e e (SUM ITEM) e)`.
-#[cycle(write)]
+/// Adds `(fold e e (SUM ITEM) e)`.
+#[cycle(put)]
 #[tactic(auto, using(tau_sexpr::proofs::Literals::word_literal), unfolding(tau_sexpr::specs::Bytes::is_word_byte, tau_sexpr::specs::Bytes::is_letter_or_digit, tau_sexpr::specs::Bytes::is_word_sign))]
-fn write_fold(
-    alloc: Global,
+fn put_fold(
+    out: &mut Vec<u8>,
     list: &Expr,
     first: &Expr,
     sum: &Word,
     item: &Word,
     body: &Expr,
     tables: &Tables,
-) -> Result<Form, AllocError>
-    ensures form { IfOk result (λ f. tree_of f ≡ code_form tables.now.behaviours tables.now.starts (fold (code_of list.now) (code_of first.now) sum.now item.now (code_of body.now))) }
+) -> Result<(), AllocError>
+    ensures text { OnOk result (out.new.items ≡ out.old.items ++ print_of (code_form tables.now.behaviours tables.now.starts (fold (code_of list.now) (code_of first.now) sum.now item.now (code_of body.now)))) }
+    ensures bytes { OnOk result (HasBytes (code_form tables.now.behaviours tables.now.starts (fold (code_of list.now) (code_of first.now) sum.now item.now (code_of body.now)))) }
     ensures integers { OnOk result (Throughout HasFittingInteger (fold (code_of list.now) (code_of first.now) sum.now item.now (code_of body.now))) }
 {
-    let mut forms = begin(alloc, b"fold")?;
-    add_expression(alloc, &mut forms, list, tables)?;
-    add_expression(alloc, &mut forms, first, tables)?;
-    forms.add(form_of_words(alloc, sum, item)?)?;
-    add_expression(alloc, &mut forms, body, tables)?;
-    Ok(Form::List(forms))
+    begin(out, b"fold")?;
+    add_expression(out, list, tables)?;
+    add_expression(out, first, tables)?;
+    add_words(out, sum, item)?;
+    add_expression(out, body, tables)?;
+    end(out)
 }
 
-/// `(set e)`.
-#[cycle(write)]
+/// Adds `(set e)`.
+#[cycle(put)]
 #[tactic(auto, using(tau_sexpr::proofs::Literals::word_literal), unfolding(tau_sexpr::specs::Bytes::is_word_byte, tau_sexpr::specs::Bytes::is_letter_or_digit, tau_sexpr::specs::Bytes::is_word_sign))]
-fn write_set(alloc: Global, value: &Expr, tables: &Tables) -> Result<Form, AllocError>
-    ensures form { IfOk result (λ f. tree_of f ≡ code_form tables.now.behaviours tables.now.starts (set (code_of value.now))) }
+fn put_set(out: &mut Vec<u8>, value: &Expr, tables: &Tables) -> Result<(), AllocError>
+    ensures text { OnOk result (out.new.items ≡ out.old.items ++ print_of (code_form tables.now.behaviours tables.now.starts (set (code_of value.now)))) }
+    ensures bytes { OnOk result (HasBytes (code_form tables.now.behaviours tables.now.starts (set (code_of value.now)))) }
     ensures integers { OnOk result (Throughout HasFittingInteger (set (code_of value.now))) }
 {
-    let mut forms = begin(alloc, b"set")?;
-    add_expression(alloc, &mut forms, value, tables)?;
-    Ok(Form::List(forms))
+    begin(out, b"set")?;
+    add_expression(out, value, tables)?;
+    end(out)
 }
 
-/// `(send e e)`.
-#[cycle(write)]
+/// Adds `(send e e)`.
+#[cycle(put)]
 #[tactic(auto, using(tau_sexpr::proofs::Literals::word_literal), unfolding(tau_sexpr::specs::Bytes::is_word_byte, tau_sexpr::specs::Bytes::is_letter_or_digit, tau_sexpr::specs::Bytes::is_word_sign))]
-fn write_send(alloc: Global, to: &Expr, value: &Expr, tables: &Tables) -> Result<Form, AllocError>
-    ensures form { IfOk result (λ f. tree_of f ≡ code_form tables.now.behaviours tables.now.starts (send (code_of to.now) (code_of value.now))) }
+fn put_send(out: &mut Vec<u8>, to: &Expr, value: &Expr, tables: &Tables) -> Result<(), AllocError>
+    ensures text { OnOk result (out.new.items ≡ out.old.items ++ print_of (code_form tables.now.behaviours tables.now.starts (send (code_of to.now) (code_of value.now)))) }
+    ensures bytes { OnOk result (HasBytes (code_form tables.now.behaviours tables.now.starts (send (code_of to.now) (code_of value.now)))) }
     ensures integers { OnOk result (Throughout HasFittingInteger (send (code_of to.now) (code_of value.now))) }
 {
-    let mut forms = begin(alloc, b"send")?;
-    add_expression(alloc, &mut forms, to, tables)?;
-    add_expression(alloc, &mut forms, value, tables)?;
-    Ok(Form::List(forms))
+    begin(out, b"send")?;
+    add_expression(out, to, tables)?;
+    add_expression(out, value, tables)?;
+    end(out)
 }
 
-/// `(new BEHAVIOUR e e)`.
-#[cycle(write)]
+/// Adds `(new BEHAVIOUR e e)`.
+#[cycle(put)]
 #[tactic(auto, using(tau_sexpr::proofs::Literals::word_literal), unfolding(tau_sexpr::specs::Bytes::is_word_byte, tau_sexpr::specs::Bytes::is_letter_or_digit, tau_sexpr::specs::Bytes::is_word_sign))]
-fn write_new(
-    alloc: Global,
+fn put_new(
+    out: &mut Vec<u8>,
     behaviour: u32,
     node: &Expr,
     state: &Expr,
     tables: &Tables,
-) -> Result<Form, AllocError>
-    ensures form { IfOk result (λ f. tree_of f ≡ code_form tables.now.behaviours tables.now.starts (new behaviour (code_of node.now) (code_of state.now))) }
+) -> Result<(), AllocError>
+    ensures text { OnOk result (out.new.items ≡ out.old.items ++ print_of (code_form tables.now.behaviours tables.now.starts (new behaviour (code_of node.now) (code_of state.now)))) }
+    ensures bytes { OnOk result (HasBytes (code_form tables.now.behaviours tables.now.starts (new behaviour (code_of node.now) (code_of state.now)))) }
     ensures integers { OnOk result (Throughout HasFittingInteger (new behaviour (code_of node.now) (code_of state.now))) }
 {
-    let mut forms = begin(alloc, b"new")?;
-    add_name(alloc, &mut forms, &tables.behaviours, behaviour)?;
-    add_expression(alloc, &mut forms, node, tables)?;
-    add_expression(alloc, &mut forms, state, tables)?;
-    Ok(Form::List(forms))
+    begin(out, b"new")?;
+    add_name(out, &tables.behaviours, behaviour)?;
+    add_expression(out, node, tables)?;
+    add_expression(out, state, tables)?;
+    end(out)
 }
 
-#[cycle(write)]
-fn add_expression(
-    alloc: Global,
-    forms: &mut Forms,
+/// Adds a space and an expression.
+#[cycle(put)]
+pub(crate) fn add_expression(
+    out: &mut Vec<u8>,
     expr: &Expr,
     tables: &Tables,
 ) -> Result<(), AllocError>
-    ensures forms { OnOk result (forms.new ≡ forms.old ++ code_form tables.now.behaviours tables.now.starts (code_of expr.now) ∷ []) }
+    ensures text { OnOk result (out.new.items ≡ out.old.items ++ 32 ∷ print_of (code_form tables.now.behaviours tables.now.starts (code_of expr.now))) }
+    ensures bytes { OnOk result (HasBytes (code_form tables.now.behaviours tables.now.starts (code_of expr.now))) }
     ensures integers { OnOk result (Throughout HasFittingInteger (code_of expr.now)) }
 {
-    forms.add(write_expression(alloc, expr, tables)?)
+    out.push(b' ')?;
+    put_expression(out, expr, tables)
 }
 
-/// `(name START)`.
+/// Adds `(name START)`.
 #[tactic(auto, using(tau_sexpr::proofs::Literals::word_literal), unfolding(tau_sexpr::specs::Bytes::is_word_byte, tau_sexpr::specs::Bytes::is_letter_or_digit, tau_sexpr::specs::Bytes::is_word_sign))]
-fn write_start(alloc: Global, number: u32, starts: &Names) -> Result<Form, AllocError>
-    ensures { IfOk result (λ f. tree_of f ≡ headed (codes "name") (name_of starts.now number ∷ [])) }
+fn put_start_name(out: &mut Vec<u8>, number: u32, starts: &Names) -> Result<(), AllocError>
+    ensures text { OnOk result (out.new.items ≡ out.old.items ++ print_of (headed (codes "name") (name_of starts.now number ∷ []))) }
+    ensures bytes { OnOk result (HasBytes (headed (codes "name") (name_of starts.now number ∷ []))) }
 {
-    let mut forms = begin(alloc, b"name")?;
-    add_name(alloc, &mut forms, starts, number)?;
-    Ok(Form::List(forms))
+    begin(out, b"name")?;
+    add_name(out, starts, number)?;
+    end(out)
 }
 
-/// A list of one word.
-fn write_alone(alloc: Global, head: &[u8]) -> Result<Form, AllocError>
+/// Adds a list of one word.
+fn put_alone(out: &mut Vec<u8>, head: &[u8]) -> Result<(), AllocError>
     requires { All IsWordByte head.now }
-    ensures { IfOk result (λ f. tree_of f ≡ headed head.now []) }
+    ensures text { OnOk result (out.new.items ≡ out.old.items ++ print_of (headed head.now [])) }
+    ensures bytes { OnOk result (HasBytes (headed head.now [])) }
 {
-    Ok(Form::List(begin(alloc, head)?))
-}
-
-/// A list of two words.
-fn form_of_words(alloc: Global, first: &Word, second: &Word) -> Result<Form, AllocError>
-    ensures { IfOk result (λ f. tree_of f ≡ list (more (word first.now) (more (word second.now) none))) }
-{
-    let mut forms = Forms::new(alloc);
-    forms.add(Form::Word(first.copy()?))?;
-    forms.add(Form::Word(second.copy()?))?;
-    Ok(Form::List(forms))
+    begin(out, head)?;
+    end(out)
 }
 
 /// The word of an operation.
@@ -249,41 +252,60 @@ fn word_of(prim: Prim) -> &'static [u8]
     }
 }
 
-/// A list that begins with a word.
-pub(crate) fn begin(alloc: Global, head: &[u8]) -> Result<Forms, AllocError>
-    requires { All IsWordByte head.now }
-    ensures { IfOk result (λ f. f ≡ word head.now ∷ []) }
-{
-    let mut forms = Forms::new(alloc);
-    forms.add(form_of_word(alloc, head)?)?;
-    Ok(forms)
-}
-
-fn form_of_word(alloc: Global, bytes: &[u8]) -> Result<Form, AllocError>
+fn put_word(out: &mut Vec<u8>, bytes: &[u8]) -> Result<(), AllocError>
     requires { All IsWordByte bytes.now }
-    ensures { IfOk result (λ f. tree_of f ≡ word bytes.now) }
+    ensures text { OnOk result (out.new.items ≡ out.old.items ++ bytes.now) }
+    ensures bytes { OnOk result (All IsWordByte bytes.now) }
 {
-    Ok(Form::Word(Word::of(alloc, bytes)?))
+    out.extend_from_slice(bytes)
 }
 
-/// Adds the name with a number, and the empty word where there is none.
-pub(crate) fn add_name(
-    alloc: Global,
-    forms: &mut Forms,
-    names: &Names,
-    number: u32,
-) -> Result<(), AllocError>
-    ensures { OnOk result (forms.new ≡ forms.old ++ name_of names.now number ∷ []) }
+/// Begins a list with a word.
+pub(crate) fn begin(out: &mut Vec<u8>, head: &[u8]) -> Result<(), AllocError>
+    requires { All IsWordByte head.now }
+    ensures text { OnOk result (out.new.items ≡ out.old.items ++ 40 ∷ head.now) }
+    ensures bytes { OnOk result (All IsWordByte head.now) }
 {
-    let name = match names.item(number as usize) {
-        Some(name) => name.copy()?,
-        None => Word::new(alloc),
-    };
-    forms.add(Form::Word(name))
+    out.push(b'(')?;
+    put_word(out, head)
 }
 
-pub(crate) fn add_count(alloc: Global, forms: &mut Forms, count: u32) -> Result<(), AllocError>
-    ensures { OnOk result (forms.new ≡ forms.old ++ count_form count ∷ []) }
+/// Ends a list.
+pub(crate) fn end(out: &mut Vec<u8>) -> Result<(), AllocError>
+    ensures { OnOk result (out.new.items ≡ out.old.items ++ 41 ∷ []) }
 {
-    forms.add(Form::Word(word_of_count(alloc, u64::from(count))?))
+    out.push(b')')?;
+    Ok(())
+}
+
+/// Adds a space and a word.
+pub(crate) fn add_word(out: &mut Vec<u8>, name: &Word) -> Result<(), AllocError>
+    ensures text { OnOk result (out.new.items ≡ out.old.items ++ 32 ∷ name.now) }
+    ensures bytes { OnOk result (All IsWordByte name.now) }
+{
+    out.push(b' ')?;
+    put_word(out, name.bytes())
+}
+
+/// Adds a space and a list of two words.
+fn add_words(out: &mut Vec<u8>, first: &Word, second: &Word) -> Result<(), AllocError>
+    ensures text { OnOk result (out.new.items ≡ out.old.items ++ 32 ∷ print_of (list (more (word first.now) (more (word second.now) none)))) }
+    ensures bytes { OnOk result (HasBytes (list (more (word first.now) (more (word second.now) none)))) }
+{
+    out.push(b' ')?;
+    begin(out, first.bytes())?;
+    add_word(out, second)?;
+    end(out)
+}
+
+/// Adds a space and the name with a number; no name where there is none.
+pub(crate) fn add_name(out: &mut Vec<u8>, names: &Names, number: u32) -> Result<(), AllocError>
+    ensures text { OnOk result (out.new.items ≡ out.old.items ++ 32 ∷ print_of (name_of names.now number)) }
+    ensures bytes { OnOk result (HasBytes (name_of names.now number)) }
+{
+    out.push(b' ')?;
+    match names.item(number as usize) {
+        Some(name) => put_word(out, name.bytes()),
+        None => Ok(()),
+    }
 }

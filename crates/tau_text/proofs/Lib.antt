@@ -7,7 +7,6 @@ pub mod MarkedForms
 pub mod Telling
 pub mod SpellingLemmas
 pub mod Writing
-pub mod ValueTexts
 pub mod StepTexts
 pub mod LineLemmas
 pub mod PartialLemmas

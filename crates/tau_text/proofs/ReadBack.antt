@@ -3,6 +3,7 @@ use Rattle.std.proofs.Common.{◌≡◌, ℕ, ◌<◌, true, false, List, [], �
 use Rattle.std.specs.Prelude.{slice_get, All}
 use Rattle.std.proofs.lemmas.Option.{get_or_from_slice_get}
 use Rattle.tau_sexpr.specs.Tree.{Tree}
+use Rattle.tau_sexpr.specs.Printing.{printed}
 use Rattle.tau_sexpr.specs.Spelling.{IsSpelling}
 use Rattle.tau_tree.specs.declared.programs.Program.{Program}
 use Rattle.tau_forms.specs.Printed as program_forms
@@ -46,11 +47,18 @@ printed_all ts none = no_mark (codes "trace") ts (λ k u l at. at_place ts k u l
     at_place : (ts : List Tree) (k : ℕ) (u : Tree) → k < length ts → slice_get ts k ≡ Some u → is_mark (codes "trace") (get_or ts k u) ≡ false → is_mark (codes "trace") u ≡ false
     at_place ts k u l at n = subst (λ x. is_mark (codes "trace") x ≡ false) (get_or_from_slice_get ts k u u at) n
 
+-- a text that is put behind nothing
+pub alone_spelled : (ts : List Tree) (old new : List ℕ) → old ≡ [] → new ≡ old ++ printed ts → IsSpelling (printed ts) ts → IsSpelling new ts
+alone_spelled ts old new none text s = subst (λ bs. IsSpelling bs ts) (sym (text ∙ ap (λ bs. bs ++ printed ts) none)) s
+
 -- the text of a program is read back
-pub program_read_back : (p : Program) (ts : List Tree) (text : List ℕ) → ts ≡ program_forms.printed p → Means ts p → IsSpelling text ts → IsPrintInput text p
-program_read_back p ts text e m s =
-    let none : All (λ x. is_mark (codes "trace") x ≡ false) ts = subst (All (λ x. is_mark (codes "trace") x ≡ false)) (sym e) (printed_unmarked p) in
-    record { forms = ts; spelled = s; run = empty_run (program_opening p); means = unmarked_run ts p (printed_all ts none) m }
+pub program_read_back : (p : Program) (text : List ℕ) → Means (program_forms.printed p) p → IsSpelling text (program_forms.printed p) → IsPrintInput text p
+program_read_back p text m s = record {
+  forms = program_forms.printed p;
+  spelled = s;
+  run = empty_run (program_opening p);
+  means = unmarked_run (program_forms.printed p) p (printed_all (program_forms.printed p) (printed_unmarked p)) m;
+}
 
 -- the run text of a program and a run is read back
 pub run_texts_read_back : RunTextsAreReadBack

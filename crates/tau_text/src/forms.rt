@@ -13,15 +13,15 @@ ghost use Rattle.tau_text.specs.Inner.Written.{AddsForms, AddsSteps, AddsReport}
 
 use crate::steps::put_step;
 use std::alloc::{AllocError, Global};
-use tau_forms::forms_of;
+use tau_forms::put_program;
 use tau_report::report_forms;
 use tau_sexpr::{Form, Forms, Word, put_form_line, put_forms};
 use tau_trace::Trace;
 use tau_tree::Program;
 
 /// The run text of a program and a trace (docs/formats.md, "Run text"), from which both can be read back. It passes over the
-/// trace once for the steps and once for the report. Beside the text, the forms of one part at a time take memory: those of the
-/// program or of the report. The error is want of memory.
+/// trace once for the steps and once for the report. Beside the text, the forms of the report take memory. The error is want of
+/// memory.
 #[tactic(auto, using(tau_sexpr::proofs::Literals::word_literal), unfolding(tau_sexpr::specs::Bytes::is_word_byte, tau_sexpr::specs::Bytes::is_letter_or_digit, tau_sexpr::specs::Bytes::is_word_sign))]
 pub fn run_text(alloc: Global, program: &Program, trace: &Trace) -> Result<Vec<u8>, AllocError>
     requires opening { trace.now.run.opening ≡ program_opening program.now }
@@ -44,8 +44,8 @@ fn add_program(alloc: Global, text: &mut Vec<u8>, program: &Program) -> Result<(
     ensures forms { OnOk result (AddsForms (program_forms.printed program.now) text.old.items text.new.items) }
     ensures read_back { OnOk result (Means (program_forms.printed program.now) program.now) }
 {
-    let forms = forms_of(alloc, program)?;
-    add_forms(text, &forms)
+    put_program(alloc, text, program)?;
+    Ok(())
 }
 
 /// Adds the text of a mark: a list of one word.

@@ -11,7 +11,6 @@ mod parts;
 mod printing;
 mod reading;
 mod steps;
-mod values;
 
 pub use errors::InputError;
 pub use faults::InputFault;

@@ -6,8 +6,7 @@ ghost use Rattle.tau_forms.specs.Printed as forms;
 ghost use Rattle.tau_text.specs.Meaning.{IsProgram, IsPrintInput};
 
 use std::alloc::{AllocError, Global};
-use tau_forms::forms_of;
-use tau_sexpr::print_forms;
+use tau_forms::put_program;
 use tau_tree::Program;
 
 /// The text of a program: its forms in printing order, one a line (docs/formats.md, "Programs"). It is read back as the
@@ -18,6 +17,7 @@ pub fn program_text(alloc: Global, program: &Program) -> Result<Vec<u8>, AllocEr
     ensures read_back { IfOk result (λ v. IsProgram v.items program.now) }
     ensures printed_back { IfOk result (λ v. IsPrintInput v.items program.now) }
 {
-    let forms = forms_of(alloc, program)?;
-    print_forms(alloc, &forms)
+    let mut text = Vec::new(alloc);
+    put_program(alloc, &mut text, program)?;
+    Ok(text)
 }

@@ -11,8 +11,8 @@ ghost use Rattle.tau_trace.specs.Run.{len};
 ghost use Rattle.tau_steps.specs.StepForms.{truth_form, item_forms, step_form, IsWritten, ValueIsWritten};
 ghost use Rattle.tau_text.specs.Inner.Written.{AddsStep};
 
-use crate::values::{put_count, put_name, put_truth, put_value};
 use std::alloc::AllocError;
+use tau_forms::{put_count, put_name, put_truth, put_value};
 use tau_steps::word_of;
 use tau_trace::{Opening, Step, Trace};
 use tau_value::{Names, Value};
