@@ -31,8 +31,8 @@ pub fn run_serially(
     ensures serial { IfOk result (λ r. IsSerialRun program.now jobs seed limit r.trace.run) }
     ensures ends { IfOk result (λ r. EndsAt limit program.now r.trace.run r.is_complete) }
 {
-    let mut book: Book<'_, MarkedHearing> = Book::open(alloc, program, limit)?;
     let mut hand = Hand::new(alloc, seed, jobs)?;
+    let mut book: Book<'_, MarkedHearing> = Book::open(alloc, program, limit)?;
     work(&mut book, &mut hand, limit)?;
     let is_complete = book.finished().unwrap_or(false);
     Ok(Ran {

@@ -1,9 +1,13 @@
 //! The check of a trace.
 ghost use Rattle.std.specs.Prelude.{◌≡◌, IfOk};
 ghost use Rattle.tau_tree.specs.Sound.{Sound};
+ghost use Rattle.tau_tree.specs.declared.programs.Program.{Program};
+ghost use Rattle.tau_trace.specs.Run.{Run};
 ghost use Rattle.tau_script.specs.Openings.{program_opening};
+ghost use Rattle.tau_check.specs.Inner.Checkers.{HasSteppedTo};
 ghost use Rattle.tau_check.specs.Legality.{IsLegality};
 
+use crate::checker::Checker;
 use crate::following::step_through;
 use std::alloc::{AllocError, Global};
 use tau_trace::Trace;
@@ -26,10 +30,17 @@ pub fn check(alloc: Global, program: &Program, trace: &Trace) -> Result<Legality
     ensures { IfOk result (IsLegality program.now trace.now.run) }
 {
     let (checker, bad) = step_through(alloc, program, trace)?;
+    Ok(legality_of(&checker, bad))
+}
+
+/// What a trace is whose steps a checker has stepped through up to the first that isn't legal, if there is one.
+fn legality_of(checker: &Checker<'_>, bad: Option<u32>) -> Legality
+    ensures { (P : Program) (T : Run) → HasSteppedTo P T checker.now.legal.system checker.now.jobs.items bad → IsLegality P T result }
+{
     match bad {
-        Some(place) => Ok(Legality::Bad { place }),
-        None => Ok(Legality::Legal {
+        Some(place) => Legality::Bad { place },
+        None => Legality::Legal {
             complete: checker.is_complete(),
-        }),
+        },
     }
 }

@@ -2,10 +2,11 @@
 ghost use Rattle.std.specs.Prelude.{◌≡◌, [], IfOk, option_copied};
 ghost use Rattle.tau_tree.specs.Sound.{Sound};
 ghost use Rattle.tau_trace.specs.Run.{len};
-ghost use Rattle.tau_trace.specs.Known.{WellFormed};
+ghost use Rattle.tau_trace.specs.Known.{WellFormed, IsSound};
 ghost use Rattle.tau_script.specs.Openings.{program_opening};
 ghost use Rattle.tau_states.specs.Opening.{opening_states};
 ghost use Rattle.tau_states.specs.Answers.{IsStateAfter, IsSavedAfter};
+ghost use Rattle.tau_states.specs.Table.{opened_run};
 ghost use Rattle.tau_legal.specs.Traces.{Fitting};
 ghost use Rattle.tau_rules.specs.Records.{HasStarts, HasPosts};
 
@@ -55,14 +56,18 @@ impl<'p, K: Knowledge + Drop> System<'p, K> {
         ensures program { IfOk result (λ s. s.program ≡ program.entry.now) }
         ensures run { IfOk result (λ s. s.run ≡ record { opening = program_opening program.entry.now; steps = [] }) }
     {
-        let trace = Trace::begin(alloc, opening_of(alloc, program)?)?;
+        let values = posted_values(alloc, program.posts.items())?;
+        let records = opening_records(alloc, program.starts.items())?;
+        let known = K::open(alloc, program.starts.len(), program.posts.len())?;
+        let states = States::open(alloc, &program.starts)?;
+        let trace = opening_trace(alloc, program)?;
         Ok(System {
             program,
             trace,
-            states: States::open(alloc, &program.starts)?,
-            known: K::open(alloc, program.starts.len(), program.posts.len())?,
-            records: opening_records(alloc, program.starts.items())?,
-            values: posted_values(alloc, program.posts.items())?,
+            states,
+            known,
+            records,
+            values,
             alloc,
         })
     }
@@ -109,6 +114,16 @@ impl<'p, K: Knowledge + Drop> System<'p, K> {
     {
         self.states.saved_of(who)
     }
+}
+
+/// The trace of a program before its first step.
+fn opening_trace(alloc: Global, program: &Program) -> Result<Trace, AllocError>
+    requires { Sound program.now }
+    ensures run { IfOk result (λ t. t.run ≡ opened_run (program_opening program.now)) }
+    ensures sound { IfOk result (λ _. IsSound (program_opening program.now)) }
+{
+    let opening = opening_of(alloc, program)?;
+    Trace::begin(alloc, opening)
 }
 
 /// The records of the starts before the first step.

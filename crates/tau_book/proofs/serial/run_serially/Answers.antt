@@ -16,7 +16,7 @@ returns-clause-serial c =
     let begun : IsAtWork c.args.seed c.in_ok-book.book c.in_ok-hand.hand = begins_work c.args.program.now c.args.seed c.in_ok-book.book c.in_ok-hand.hand c.in_ok-book.ensures.program c.in_ok-book.ensures.run c.in_ok-book.ensures.store c.in_ok-hand.ensures.generator (omega (arith, c.in_ok-hand.ensures.size, c.requires.some)) c.in_ok-hand.ensures.jobs in
     let new : Booked = c.work.new.book in
     let same = c.in_ok-work.ensures.same in
-    let within : len new.system.run ≤ new.limit = subst (λ (b : Booked). len b.system.run ≤ b.limit) c.book-2.view_is c.book-2.invariant.limited in
+    let within : len new.system.run ≤ new.limit = subst (λ (b : Booked). len b.system.run ≤ b.limit) c.book.view_is c.book.invariant.limited in
     subst (λ T. IsSerialRun c.args.program.now c.args.jobs c.args.seed c.args.limit T) (sym c.into_trace.ensures.run)
     (is_serial c.args.program.now c.args.jobs c.args.seed c.args.limit new c.work.new.hand (same.program ∙ c.in_ok-book.ensures.program) (same.limit ∙ c.in_ok-book.ensures.limit) (same.size ∙ c.in_ok-hand.ensures.size) (c.in_ok-work.ensures.works c.args.seed begun) within c.in_ok-work.ensures.over)
 
@@ -26,7 +26,7 @@ returns-clause-ends c =
     let same = c.in_ok-work.ensures.same in
     let program_is = same.program ∙ c.in_ok-book.ensures.program in
     let limit_is : new.limit ≡ c.args.limit = same.limit ∙ c.in_ok-book.ensures.limit in
-    let within : len new.system.run ≤ new.limit = subst (λ (b : Booked). len b.system.run ≤ b.limit) c.book-2.view_is c.book-2.invariant.limited in
+    let within : len new.system.run ≤ new.limit = subst (λ (b : Booked). len b.system.run ≤ b.limit) c.book.view_is c.book.invariant.limited in
     record {
       well_formed = c.into_trace.ensures.well_formed;
       legal = subst (λ p. Legal p c.into_trace.result.run) program_is c.into_trace.ensures.legal;

@@ -15,16 +15,16 @@ use Rattle.tau_rules.proofs.system.System.open.Goals as goal
 pub invariant_of-result : goal.invariant_of-result
 invariant_of-result g c =
     let P : Program = c.args.program.now in
-    let is : c.in_ok-trace.trace.run ≡ opened_run (program_opening P) = c.in_ok-trace.ensures ∙ ap opened_run c.in_ok-opening_of.ensures.opening in
-    let holds = c.in_ok-open.ensures (program_opening P) (length-map (λ s. s.name) P.starts) in
-    let opening : IsSound (program_opening P) = subst (λ (o : Opening). IsSound o) c.in_ok-opening_of.ensures.opening (c.in_ok-opening_of.ensures.sound c.requires) in
-    let starts : HasStarts P.starts c.in_ok-opening_records.field-0.items = subst (λ (ss : List Start). HasStarts ss c.in_ok-opening_records.field-0.items) c.items.ensures c.in_ok-opening_records.ensures in
-    let posts : HasPosts P.posts c.in_ok-posted_values.field-0.items = subst (λ (qs : List Post). HasPosts qs c.in_ok-posted_values.field-0.items) c.items-2.ensures c.in_ok-posted_values.ensures in
-    let system : IsSystem P c.in_ok-trace.trace.run c.in_ok-open.field-0.records c.in_ok-opening_records.field-0.items c.in_ok-posted_values.field-0.items =
-    subst (λ (T : Run). IsSystem P T c.in_ok-open.field-0.records c.in_ok-opening_records.field-0.items c.in_ok-posted_values.field-0.items) (sym is)
-    (opens P c.in_ok-open.field-0.records c.in_ok-opening_records.field-0.items c.in_ok-posted_values.field-0.items c.requires opening holds starts posts) in
+    let is : c.in_ok-trace.trace.run ≡ opened_run (program_opening P) = c.in_ok-trace.ensures.run in
+    let holds = c.in_ok-states.ensures (program_opening P) (length-map (λ s. s.name) P.starts) in
+    let opening : IsSound (program_opening P) = c.in_ok-trace.ensures.sound in
+    let starts : HasStarts P.starts c.in_ok-records.records.items = subst (λ (ss : List Start). HasStarts ss c.in_ok-records.records.items) c.items-2.ensures c.in_ok-records.ensures in
+    let posts : HasPosts P.posts c.in_ok-values.values.items = subst (λ (qs : List Post). HasPosts qs c.in_ok-values.values.items) c.items.ensures c.in_ok-values.ensures in
+    let system : IsSystem P c.in_ok-trace.trace.run c.in_ok-states.states.records c.in_ok-records.records.items c.in_ok-values.values.items =
+    subst (λ (T : Run). IsSystem P T c.in_ok-states.states.records c.in_ok-records.records.items c.in_ok-values.values.items) (sym is)
+    (opens P c.in_ok-states.states.records c.in_ok-records.records.items c.in_ok-values.values.items c.requires opening holds starts posts) in
     let starting : length (program_opening P).names ≡ c.len.result = length-map (λ s. s.name) P.starts ∙ sym c.len.ensures in
     let posted : length (program_opening P).targets ≡ c.len-2.result = length-map (λ q. q.to) P.posts ∙ sym c.len-2.ensures in
-    let knows = subst (λ (T : Run). g.K.Knowledge.knows c.in_ok-open-2.field-0 T) (sym is)
-    (c.in_ok-open-2.ensures (program_opening P) opening starting posted) in
+    let knows = subst (λ (T : Run). g.K.Knowledge.knows c.in_ok-known.known T) (sym is)
+    (c.in_ok-known.ensures (program_opening P) opening starting posted) in
     (system, knows)
