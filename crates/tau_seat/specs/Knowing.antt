@@ -11,7 +11,7 @@ use Rattle.tau_seat.specs.Seated.{Seated, seen_run, IsBookAt}
 abbrev pub IsSeenOpen : Seated → TurnSoFar → Type 0
 IsSeenOpen s job = WasOpenJob s.program (seen_run s) job
 
--- at some moment of the run that the seat has seen since then, a job had come back to the book
+-- a book with the trace of some moment of the run that the seat has seen since then had a job that had come back
 pub record HadReturned (old new : Seated) : Type 0 where
   pub others : List (Step × ℕ)
   pub book : Booked
