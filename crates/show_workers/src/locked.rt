@@ -7,7 +7,7 @@ use crate::limited::LimitedPlace;
 use std::alloc::{AllocError, Global};
 use std::sync::Wait;
 use std::thread::Threads;
-use tau_book::{Book, Hand};
+use tau_book::{Book, Hand, Ran};
 use tau_clean::MarkedHearing;
 use tau_tree::Program;
 use tau_workers::{LockedBook, OpenGate, Settings, Worker, finish, run};
@@ -24,14 +24,13 @@ pub fn add_locked<R: Threads + Wait + Sync>(
     settings: Settings,
 ) -> Result<(), AllocError>
     requires sound { Sound program.now }
-    requires jobs { 1 ≤ settings.jobs }
+    requires some { 1 ≤ settings.jobs }
     requires few { settings.jobs ≤ 16 }
     requires limit { settings.limit ≤ STEP_LIMIT }
 {
-    let locked = LockedBook::new(Book::open(alloc, program, settings.limit)?);
-    work(rt, alloc, &locked, settings, ALL)?;
-    let is_complete = locked.into_book().finished() == Some(true);
+    let (_short, ran) = run_locked(rt, alloc, program, settings, ALL)?;
     let workers = settings.workers;
+    let is_complete = ran.is_complete;
     writeln!(
         text,
         "{workers} workers under a lock: ended, complete: {is_complete}"
@@ -52,17 +51,34 @@ pub fn add_short<R: Threads + Wait + Sync>(
     requires few { settings.jobs ≤ 16 }
     requires limit { settings.limit ≤ STEP_LIMIT }
 {
-    let locked = LockedBook::new(Book::open(alloc, program, settings.limit)?);
-    let short = work(rt, alloc, &locked, settings, 1)?;
+    let (short, ran) = run_locked(rt, alloc, program, settings, 1)?;
     let workers = settings.workers;
-    let ran = finish(alloc, locked.into_book(), settings.seed, settings.jobs)?;
-    writeln!(text, "{workers} workers under a lock: short: {short}")?;
     let steps = ran.trace.len();
     let is_complete = ran.is_complete;
     writeln!(
         text,
-        "one hand alone: ended, steps: {steps}, complete: {is_complete}"
+        "{workers} workers under a lock: short: {short}\none hand alone: ended, steps: {steps}, complete: {is_complete}"
     )
+}
+
+/// Runs the program by workers on a book under a lock, each with so many answers, and by one hand alone where they leave it unfinished. How
+/// many were short of memory, and what was made.
+fn run_locked<R: Threads + Wait + Sync>(
+    rt: &R,
+    alloc: Global,
+    program: &Program,
+    settings: Settings,
+    answers: u64,
+) -> Result<(usize, Ran), AllocError>
+    requires sound { Sound program.now }
+    requires some { 1 ≤ settings.jobs }
+    requires few { settings.jobs ≤ 16 }
+    requires limit { settings.limit ≤ STEP_LIMIT }
+{
+    let locked = LockedBook::new(Book::open(alloc, program, settings.limit)?);
+    let short = work(rt, alloc, &locked, settings, answers);
+    let ran = finish(alloc, locked.into_book(), settings.seed, settings.jobs)?;
+    Ok((short?, ran))
 }
 
 /// Lets workers work on a book under a lock, each with so many answers, until it is finished or all are short of memory. How many are

@@ -1,12 +1,9 @@
-//! Runs of programs by workers, and what a book answers to single hands and seats. Standard input has sections: a line `# WAY`, or
-//! `# WAY NUMBER..`, then a program. For each way, and for each of its numbers, lines tell what came of it:
+//! Runs of programs by workers, and what a book answers to single hands at seats. Standard input has sections: a line `# WAY`,
+//! `# WAY NUMBER..` or `# deeds WORD..`, then a program. For each way, and for each of its numbers, lines tell what came of it:
 //!
 //! - `held`: two workers are held by gates, so that one input gives two traces, by `run_workers` and by the command `run`;
-//! - `hands`: a book answers two hands;
-//! - `dropped`: a hand leaves with the job of its turn, the book adopts another, and a new hand goes on;
-//! - `given-back`: the same, but the hand gives its job back and leaves without;
-//! - `asks`: a book answers two seats that ask once each;
-//! - `gates`: two hands at a book with two seats pass two gates in turn, in both orders;
+//! - `deeds WORD..`: two hands at a book with two seats do in turn what the words say, the book that comes back adopts jobs for the
+//!   turns that they have left open, and a last hand goes on alone;
 //! - `seats W..`: so many workers run the program on seats, as `run_workers` does it: whether the run ended, and whether it is told as
 //!   complete;
 //! - `checked W..`: the same, and the trace is checked: whether it is legal and complete;
@@ -19,23 +16,21 @@
 ghost use Rattle.std.specs.Prelude.{IfSome};
 ghost use Rattle.tau_tree.specs.Sound.{Sound};
 
-mod asks;
 mod cases;
+mod deeds;
 mod facts;
-mod gates;
-mod hands;
 mod holding;
-mod jobs;
-mod leaving;
 mod limited;
 mod locked;
-mod names;
 mod pair;
+mod rest;
 mod runs;
 mod side;
+mod told;
 mod turns;
 mod ways;
 
+use crate::deeds::add_deeds;
 use crate::ways::{add_number, add_way};
 use std::alloc::{AllocError, Global};
 use std::process::ExitCode;
@@ -89,7 +84,7 @@ fn add_section<R: Threads + Wait + Sync>(
     add_line(rt, alloc, text, line, &program, spelled)
 }
 
-/// Adds what came of the line above a program: of its way, or of each of its numbers.
+/// Adds what came of the line above a program: of its way, of its deeds, or of each of its numbers.
 fn add_line<R: Threads + Wait + Sync>(
     rt: &R,
     alloc: Global,
@@ -100,10 +95,13 @@ fn add_line<R: Threads + Wait + Sync>(
 ) -> Result<(), AllocError>
     requires { Sound program.now }
 {
-    let Some((way, numbers)) = line.split_once(" ") else {
+    let Some((way, words)) = line.split_once(" ") else {
         return add_way(rt, alloc, text, line, program, spelled);
     };
-    for word in numbers.split_whitespace() {
+    if way == "deeds" {
+        return add_deeds(rt, alloc, text, program, words);
+    }
+    for word in words.split_whitespace() {
         match word.parse() {
             Ok(number) if number > 0 => add_number(rt, alloc, text, way, program, number)?,
             _ => text.push_str("no number\n")?,

@@ -1,11 +1,12 @@
-//! A hand at a seat, and what it does at the two gates.
-ghost use Rattle.std.specs.Prelude.{◌≡◌};
+//! A hand at a seat, and what it does there.
+ghost use Rattle.std.specs.Prelude.{◌≡◌, IfOk};
 ghost use Rattle.show_workers.specs.Seats.{IsAt};
 
-use crate::jobs::{effect_of, has_stepped, job_of};
+use crate::told::add_told;
 use std::alloc::{AllocError, Global};
+use std::mem;
 use std::sync::Wait;
-use tau_book::Hand;
+use tau_book::{Hand, Next, Told};
 use tau_clean::MarkedHearing;
 use tau_eval::{Job, Pending};
 use tau_seat::{BookSeat, SeatBook};
@@ -27,16 +28,16 @@ impl Who {
     }
 }
 
-/// A hand and its seat, and the job that it was handed at the first gate.
+/// A hand and its seat, and the job that it was handed.
 #[derive(Drop)]
 pub struct Side<'p> {
     pub who: Who,
     pub seat: BookSeat<'p, MarkedHearing>,
-    pub hand: Hand<'p>,
-    pub job: Option<Job<'p>>,
+    hand: Hand<'p>,
+    job: Option<Job<'p>>,
 }
 
-/// A hand at a seat, with no job at hand.
+/// A new hand at a seat.
 pub fn side_of<'p>(who: Who, seat: BookSeat<'p, MarkedHearing>, hand: Hand<'p>) -> Side<'p>
     ensures { result.seat ≡ seat.entry }
 {
@@ -55,9 +56,10 @@ pub fn seat_of<'p>(side: Side<'p>) -> BookSeat<'p, MarkedHearing>
     side.seat
 }
 
-/// The first gate: a hand asks, and keeps the job that it is handed beside it. Whether a step was appended.
+/// A hand asks, and keeps the job that it is handed. Adds what it is told, and how many jobs it holds. Whether a step was appended.
 pub fn ask<'p, R: Wait>(
     rt: &R,
+    text: &mut String,
     table: &SeatBook<'p, MarkedHearing>,
     side: &mut Side<'p>,
 ) -> Result<bool, AllocError>
@@ -65,12 +67,15 @@ pub fn ask<'p, R: Wait>(
     ensures at { IsAt table.now side.new.seat }
 {
     let answer = table.next(rt, &mut side.seat, &mut side.hand)?;
+    let added = add_told(text, &answer, side.who.name());
     let (job, has_stepped) = job_of(answer);
     side.job = job;
+    added?;
+    add_len(text, &side.hand)?;
     Ok(has_stepped)
 }
 
-/// The second gate: a hand evaluates the job that it was handed, and brings the effect. Whether a step was appended.
+/// A hand evaluates the job that it was handed, and brings the effect. Whether a step was appended.
 pub fn bring<'p, R: Wait>(
     rt: &R,
     table: &SeatBook<'p, MarkedHearing>,
@@ -101,4 +106,71 @@ fn act<'p, R: Wait>(
     }
     let told = table.act(rt, seat, hand, pending);
     has_stepped(told)
+}
+
+/// A hand gives its jobs back. Adds how many it holds then. No step is appended.
+pub fn give_back<'p, R: Wait>(
+    rt: &R,
+    text: &mut String,
+    table: &SeatBook<'p, MarkedHearing>,
+    side: &mut Side<'p>,
+) -> Result<bool, AllocError>
+    requires at { IsAt table.now side.old.seat }
+    ensures at { IsAt table.now side.new.seat }
+{
+    take_turn(rt, table, side);
+    add_len(text, &side.hand)?;
+    Ok(false)
+}
+
+/// A turn of the seat in which the hand gives its jobs back.
+pub fn take_turn<'p, R: Wait>(rt: &R, table: &SeatBook<'p, MarkedHearing>, side: &mut Side<'p>)
+    requires at { IsAt table.now side.old.seat }
+    ensures at { IsAt table.now side.new.seat }
+{
+    table.give_back(rt, &mut side.seat, &mut side.hand);
+}
+
+/// A hand leaves with its jobs, and a new one takes its seat. No step is appended.
+pub fn leave<'p>(alloc: Global, text: &mut String, side: &mut Side<'p>) -> Result<bool, AllocError>
+    ensures { side.new.seat ≡ side.old.seat }
+{
+    add_len(text, &side.hand)?;
+    let hand = Hand::new(alloc, 0, 1)?;
+    let _left = mem::replace(&mut side.hand, hand);
+    let _job = side.job.take();
+    Ok(false)
+}
+
+/// Adds how many jobs a hand holds.
+fn add_len(text: &mut String, hand: &Hand<'_>) -> Result<(), AllocError> {
+    writeln!(text, "the jobs that it holds: {}", hand.len())
+}
+
+/// The job that is handed out, and whether a step was appended.
+fn job_of<'p>(answer: Next<'p>) -> (Option<Job<'p>>, bool) {
+    match answer {
+        Next::Work(job) => (Some(job), false),
+        Next::Stepped => (None, true),
+        _ => (None, false),
+    }
+}
+
+/// The effect that a job comes to next.
+fn effect_of<'p>(job: Option<Job<'p>>) -> Result<Option<Pending<'p>>, AllocError> {
+    let Some(job) = job else {
+        return Ok(None);
+    };
+    match job.advance() {
+        Ok(pending) => Ok(Some(pending)),
+        Err((_job, failed)) => Err(failed),
+    }
+}
+
+/// Whether the answer tells a step.
+fn has_stepped<'p>(told: Result<Told<'p>, (Pending<'p>, AllocError)>) -> Result<bool, AllocError> {
+    match told {
+        Ok(told) => Ok(matches!(told, Told::Stepped)),
+        Err((_pending, failed)) => Err(failed),
+    }
 }

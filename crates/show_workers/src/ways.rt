@@ -3,11 +3,7 @@ ghost use Rattle.std.specs.Prelude.{◌≤◌};
 ghost use Rattle.tau_value.specs.declared.limits.TheConstants.{STEP_LIMIT};
 ghost use Rattle.tau_tree.specs.Sound.{Sound};
 
-use crate::asks::add_asks;
 use crate::cases::add_cases;
-use crate::gates::add_orders;
-use crate::hands::add_hands;
-use crate::leaving::{Leaving, add_leaving};
 use crate::locked::{add_locked, add_short};
 use crate::runs::{add_checked, add_run};
 use crate::turns::add_turns;
@@ -31,11 +27,6 @@ pub fn add_way<R: Threads + Wait + Sync>(
 {
     match way {
         "held" => add_cases(rt, alloc, text, program, spelled),
-        "hands" => add_hands(alloc, text, program),
-        "dropped" => add_leaving(alloc, text, program, Leaving::WithItsJob),
-        "given-back" => add_leaving(alloc, text, program, Leaving::WithoutJobs),
-        "asks" => add_asks(rt, alloc, text, program),
-        "gates" => add_orders(rt, alloc, text, program),
         _ => text.push_str("no way\n"),
     }
 }

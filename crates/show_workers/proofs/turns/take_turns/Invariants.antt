@@ -1,5 +1,5 @@
-use Rattle.tau_seat.specs.Seated.{Stays}
+use Rattle.show_workers.specs.Seats.{IsAt}
 use Rattle.show_workers.proofs.turns.take_turns.Given as goal
 
 abbrev pub invariant-loop : goal.invariant-loop
-invariant-loop g l = Stays l.fn.seat l.seat
+invariant-loop g l = record { at : IsAt l.fn.table l.side.seat }
