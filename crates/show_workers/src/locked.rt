@@ -15,7 +15,8 @@ use tau_workers::{LockedBook, OpenGate, Settings, Worker, finish, run};
 /// More answers than a run asks for.
 const ALL: u64 = u64::MAX;
 
-/// Runs the program by workers on a book under a lock, and adds that the run ended, and whether it is complete.
+/// Runs the program by workers on a book under a lock, and adds that the run ended, how many of them were short of memory, and whether it
+/// is complete.
 pub fn add_locked<R: Threads + Wait + Sync>(
     rt: &R,
     alloc: Global,
@@ -28,12 +29,12 @@ pub fn add_locked<R: Threads + Wait + Sync>(
     requires few { settings.jobs ≤ 16 }
     requires limit { settings.limit ≤ STEP_LIMIT }
 {
-    let (_short, ran) = run_locked(rt, alloc, program, settings, ALL)?;
+    let (short, ran) = run_locked(rt, alloc, program, settings, ALL)?;
     let workers = settings.workers;
     let is_complete = ran.is_complete;
     writeln!(
         text,
-        "{workers} workers under a lock: ended, complete: {is_complete}"
+        "{workers} workers under a lock: ended, short: {short}, complete: {is_complete}"
     )
 }
 

@@ -7,7 +7,8 @@
 //! - `seats W..`: so many workers run the program on seats, as `run_workers` does it: whether the run ended, and whether it is told as
 //!   complete;
 //! - `checked W..`: the same, and the trace is checked: whether it is legal and complete;
-//! - `lock W..`: so many workers run it on a book under a lock: whether the run ended, and whether it is complete;
+//! - `lock W..`: so many workers run it on a book under a lock: whether the run ended, how many of them were short of memory, where one hand
+//!   would make what is left, and whether the run is complete;
 //! - `both W..`: `checked`, then `lock`;
 //! - `short W..`: so many workers are short of memory behind one answer each, and one hand alone makes the steps that are left;
 //! - `turns N..`: one seat takes so many turns.
