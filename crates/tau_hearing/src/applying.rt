@@ -8,7 +8,7 @@ ghost use Rattle.tau_hearing.specs.Bounds.{AreRaised};
 ghost use Rattle.tau_hearing.specs.Changed.{HasLogRoom, IsLogAfter, HasRoomToHear, IsHeardAfter, IsOwnAfter, roots_after, touched_after, depended_after};
 ghost use Rattle.tau_hearing.specs.After.{HasActorRoom, IsActorAfter, HasRoom, IsAfter, with_last, without, one_if};
 
-use crate::change::{ActorChange, HearingChange, LogChange, Newborn, TurnChange};
+use crate::change::{ActorChange, BoxedNewborn, HearingChange, LogChange, Newborn, TurnChange};
 use crate::hearing::Hearing;
 use crate::letter::{Letter, Sender};
 use crate::own::Own;
@@ -149,7 +149,7 @@ fn change_actor(
 }
 
 /// Adds what is kept of a transactor that a step makes, in the room that there is.
-fn add_newborn(logs: &mut Vec<Log>, own: &mut Vec<Own>, newborn: Option<Newborn>)
+fn add_newborn(logs: &mut Vec<Log>, own: &mut Vec<Own>, newborn: Option<BoxedNewborn>)
     requires logs { vec_len logs.old < vec_capacity logs.old }
     requires own { vec_len own.old < vec_capacity own.old }
     ensures logs { logs.new.items ≡ with_last (option_map (λ b. b.log) newborn) logs.old.items }
@@ -159,7 +159,7 @@ fn add_newborn(logs: &mut Vec<Log>, own: &mut Vec<Own>, newborn: Option<Newborn>
         let Newborn {
             log,
             own: newborn_own,
-        } = newborn;
+        } = newborn.into_newborn();
         logs.push_reserved(log);
         own.push_reserved(newborn_own);
     }

@@ -1,9 +1,11 @@
 //! What a step changes in what is kept.
-ghost use Rattle.std.specs.Prelude.{◌≡◌};
+ghost use Rattle.std.specs.Prelude.{◌≡◌, IfOk};
 ghost use Rattle.tau_hearing.specs.Next.{actor_change, turn_change};
 
 use crate::letter::Letter;
 use crate::own::Own;
+use std::alloc::{AllocError, Global};
+use std::marker::Model;
 use tau_logs::{Log, Version};
 use tau_points::Point;
 use tau_taking::Roots;
@@ -14,7 +16,7 @@ pub struct HearingChange {
     /// What becomes of the transactor that makes the step.
     pub actor: Option<ActorChange>,
     /// The transactor that the step makes.
-    pub newborn: Option<Newborn>,
+    pub newborn: Option<BoxedNewborn>,
     /// The message that the step takes out of flight.
     pub gone: Option<u32>,
     /// The message that the step makes.
@@ -41,6 +43,39 @@ pub struct ActorChange {
 pub struct Newborn {
     pub log: Log,
     pub own: Own,
+}
+
+/// A new transactor behind its address: few steps make one, and the change of each step is moved from call to call. Contracts see the
+/// transactor.
+#[derive(Drop)]
+pub struct BoxedNewborn {
+    newborn: Box<Newborn>,
+}
+
+impl Model for BoxedNewborn {
+    ghost use Rattle.tau_hearing.specs.declared.change.Newborn.{Newborn};
+
+    ghost Value = { Newborn };
+
+    ghost view = { λ b. b.newborn.value };
+}
+
+impl BoxedNewborn {
+    /// The new transactor behind a new box. The error is want of memory.
+    pub(crate) fn new(alloc: Global, newborn: Newborn) -> Result<BoxedNewborn, AllocError>
+        ensures { IfOk result (λ b. b ≡ newborn) }
+    {
+        Ok(BoxedNewborn {
+            newborn: Box::new(alloc, newborn)?,
+        })
+    }
+
+    /// The new transactor, out of its box.
+    pub(crate) fn into_newborn(self) -> Newborn
+        ensures { result ≡ self }
+    {
+        Box::into_inner(self.newborn)
+    }
 }
 
 /// What becomes of a log.

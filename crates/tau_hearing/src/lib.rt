@@ -1,7 +1,7 @@
 //! What the transactors and messages of a run have heard, as numbers of versions over logs that all share.
 #![tactic(auto)]
 
-pub use change::{ActorChange, HearingChange, LogChange, Newborn, TurnChange};
+pub use change::{ActorChange, BoxedNewborn, HearingChange, LogChange, Newborn, TurnChange};
 pub use hearing::Hearing;
 pub use letter::{Letter, Sender};
 pub use own::Own;

@@ -9,7 +9,7 @@ ghost use Rattle.tau_hearing.specs.After.{Leads};
 ghost use Rattle.tau_hearing.specs.Next.{IsNext};
 
 use crate::along::inherited;
-use crate::change::{ActorChange, HearingChange, LogChange, Newborn, TurnChange};
+use crate::change::{ActorChange, BoxedNewborn, HearingChange, LogChange, Newborn, TurnChange};
 use crate::hearing::Hearing;
 use crate::letter::{Letter, Sender};
 use crate::own::Own;
@@ -174,9 +174,10 @@ impl Hearing {
                 depended: false,
             },
         };
+        let boxed = BoxedNewborn::new(self.alloc, newborn)?;
         Ok(HearingChange {
             actor: Some(ActorChange::of(who, None, LogChange::Stays, TurnChange::Stays)),
-            newborn: Some(newborn),
+            newborn: Some(boxed),
             gone: None,
             letter: None,
             falls: false,

@@ -16,7 +16,7 @@ returns c =
     let first = subst F c.deref.ensures.value (record { versions = c.in_ok-newborn.ensures.versions; takes = c.in_ok-newborn.ensures.takes; tells = c.in_ok-newborn.ensures.tells }) in
     let G : Own → List Point → Type 0 = TakesAlong (appended c.args.trace.now.run c.args.step.now) c.args.who (len c.args.trace.now.run) in
     let H : List ℕ → ℕ → Type 0 = λ xs v. AreRaised xs c.args.who v [] c.in_ok-numbers.numbers.numbers in
-    rw c.of.ensures
+    rw (c.of.ensures, c.in_ok-boxed.ensures)
     (new_leads c.args.self.now c.args.trace.now.run c.args.step.now c.requires.next c.args.who c.requires.by kind.0 kind.1 kind.2
     (record { log = c.in_ok-newborn.field-0; own = record { numbers = c.in_ok-numbers.numbers; roots = c.none.result; touched = false; depended = false } })
     c.in_ok-takes.takes.items kind.3 first (λ x e. subst (G x) (sym c.in_ok-takes.ensures) (c.in_ok-along.ensures x e))
