@@ -1,5 +1,5 @@
 //! Expressions, made of their parts.
-ghost use Rattle.std.specs.Prelude.{◌≡◌, [], ◌∷◌, ◌++◌, IfOk, OnOk};
+ghost use Rattle.std.specs.Prelude.{◌≡◌, [], ◌∷◌, IfOk};
 ghost use Rattle.tau_tree.specs.Code.{if_else, set as set_code, send as send_code};
 ghost use Rattle.tau_tree.specs.Expr.{code_of, codes_of};
 ghost use Rattle.tau_gen.specs.Hop.{of_two};
@@ -13,23 +13,13 @@ fn boxed(alloc: Global, expr: Expr) -> Result<Box<Expr>, AllocError>
     Ok(Box::new(alloc, expr)?)
 }
 
-/// Adds an expression at the end of a list.
-pub(crate) fn add(exprs: &mut Exprs, expr: Expr) -> Result<(), AllocError>
-    ensures { OnOk result (codes_of exprs.new ≡ codes_of exprs.old ++ code_of expr ∷ []) }
-{
-    match exprs.push(expr) {
-        Ok(()) => Ok(()),
-        Err((_expr, failed)) => Err(failed),
-    }
-}
-
 /// A list of two expressions.
 pub(crate) fn pair(alloc: Global, one: Expr, two: Expr) -> Result<Exprs, AllocError>
     ensures { IfOk result (λ es. codes_of es ≡ code_of one ∷ code_of two ∷ []) }
 {
-    let mut exprs = Exprs::new(alloc);
-    add(&mut exprs, one)?;
-    add(&mut exprs, two)?;
+    let mut exprs = Exprs::with_capacity(alloc, 2)?;
+    exprs.add(one)?;
+    exprs.add(two)?;
     Ok(exprs)
 }
 

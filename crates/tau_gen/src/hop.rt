@@ -3,7 +3,7 @@ ghost use Rattle.std.specs.Prelude.{◌≡◌, IfOk};
 ghost use Rattle.tau_tree.specs.Expr.{code_of};
 ghost use Rattle.tau_gen.specs.Hop.{all_starts as starts_code, at_multiples as multiples_code, hop_body as body_code, last_hop as last_code, other_hop as other_code, pass_on as passing_code};
 
-use crate::expressions::{add, apply, choice, pair, send, set};
+use crate::expressions::{apply, choice, pair, send, set};
 use std::alloc::{AllocError, Global};
 use tau_tree::{Expr, Exprs, Prim};
 
@@ -31,10 +31,10 @@ fn other_hop(alloc: Global) -> Result<Expr, AllocError>
 {
     let sum = apply(alloc, Prim::Add, Expr::Get, Expr::Msg)?;
     let mut exprs = Exprs::new(alloc);
-    add(&mut exprs, at_multiples(alloc, 3, set(alloc, sum)?)?)?;
-    add(&mut exprs, at_multiples(alloc, 5, Expr::Stabilize)?)?;
-    add(&mut exprs, at_multiples(alloc, 11, Expr::Rollback)?)?;
-    add(&mut exprs, pass_on(alloc)?)?;
+    exprs.add(at_multiples(alloc, 3, set(alloc, sum)?)?)?;
+    exprs.add(at_multiples(alloc, 5, Expr::Stabilize)?)?;
+    exprs.add(at_multiples(alloc, 11, Expr::Rollback)?)?;
+    exprs.add(pass_on(alloc)?)?;
     Ok(Expr::Seq(exprs))
 }
 
@@ -67,7 +67,7 @@ fn all_starts(alloc: Global) -> Result<Expr, AllocError>
 {
     let mut exprs = Exprs::new(alloc);
     for number in 0..16 {
-        add(&mut exprs, Expr::Start(number))?;
+        exprs.add(Expr::Start(number))?;
     }
     Ok(Expr::List(exprs))
 }

@@ -1,5 +1,5 @@
 //! Expressions of the behaviour language, and lists of them.
-ghost use Rattle.std.specs.Prelude.{◌≡◌, ◌↔◌, [], ◌∷◌, ◌++◌, length, map, slice_get, IsTrue, IfOk, IfErr, OnOk, option_map};
+ghost use Rattle.std.specs.Prelude.{◌≡◌, ◌↔◌, [], ◌∷◌, ◌++◌, length, map, slice_get, IsTrue, IfOk, IfErr, OnOk, OnErr, option_map};
 ghost use Rattle.tau_tree.specs.Expr.{code_of, codes_of};
 
 use std::alloc::{AllocError, Global};
@@ -261,6 +261,15 @@ impl Exprs {
         }
     }
 
+    /// The empty list, with room for so many expressions. The error is want of memory.
+    pub fn with_capacity(alloc: Global, count: usize) -> Result<Exprs, AllocError>
+        ensures { IfOk result (λ f. codes_of f ≡ []) }
+    {
+        Ok(Exprs {
+            items: Vec::with_capacity(alloc, count)?,
+        })
+    }
+
     /// Adds an expression at the end. Without memory it comes back, and the list stays as it was.
     pub fn push(&mut self, item: Expr) -> Result<(), (Expr, AllocError)>
         ensures ok { OnOk result (codes_of self.new ≡ codes_of self.old ++ code_of item ∷ []) }
@@ -269,6 +278,17 @@ impl Exprs {
         match self.items.push(item) {
             Ok(()) => Ok(()),
             Err(failed) => Err((failed.value, AllocError)),
+        }
+    }
+
+    /// Adds an expression at the end. Without memory it is dropped, and the list stays as it was.
+    pub fn add(&mut self, item: Expr) -> Result<(), AllocError>
+        ensures ok { OnOk result (codes_of self.new ≡ codes_of self.old ++ code_of item ∷ []) }
+        ensures err { OnErr result (codes_of self.new ≡ codes_of self.old) }
+    {
+        match self.push(item) {
+            Ok(()) => Ok(()),
+            Err((_item, failed)) => Err(failed),
         }
     }
 

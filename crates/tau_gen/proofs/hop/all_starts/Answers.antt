@@ -7,4 +7,4 @@ use Rattle.tau_gen.proofs.hop.all_starts.Goals as goal
 pub loop-number-preserved : goal.loop-number-preserved
 loop-number-preserved c =
     let n = c.loop-number.number in
-    c.in_ok-add.ensures ∙ (λ i. c.loop-number.invariant i ++ code_of-Start n i ∷ []) ∙ sym (map-range_with_len_more start 0 n n (omega arith))
+    c.in_ok-add.ensures.ok ∙ (λ i. c.loop-number.invariant i ++ code_of-Start n i ∷ []) ∙ sym (map-range_with_len_more start 0 n n (omega arith))
