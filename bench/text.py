@@ -1,8 +1,8 @@
 #!/usr/bin/env python3
 """Measures `tau print` on large texts: seconds by the clock and by the processor, and the peak of the memory.
 
-It has `bin/tau prove` build the program, and prints a table. Nothing is compared: the aim is two seconds and
-2.5 GB for each text.
+It has `bin/tau prove` build the program, and prints a table. Nothing is compared: what was aimed at stands in
+bench/README.md.
 """
 
 import os

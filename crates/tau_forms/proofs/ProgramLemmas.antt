@@ -1,5 +1,5 @@
 -- The bounds of what a program's forms define, and what the reader tells of them.
-use Rattle.std.proofs.Common.{◌≡◌, ℕ, ◌+◌, ◌≤◌, Bool, true, false, cond, ◌&&◌, nat_le, nat_lt, List, [], ◌∷◌, ◌++◌, length, filter, Option, Some, None, unwrap_or, Result, Ok, Err, refl, subst, arith}
+use Rattle.std.proofs.Common.{◌≡◌, ℕ, ◌+◌, ◌≤◌, Bool, true, false, cond, ◌&&◌, nat_le, nat_lt, List, [], ◌∷◌, ◌++◌, length, filter, Option, Some, None, unwrap_or, Result, Ok, Err, refl, sym, subst, ◌∙◌, arith}
 use Rattle.std.specs.Option.{option_or, option_map_or}
 use Rattle.std.specs.Result.{IfOk, IfErr}
 use Rattle.std.proofs.lemmas.Bool.{ltb-true, ltb-false}
@@ -10,10 +10,11 @@ use Rattle.tau_tree.specs.declared.programs.Program.{Program}
 use Rattle.tau_forms.specs.declared.faults.ProgramError.{ProgramError}
 use Rattle.tau_forms.specs.declared.faults.ProgramError.TheVariants as errors
 use Rattle.tau_forms.specs.declared.keywords.Sort.{Sort}
+use Rattle.tau_forms.specs.declared.tables.Tables.{Tables}
 use Rattle.tau_forms.specs.Faults.{shape, unknown, twice, ProgramFaultAt, IsFirst, IsFault}
 use Rattle.tau_forms.specs.Keywords.{sort_in}
-use Rattle.tau_forms.specs.Meaning.{Means}
-use Rattle.tau_forms.specs.Inner.Passing.{TellsFault, IsRead}
+use Rattle.tau_forms.specs.Meaning.{Means, plain_of, program_in}
+use Rattle.tau_forms.specs.Inner.Passing.{TellsFault, AreAdmitted}
 use Rattle.tau_forms.specs.Tops.{sort_of, is_nodes, is_behaviour, is_start, is_post, is_entry, has, name_in, named_by, with_name, defined_after, starts_of, nodes_in, nodes_of, count_of, limit_of}
 
 -- there are at most 64 nodes
@@ -84,26 +85,29 @@ starts_few false false c d n e h = omega (arith, ltb-false 1024 n e)
 pub starts_le : (ts : List Tree) → limit_of ts ≡ None → length (starts_of ts) ≤ 1024
 starts_le ts h = omega (arith, defined_le is_start [] ts, starts_few (nat_lt 256 (count_of is_behaviour ts)) (nat_lt 1024 (count_of is_start ts)) (nat_lt 4096 (count_of is_post ts)) (nat_lt 4096 (count_of is_entry ts)) (count_of is_start ts) refl h)
 
--- what the reader tells of forms that keep the limits
-pub means_read : (ts : List Tree) (r : Result Program ProgramError) → limit_of ts ≡ None → IfOk r (IsRead ts) → IfOk r (Means ts)
-means_read ts (Ok p) limits h = record { limits = limits; faultless = h.faultless; is = h.is }
-means_read ts (Err e) limits h = tt
+-- what the reader tells of forms
+pub means_admitted : (ts : List Tree) (tb : Tables) (p : Program) → AreAdmitted ts tb → plain_of p ≡ program_in ts → Means ts p
+means_admitted ts tb p a is = record { limits = a.limits; faultless = a.faultless; is = is }
 
-told : (ts : List Tree) (e : ProgramError) → limit_of ts ≡ None → TellsFault (ProgramFaultAt ts) 0 e → IsFault ts e
+pub nodes_admitted : (ts : List Tree) (tb : Tables) → AreAdmitted ts tb → tb.nodes ≤ 64
+nodes_admitted ts tb a = subst (λ t. t.nodes ≤ 64) (sym a.tables) (nodes_le ts)
+
+pub starts_admitted : (ts : List Tree) (tb : Tables) → AreAdmitted ts tb → length tb.starts ≤ 1024
+starts_admitted ts tb a = subst (λ t. length t.starts ≤ 1024) (sym a.tables) (starts_le ts a.limits)
+
+-- the checks tell the fault of forms that keep the limits
+pub told : (ts : List Tree) (e : ProgramError) → limit_of ts ≡ None → TellsFault (ProgramFaultAt ts) 0 e → IsFault ts e
 told ts (errors.Shape n) limits h = let z : h.0 ≡ n = omega (arith, h.1) in (limits, subst (λ k. IsFirst (ProgramFaultAt ts) k shape) z h.2)
 told ts (errors.Unknown n) limits h = let z : h.0 ≡ n = omega (arith, h.1) in (limits, subst (λ k. IsFirst (ProgramFaultAt ts) k unknown) z h.2)
 told ts (errors.Twice n) limits h = let z : h.0 ≡ n = omega (arith, h.1) in (limits, subst (λ k. IsFirst (ProgramFaultAt ts) k twice) z h.2)
 told ts (errors.Limit n) limits h = elim h [ ]
 told ts errors.NoMemory limits h = tt
 
-pub fault_read : (ts : List Tree) (r : Result Program ProgramError) → limit_of ts ≡ None → IfErr r (TellsFault (ProgramFaultAt ts) 0) → IfErr r (IsFault ts)
-fault_read ts (Ok p) limits h = tt
-fault_read ts (Err e) limits h = told ts e limits h
-
-pub none_read : (ts : List Tree) (p : Program) (r : Result Program ProgramError) → Means ts p → IfErr r (TellsFault (ProgramFaultAt ts) 0) → IfErr r (λ e. e ≡ errors.NoMemory)
-none_read ts p (Ok q) means h = tt
-none_read ts p (Err (errors.Shape n)) means h = absurd (means.faultless h.0 shape h.2.fault)
-none_read ts p (Err (errors.Unknown n)) means h = absurd (means.faultless h.0 unknown h.2.fault)
-none_read ts p (Err (errors.Twice n)) means h = absurd (means.faultless h.0 twice h.2.fault)
-none_read ts p (Err (errors.Limit n)) means h = elim h [ ]
-none_read ts p (Err errors.NoMemory) means h = refl
+-- forms that mean a program have no fault
+pub none_faulty : (ts : List Tree) (p : Program) (r : Result Program ProgramError) → Means ts p → IfErr r (IsFault ts) → IfErr r (λ e. e ≡ errors.NoMemory)
+none_faulty ts p (Ok q) means h = tt
+none_faulty ts p (Err (errors.Shape n)) means h = absurd (means.faultless n shape h.1.fault)
+none_faulty ts p (Err (errors.Unknown n)) means h = absurd (means.faultless n unknown h.1.fault)
+none_faulty ts p (Err (errors.Twice n)) means h = absurd (means.faultless n twice h.1.fault)
+none_faulty ts p (Err (errors.Limit n)) means h = let is : Some n ≡ None = sym h ∙ means.limits in absurd (cc)
+none_faulty ts p (Err errors.NoMemory) means h = refl

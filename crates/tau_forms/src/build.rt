@@ -150,12 +150,10 @@ pub(crate) fn parts_of(items: &[Form]) -> Parts<'_>
 fn build_all(alloc: Global, items: &[Form], tables: &Tables) -> Result<Exprs, AllocError>
     ensures { IfOk result (λ es. codes (codes_of es) ≡ codes_in tables.now (inside (map tree_of items.now))) }
 {
-    let mut exprs = Exprs::new(alloc);
+    let mut exprs = Exprs::with_capacity(alloc, items.len())?;
     for item in items {
         let expr = build_expression(alloc, item, tables)?;
-        if let Err((_expr, failed)) = exprs.push(expr) {
-            return Err(failed);
-        }
+        exprs.add(expr)?;
     }
     Ok(exprs)
 }

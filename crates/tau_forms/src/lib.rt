@@ -21,5 +21,5 @@ mod writing;
 pub use faults::ProgramError;
 pub use laws::forms_mean_one_program;
 pub use printing::{forms_of, put_program};
-pub use reading::program_of;
-pub use values::{put_count, put_name, put_truth, put_value};
+pub use reading::{program_from, program_of};
+pub use values::{add_count, add_name, add_value, put_truth};

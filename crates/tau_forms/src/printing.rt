@@ -1,6 +1,5 @@
 //! The texts of programs, put straight behind a text: no form of a program is made.
 ghost use Rattle.std.specs.Prelude.{◌≡◌, ◌≤◌, ◌∷◌, ◌++◌, [], map, codes, All, IfOk, OnOk};
-ghost use Rattle.std.specs.Fmt.{decimal};
 ghost use Rattle.tau_sexpr.specs.Bytes.{IsWordByte};
 ghost use Rattle.tau_sexpr.specs.Printing as print;
 ghost use Rattle.tau_sexpr.specs.Printing.{print_of, HasBytes};
@@ -8,7 +7,7 @@ ghost use Rattle.tau_sexpr.specs.Spelling.{IsSpelling};
 ghost use Rattle.tau_sexpr.specs.Tree.{depths, HasWords, headed};
 ghost use Rattle.tau_value.specs.Names.{AreNames};
 ghost use Rattle.tau_value.specs.Value.{val_of};
-ghost use Rattle.tau_value.specs.Written.{written, count_form, NumbersFit};
+ghost use Rattle.tau_value.specs.Written.{count_form, NumbersFit};
 ghost use Rattle.tau_tree.specs.Parts.{Throughout};
 ghost use Rattle.tau_tree.specs.Sound.{Sound, behaviour_names as names_of_behaviours, start_names as names_of_starts};
 ghost use Rattle.tau_forms.specs.Inner.Fitting.{HasFittingInteger, HasFittingNumbers, IsFitting};
@@ -16,12 +15,12 @@ ghost use Rattle.tau_forms.specs.Meaning.{Means};
 ghost use Rattle.tau_forms.specs.Printed.{printed, version_forms, behaviour_form, start_form, post_form, failure_form, entry_form};
 
 use crate::tables::Tables;
-use crate::values::{put_count, put_value};
-use crate::writing::{add_expression, add_name, add_word, begin, end};
+use crate::values::{add_count, add_value};
+use crate::writing::{add_defined, add_expression, add_word, begin, end};
 use std::alloc::{AllocError, Global};
 use tau_sexpr::{Forms, read_forms};
 use tau_tree::{Behaviour, Entry, Failure, Post, Program, Start};
-use tau_value::{Names, Value};
+use tau_value::Names;
 
 /// Adds the text of a program to the end of `out`: its version where it is 2, its nodes, then the behaviours, the starts, the
 /// posts and the script entries, each form in a line of its own (docs/formats.md, "Programs"). No form of it is made, so that
@@ -179,7 +178,7 @@ fn put_start(out: &mut Vec<u8>, start: &Start, tables: &Tables) -> Result<(), Al
 {
     begin(out, b"start")?;
     add_word(out, &start.name)?;
-    add_name(out, &tables.behaviours, start.behaviour)?;
+    add_defined(out, &tables.behaviours, start.behaviour)?;
     add_count(out, start.node)?;
     add_value(out, &start.state, &tables.starts)?;
     end(out)?;
@@ -205,7 +204,7 @@ fn put_post(out: &mut Vec<u8>, post: &Post, starts: &Names) -> Result<(), AllocE
     ensures value { OnOk result (NumbersFit (val_of post.now.value)) }
 {
     begin(out, b"post")?;
-    add_name(out, starts, post.to)?;
+    add_defined(out, starts, post.to)?;
     add_value(out, &post.value, starts)?;
     end(out)?;
     end_line(out)
@@ -258,25 +257,6 @@ fn put_number(out: &mut Vec<u8>, head: &[u8], number: u32) -> Result<(), AllocEr
     begin(out, head)?;
     add_count(out, number)?;
     end(out)
-}
-
-/// Adds a space and a number.
-fn add_count(out: &mut Vec<u8>, count: u32) -> Result<(), AllocError>
-    ensures text { OnOk result (out.new.items ≡ out.old.items ++ 32 ∷ decimal count) }
-    ensures bytes { OnOk result (All IsWordByte (decimal count)) }
-{
-    out.push(b' ')?;
-    put_count(out, count)
-}
-
-/// Adds a space and a value.
-fn add_value(out: &mut Vec<u8>, value: &Value, starts: &Names) -> Result<(), AllocError>
-    ensures text { OnOk result (out.new.items ≡ out.old.items ++ 32 ∷ print_of (written starts.now (val_of value.now))) }
-    ensures bytes { OnOk result (HasBytes (written starts.now (val_of value.now))) }
-    ensures value { OnOk result (NumbersFit (val_of value.now)) }
-{
-    out.push(b' ')?;
-    put_value(out, value, starts)
 }
 
 /// Adds a line feed.

@@ -1,21 +1,23 @@
 //! The program that forms mean.
-ghost use Rattle.std.specs.Prelude.{◌≡◌, ◌≤◌, [], ◌∷◌, ◌++◌, List, length, map, IfOk, OnOk};
+ghost use Rattle.std.specs.Prelude.{◌≡◌, ◌≤◌, [], ◌∷◌, ◌++◌, List, length, map, IfOk, IfErr, OnOk};
 ghost use Rattle.std.specs.Option.{option_to_list};
 ghost use Rattle.tau_sexpr.specs.Form.{tree_of};
 ghost use Rattle.tau_sexpr.specs.Tree.{Tree, inside};
 ghost use Rattle.tau_value.specs.Meaning.{counted};
 ghost use Rattle.tau_value.specs.Value.{val_of};
 ghost use Rattle.tau_forms.specs.Inner.Building.{HasBuilt, IsTopForm, TellsBehaviour, TellsEntry, TellsFailure, TellsPost, TellsStart, entry_part, post_part, start_part};
-ghost use Rattle.tau_forms.specs.Meaning.{code_in, count_of as count_meant, plain_of, plain_post, plain_start, program_in};
-ghost use Rattle.tau_forms.specs.Tops.{tables_of};
+ghost use Rattle.tau_forms.specs.Inner.Passing.{AreAdmitted};
+ghost use Rattle.tau_forms.specs.Meaning.{Means, code_in, count_of as count_meant, plain_post, plain_start};
+ghost use Rattle.tau_forms.specs.declared.faults.ProgramError.{ProgramError};
 ghost use Rattle.tau_forms.specs.declared.tables.Tables.{Tables};
 
+use crate::ProgramError;
 use crate::build::{Parts, build_expression, number_of, parts_of};
 use crate::keywords::{FailureWord, Sort, failure_of, sort_of};
 use crate::rows::split_head;
 use crate::tables::Tables;
 use std::alloc::{AllocError, Global};
-use tau_sexpr::{Form, Word};
+use tau_sexpr::{Form, Forms, Word};
 use tau_tree::{
     Behaviour, Behaviours, Entry, Failure, Post, Posts, Program, Script, Start, Starts,
 };
@@ -26,22 +28,29 @@ pub(crate) fn build_program(
     alloc: Global,
     forms: &[Form],
     tables: &Tables,
-) -> Result<Program, AllocError>
-    requires tables { tables.now ≡ tables_of (map tree_of forms.now) }
-    requires nodes { tables.now.nodes ≤ NODE_LIMIT }
-    requires few { length tables.now.starts ≤ START_LIMIT }
-    ensures { IfOk result (λ p. plain_of p ≡ program_in (map tree_of forms.now)) }
+) -> Result<Program, ProgramError>
+    requires { AreAdmitted (map tree_of forms.now) tables.now }
+    ensures program { IfOk result (Means (map tree_of forms.now)) }
+    ensures err { IfErr result (λ e. e ≡ ProgramError.NoMemory) }
 {
     let mut draft = Draft::new(alloc);
     draft.add_all(alloc, forms, tables)?;
-    Ok(Program {
-        version: tables.version,
-        nodes: tables.nodes as u32,
-        behaviours: draft.behaviours,
-        starts: draft.starts,
-        posts: draft.posts,
-        script: draft.script,
-    })
+    Ok(draft.finish(tables))
+}
+
+/// The same of forms that are given up, each of which is dropped once what it defines stands in the program.
+pub(crate) fn build_from(
+    alloc: Global,
+    forms: Forms,
+    tables: &Tables,
+) -> Result<Program, ProgramError>
+    requires { AreAdmitted forms tables.now }
+    ensures program { IfOk result (Means forms) }
+    ensures err { IfErr result (λ e. e ≡ ProgramError.NoMemory) }
+{
+    let mut draft = Draft::new(alloc);
+    draft.take_all(alloc, forms, tables)?;
+    Ok(draft.finish(tables))
 }
 
 /// The parts of a program up to a form.
@@ -75,6 +84,33 @@ impl Draft {
             self.add(alloc, form, tables)?;
         }
         Ok(())
+    }
+
+    /// The same of forms that are given up: each is dropped once it is added.
+    fn take_all(&mut self, alloc: Global, forms: Forms, tables: &Tables) -> Result<(), AllocError>
+        requires few { length tables.now.starts ≤ START_LIMIT }
+        requires empty { HasBuilt tables.now [] self.old }
+        ensures { OnOk result (HasBuilt tables.now forms self.new) }
+    {
+        for form in forms.into_items() {
+            self.add(alloc, &form, tables)?;
+        }
+        Ok(())
+    }
+
+    /// The program of the forms, which have been added.
+    fn finish(self, tables: &Tables) -> Program
+        requires { tables.now.nodes ≤ NODE_LIMIT }
+        ensures { (ts : List Tree) → AreAdmitted ts tables.now → HasBuilt tables.now ts self → Means ts result }
+    {
+        Program {
+            version: tables.version,
+            nodes: tables.nodes as u32,
+            behaviours: self.behaviours,
+            starts: self.starts,
+            posts: self.posts,
+            script: self.script,
+        }
     }
 
     /// Adds what a form defines. The error is want of memory.

@@ -17,7 +17,7 @@ use tau_value::{Names, Value, Values};
 /// Adds the text of a value's form to the end of `out` (docs/formats.md, "Values"): start names for starts, and numbers for
 /// other transactors. It takes memory for the text alone. The error is want of memory, and a part of the text may then be added.
 #[cycle(put)]
-pub fn put_value(out: &mut Vec<u8>, value: &Value, names: &Names) -> Result<(), AllocError>
+pub(crate) fn put_value(out: &mut Vec<u8>, value: &Value, names: &Names) -> Result<(), AllocError>
     ensures text { OnOk result (out.new.items ≡ out.old.items ++ print_of (written names.now (val_of value.now))) }
     ensures bytes { OnOk result (HasBytes (written names.now (val_of value.now))) }
     ensures numbers { OnOk result (NumbersFit (val_of value.now)) }
@@ -60,7 +60,7 @@ fn put_transactor(out: &mut Vec<u8>, number: u32, names: &Names) -> Result<(), A
 
 /// Adds the name at a number to the end of `out`, or the number in decimal where the list has none. The error is want of memory,
 /// and a part may then be added.
-pub fn put_name(out: &mut Vec<u8>, names: &Names, number: u32) -> Result<(), AllocError>
+pub(crate) fn put_name(out: &mut Vec<u8>, names: &Names, number: u32) -> Result<(), AllocError>
     ensures text { OnOk result (out.new.items ≡ out.old.items ++ name_written names.now number) }
     ensures bytes { OnOk result (All IsWordByte (name_written names.now number)) }
 {
@@ -71,12 +71,42 @@ pub fn put_name(out: &mut Vec<u8>, names: &Names, number: u32) -> Result<(), All
 }
 
 /// Adds a number in decimal to the end of `out`. The error is want of memory.
-pub fn put_count(out: &mut Vec<u8>, count: u32) -> Result<(), AllocError>
+pub(crate) fn put_count(out: &mut Vec<u8>, count: u32) -> Result<(), AllocError>
     ensures text { OnOk result (out.new.items ≡ out.old.items ++ decimal count) }
     ensures bytes { OnOk result (All IsWordByte (decimal count)) }
 {
     let mut buffer = Buffer::new();
     out.extend_from_slice(buffer.format(u64::from(count)).as_bytes())
+}
+
+/// Adds a space and the name at a number, or the number where the list has none, to the end of `out`. The error is want of
+/// memory, and a part may then be added.
+pub fn add_name(out: &mut Vec<u8>, names: &Names, number: u32) -> Result<(), AllocError>
+    ensures text { OnOk result (out.new.items ≡ out.old.items ++ 32 ∷ name_written names.now number) }
+    ensures bytes { OnOk result (All IsWordByte (name_written names.now number)) }
+{
+    out.push(b' ')?;
+    put_name(out, names, number)
+}
+
+/// Adds a space and a number in decimal to the end of `out`. The error is want of memory, and the space may then be added.
+pub fn add_count(out: &mut Vec<u8>, count: u32) -> Result<(), AllocError>
+    ensures text { OnOk result (out.new.items ≡ out.old.items ++ 32 ∷ decimal count) }
+    ensures bytes { OnOk result (All IsWordByte (decimal count)) }
+{
+    out.push(b' ')?;
+    put_count(out, count)
+}
+
+/// Adds a space and the text of a value's form, as `put_value` does, to the end of `out`. The error is want of memory, and a part
+/// may then be added.
+pub fn add_value(out: &mut Vec<u8>, value: &Value, names: &Names) -> Result<(), AllocError>
+    ensures text { OnOk result (out.new.items ≡ out.old.items ++ 32 ∷ print_of (written names.now (val_of value.now))) }
+    ensures bytes { OnOk result (HasBytes (written names.now (val_of value.now))) }
+    ensures numbers { OnOk result (NumbersFit (val_of value.now)) }
+{
+    out.push(b' ')?;
+    put_value(out, value, names)
 }
 
 /// Adds an integer in decimal, with `-` before it where it is below 0.

@@ -188,7 +188,7 @@ fn put_new(
     ensures integers { OnOk result (Throughout HasFittingInteger (new behaviour (code_of node.now) (code_of state.now))) }
 {
     begin(out, b"new")?;
-    add_name(out, &tables.behaviours, behaviour)?;
+    add_defined(out, &tables.behaviours, behaviour)?;
     add_expression(out, node, tables)?;
     add_expression(out, state, tables)?;
     end(out)
@@ -216,7 +216,7 @@ fn put_start_name(out: &mut Vec<u8>, number: u32, starts: &Names) -> Result<(), 
     ensures bytes { OnOk result (HasBytes (headed (codes "name") (name_of starts.now number ∷ []))) }
 {
     begin(out, b"name")?;
-    add_name(out, starts, number)?;
+    add_defined(out, starts, number)?;
     end(out)
 }
 
@@ -299,7 +299,7 @@ fn add_words(out: &mut Vec<u8>, first: &Word, second: &Word) -> Result<(), Alloc
 }
 
 /// Adds a space and the name with a number; no name where there is none.
-pub(crate) fn add_name(out: &mut Vec<u8>, names: &Names, number: u32) -> Result<(), AllocError>
+pub(crate) fn add_defined(out: &mut Vec<u8>, names: &Names, number: u32) -> Result<(), AllocError>
     ensures text { OnOk result (out.new.items ≡ out.old.items ++ 32 ∷ print_of (name_of names.now number)) }
     ensures bytes { OnOk result (HasBytes (name_of names.now number)) }
 {

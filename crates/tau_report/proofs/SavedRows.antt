@@ -113,20 +113,19 @@ pub opening_bounded : (P : Program) → Sound P → All (λ v. IsInBounds (val_o
 opening_bounded P s = All-map (λ v. IsInBounds (val_of v)) (λ x. x.state) P.starts s.states_bounded
 
 -- the saved states and the counts together are the report
-pub report_is : (P : Program) (T : Run) (o : Opening) (rs records : List StateRecord) (c : Counts) (fs forms : List Tree) (tree : Tree) → Sound P → WellFormed T → IsSurvey T (opening_states P.starts) rs c → o ≡ T.opening → records ≡ rs → AreRows o records (length records) fs → forms ≡ fs ++ tree ∷ [] → tree ≡ counts_tree c → IsReport P T forms × ArePrintable forms
-report_is P T o rs records c fs forms tree sound w x opening_is records_are rows is tree_is =
+pub report_is : (P : Program) (T : Run) (o : Opening) (rs records : List StateRecord) (c : Counts) (fs : List Tree) → Sound P → WellFormed T → IsSurvey T (opening_states P.starts) rs c → o ≡ T.opening → records ≡ rs → AreRows o records (length records) fs → IsReport P T (fs ++ counts_tree c ∷ []) × ArePrintable (fs ++ counts_tree c ∷ [])
+report_is P T o rs records c fs sound w x opening_is records_are rows =
     let bounded = opening_bounded P sound in
     let h : Holds T (opening_states P.starts) records = subst (Holds T (opening_states P.starts)) (sym records_are) x.holds in
     let both = rows P T w (sym opening_is) bounded h in
-    let whole : forms ≡ fs ++ counts_tree c ∷ [] = is ∙ ap (λ t. fs ++ t ∷ []) tree_is in
     let Q : ℕ → Type 0 = λ n. SavedForms P T n fs in
     let fits = counts_fit T c x.counts_are w.few_steps in (
       record {
         saved = fs;
         saved_are = subst Q h.count both.0;
-        is = whole ∙ ap (λ y. fs ++ counts_tree y ∷ []) x.counts_are;
+        is = ap (λ y. fs ++ counts_tree y ∷ []) x.counts_are;
       },
-      subst ArePrintable (sym whole) (counts_printable fs c fits.0 fits.1 fits.2 fits.3 fits.4 both.1),
+      counts_printable fs c fits.0 fits.1 fits.2 fits.3 fits.4 both.1,
     )
 
 -- and so are the counts alone

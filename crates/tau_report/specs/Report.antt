@@ -1,8 +1,9 @@
 -- The report of a program and a trace (docs/formats.md, "Report").
 use Rattle.std.specs.Prelude.{◌≡◌, ℕ, suc, ◌<◌, ◌≤◌, Bool, true, false, List, [], ◌∷◌, ◌++◌, option_and_then, codes}
 use Rattle.std.specs.Option.{option_map_or}
-use Rattle.tau_sexpr.specs.Tree.{Tree, word, list, inside, headed}
+use Rattle.tau_sexpr.specs.Tree.{Tree, headed}
 use Rattle.tau_sexpr.specs.Printing.{printed}
+use Rattle.tau_sexpr.specs.Spelling.{IsSpelling}
 use Rattle.tau_history.specs.Timeline.{interval}
 use Rattle.tau_value.specs.declared.shared.Value.{Value}
 use Rattle.tau_value.specs.Written.{count_form}
@@ -94,3 +95,10 @@ pub record IsReportText (P : Program) (T : Run) (bytes : List ℕ) : Type 0 wher
   pub forms : List Tree
   pub report : IsReport P T forms
   pub text : bytes ≡ printed forms
+
+-- the new text is the old one and that of the printed forms of the report, which it spells
+pub record PutsReport (P : Program) (T : Run) (old new : List ℕ) : Type 0 where
+  pub forms : List Tree
+  pub report : IsReport P T forms
+  pub text : new ≡ old ++ printed forms
+  pub spelled : IsSpelling (printed forms) forms

@@ -3,13 +3,11 @@ ghost use Rattle.std.specs.Prelude.{◌≡◌, ◌∷◌, [], All, IfOk};
 ghost use Rattle.tau_sexpr.specs.Bytes.{IsWordByte};
 ghost use Rattle.tau_sexpr.specs.Form.{tree_of};
 ghost use Rattle.tau_sexpr.specs.Tree as tree;
-ghost use Rattle.tau_steps.specs.StepForms.{who_form};
 ghost use Rattle.tau_report.specs.Report.{count_of};
 ghost use Rattle.tau_value.specs.Written.{count_form};
 
 use std::alloc::{AllocError, Global};
 use tau_sexpr::{Form, Forms, Word};
-use tau_trace::Opening;
 use tau_value::word_of_count;
 
 /// A list that begins with a word.
@@ -22,19 +20,8 @@ pub(crate) fn headed(alloc: Global, bytes: &[u8]) -> Result<Forms, AllocError>
     Ok(forms)
 }
 
-/// The name of a start, or the number of another transactor.
-pub(crate) fn form_of_who(alloc: Global, opening: &Opening, who: u32) -> Result<Form, AllocError>
-    ensures { IfOk result (λ f. tree_of f ≡ who_form opening.now who) }
-{
-    let word = match opening.names.item(who as usize) {
-        Some(name) => name.copy()?,
-        None => word_of_count(alloc, u64::from(who))?,
-    };
-    Ok(Form::Word(word))
-}
-
 /// A number.
-pub(crate) fn form_of_count(alloc: Global, count: u32) -> Result<Form, AllocError>
+fn form_of_count(alloc: Global, count: u32) -> Result<Form, AllocError>
     ensures { IfOk result (λ f. tree_of f ≡ count_form count) }
 {
     Ok(Form::Word(word_of_count(alloc, u64::from(count))?))

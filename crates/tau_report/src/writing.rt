@@ -1,18 +1,18 @@
 //! Reports.
-ghost use Rattle.std.specs.Prelude.{◌≡◌, ◌≤◌, All, IfOk};
+ghost use Rattle.std.specs.Prelude.{◌≡◌, IfOk, OnOk};
 ghost use Rattle.tau_sexpr.specs.Form.{tree_of};
-ghost use Rattle.tau_sexpr.specs.Tree.{depths, HasWords};
+ghost use Rattle.tau_sexpr.specs.Tree.{HasWords};
 ghost use Rattle.tau_tree.specs.Sound.{Sound};
 ghost use Rattle.tau_script.specs.Openings.{program_opening};
-ghost use Rattle.tau_report.specs.Report.{counts_form as form_of_run, IsReport, IsReportText};
+ghost use Rattle.tau_report.specs.Report.{counts_form as form_of_run, IsReportText, PutsReport};
 ghost use Rattle.tau_report.specs.Inner.Rows.{counts_tree};
 
 use crate::counts::Counts;
 use crate::parts::{form_of_named, headed};
-use crate::saved::saved_forms;
+use crate::saved::put_rows;
 use crate::survey::survey_of;
 use std::alloc::{AllocError, Global};
-use tau_sexpr::{Form, Forms, print_forms};
+use tau_sexpr::{Form, put_form_line};
 use tau_trace::Trace;
 use tau_tree::Program;
 
@@ -23,23 +23,29 @@ pub fn report(alloc: Global, program: &Program, trace: &Trace) -> Result<Vec<u8>
     requires sound { Sound program.now }
     ensures { IfOk result (λ v. IsReportText program.now trace.now.run v.items) }
 {
-    let forms = report_forms(alloc, program, trace)?;
-    print_forms(alloc, &forms)
+    let mut text = Vec::new(alloc);
+    put_report(alloc, &mut text, program, trace)?;
+    Ok(text)
 }
 
-/// The forms of the report of a program and a trace (docs/formats.md, "Report"). Their lists stand at most 65 deep, and
-/// none of their words is empty. The error is want of memory.
-pub fn report_forms(alloc: Global, program: &Program, trace: &Trace) -> Result<Forms, AllocError>
+/// Adds the text of the report of a program and a trace to the end of `out` (docs/formats.md, "Report"): the saved states, by
+/// transactor, and the counts, one form a line. It is read back as the report's forms. It passes over the trace once, and
+/// takes memory for the text and a record of each transactor. The error is want of memory, and a part of the text may then be
+/// added.
+pub fn put_report(
+    alloc: Global,
+    out: &mut Vec<u8>,
+    program: &Program,
+    trace: &Trace,
+) -> Result<(), AllocError>
     requires opening { trace.now.run.opening ≡ program_opening program.now }
     requires sound { Sound program.now }
-    ensures report { IfOk result (λ f. IsReport program.now trace.now.run f) }
-    ensures depth { IfOk result (λ f. depths f ≤ 65) }
-    ensures words { IfOk result (λ f. All HasWords f) }
+    ensures { OnOk result (PutsReport program.now trace.now.run out.old.items out.new.items) }
 {
     let survey = survey_of(alloc, &program.starts, trace)?;
-    let mut forms = saved_forms(alloc, trace.opening(), survey.states.records())?;
-    forms.add(form_of_counts(alloc, survey.counts)?)?;
-    Ok(forms)
+    put_rows(out, trace.opening(), survey.states.records())?;
+    let counts = form_of_counts(alloc, survey.counts)?;
+    put_form_line(out, &counts)
 }
 
 /// The form of the counts of a trace, the last one of its report (docs/formats.md, "Report"). The error is want of memory.

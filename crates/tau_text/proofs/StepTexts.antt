@@ -4,11 +4,6 @@ use Rattle.std.proofs.lemmas.Option.{slice_get_within}
 use Rattle.tau_sexpr.specs.Tree.{depth_of, HasWords}
 use Rattle.tau_sexpr.specs.Printing.{printed, HasBytes}
 use Rattle.tau_sexpr.proofs.PrintLemmas.{line_spells}
-use Rattle.tau_value.specs.Names.{AreNames}
-use Rattle.tau_value.specs.Value.{val_of}
-use Rattle.tau_value.specs.Written.{NumbersFit}
-use Rattle.tau_value.specs.declared.shared.Value.{Value}
-use Rattle.tau_forms.proofs.ValueTexts as values
 use Rattle.tau_trace.specs.declared.opening.Opening.{Opening}
 use Rattle.tau_trace.specs.declared.step.Step.{Step}
 use Rattle.tau_trace.specs.Run.{Run, step_at}
@@ -17,15 +12,9 @@ use Rattle.tau_trace.specs.Known.{IsSound, IsKnown, WellFormed}
 use Rattle.tau_trace.specs.Stored.{IsMadeAt}
 use Rattle.tau_trace.proofs.Indexing.{born-le, sent-le}
 use Rattle.tau_trace.proofs.Lists.{same_some}
-use Rattle.tau_steps.specs.StepForms.{step_form, step_form_at, IsWritten, ValueIsWritten, IsWrittenAt}
+use Rattle.tau_steps.specs.StepForms.{step_form, step_form_at, ValueIsWritten, IsWrittenAt}
 use Rattle.tau_steps.proofs.StepFormLemmas.{step_form-depth, step_form-words}
 use Rattle.tau_text.specs.Inner.Written.{AddsStep}
-
--- what is written of a value whose numbers fit their types is read back
-pub is_written : (names : List (List ℕ)) (v : Value) → AreNames names → NumbersFit (val_of v) → IsWritten names v
-is_written names v are fit =
-    let w = values.is_written names (val_of v) are fit in
-    record { read_back = w.read_back; depth = w.depth; words = w.words }
 
 module _ (T : Run) (w : WellFormed T) (k made : ℕ) (s : Step) (o : Opening) (stands : step_at T k ≡ Some s) (is_made : IsMadeAt T k made) (fits : made < 2 ^ 32) (same : o ≡ T.opening) where
   known : IsKnown o (born T k) (sent T k) s

@@ -2,7 +2,7 @@
 ghost use Rattle.std.specs.Prelude.{◌≡◌, ◌≢◌, ◌≤◌, ◌∷◌, [], All, IfOk, OnOk};
 ghost use Rattle.tau_sexpr.specs.Bytes.{IsWordByte};
 ghost use Rattle.tau_sexpr.specs.Form.{tree_of};
-ghost use Rattle.tau_sexpr.specs.Tree.{depth_of, depths, HasWords};
+ghost use Rattle.tau_sexpr.specs.Tree.{depth_of, HasWords};
 ghost use Rattle.tau_tree.specs.Sound.{Sound};
 ghost use Rattle.tau_forms.specs.Printed as program_forms;
 ghost use Rattle.tau_forms.specs.Meaning.{Means};
@@ -14,14 +14,14 @@ ghost use Rattle.tau_text.specs.Inner.Written.{AddsForms, AddsSteps, AddsReport}
 use crate::steps::put_step;
 use std::alloc::{AllocError, Global};
 use tau_forms::put_program;
-use tau_report::report_forms;
-use tau_sexpr::{Form, Forms, Word, put_form_line, put_forms};
+use tau_report::put_report;
+use tau_sexpr::{Form, Forms, Word, put_form_line};
 use tau_trace::Trace;
 use tau_tree::Program;
 
 /// The run text of a program and a trace (docs/formats.md, "Run text"), from which both can be read back. It passes over the
-/// trace once for the steps and once for the report. Beside the text, the forms of the report take memory. The error is want of
-/// memory.
+/// trace once for the steps and once for the report. Beside the text, a record of each transactor takes memory while the report
+/// is made. The error is want of memory.
 #[tactic(auto, using(tau_sexpr::proofs::Literals::word_literal), unfolding(tau_sexpr::specs::Bytes::is_word_byte, tau_sexpr::specs::Bytes::is_letter_or_digit, tau_sexpr::specs::Bytes::is_word_sign))]
 pub fn run_text(alloc: Global, program: &Program, trace: &Trace) -> Result<Vec<u8>, AllocError>
     requires opening { trace.now.run.opening ≡ program_opening program.now }
@@ -80,8 +80,7 @@ fn add_report(
     requires sound { Sound program.now }
     ensures { OnOk result (AddsReport program.now trace.now.run text.old.items text.new.items) }
 {
-    let forms = report_forms(alloc, program, trace)?;
-    add_forms(text, &forms)
+    put_report(alloc, text, program, trace)
 }
 
 /// Adds the text of a form.
@@ -91,15 +90,5 @@ fn add_form(text: &mut Vec<u8>, form: &Form) -> Result<(), AllocError>
     ensures { OnOk result (AddsForms (tree_of form.now ∷ []) text.old.items text.new.items) }
 {
     put_form_line(text, form)?;
-    Ok(())
-}
-
-/// Adds the text of forms.
-fn add_forms(text: &mut Vec<u8>, forms: &Forms) -> Result<(), AllocError>
-    requires depth { depths forms.now ≤ 200 }
-    requires words { All HasWords forms.now }
-    ensures { OnOk result (AddsForms forms.now text.old.items text.new.items) }
-{
-    put_forms(text, forms)?;
     Ok(())
 }

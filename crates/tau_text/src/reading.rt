@@ -18,6 +18,8 @@ use tau_tree::Program;
 /// The program that all the forms of an input mean (docs/formats.md, "Programs"), as `run` takes it. It is sound.
 /// `Fault` comes exactly where they mean none, with the first of the faults 1 to 9 in the order of docs/formats.md,
 /// "Input faults".
+/// Each form is dropped once what it defines stands in the program, so that a large text takes memory for the greater of the
+/// two, and not for both.
 pub fn read_program(alloc: Global, bytes: &[u8]) -> Result<Program, InputError>
     ensures program { IfOk result (IsProgram bytes.now) }
     ensures sound { IfOk result Sound }
@@ -28,7 +30,7 @@ pub fn read_program(alloc: Global, bytes: &[u8]) -> Result<Program, InputError>
         → (result ≡ Err (InputError.Fault fault at)) ⊎ (result ≡ Err InputError.NoMemory) }
 {
     let forms = read_forms(alloc, bytes)?;
-    whole_program(alloc, &forms)
+    whole_program(alloc, forms)
 }
 
 /// The program and the trace that the forms of an input mean (docs/formats.md, "Run text"), as `check`, `audit` and `report`
@@ -60,7 +62,7 @@ pub fn read_run_text(alloc: Global, bytes: &[u8]) -> Result<RunText, InputError>
 /// text, whose steps are read too (docs/formats.md, "Run text"). It is sound.
 /// `Fault` comes exactly where they mean none, with the first of the faults 1 to 9, 12 and 13 in the order of
 /// docs/formats.md, "Input faults".
-/// A run text takes memory as with `read_run_text`; the forms of a program alone take it all at once.
+/// A run text takes memory as with `read_run_text`, and a program alone as with `read_program`.
 pub fn read_printed(alloc: Global, bytes: &[u8]) -> Result<Program, InputError>
     ensures program { IfOk result (IsPrintInput bytes.now) }
     ensures sound { IfOk result Sound }
@@ -74,5 +76,5 @@ pub fn read_printed(alloc: Global, bytes: &[u8]) -> Result<Program, InputError>
         return Ok(text.program);
     }
     let forms = read_forms(alloc, bytes)?;
-    printed_program(alloc, &forms)
+    printed_program(alloc, forms)
 }

@@ -1,18 +1,16 @@
 //! The texts of steps, put straight behind a text: no form of a step is made.
-ghost use Rattle.std.specs.Prelude.{◌≡◌, ◌<◌, ◌∷◌, ◌++◌, [], All, OnOk};
-ghost use Rattle.std.specs.Fmt.{decimal};
-ghost use Rattle.tau_sexpr.specs.Bytes.{IsWordByte};
+ghost use Rattle.std.specs.Prelude.{◌≡◌, ◌<◌, ◌∷◌, ◌++◌, [], OnOk};
 ghost use Rattle.tau_sexpr.specs.Printing.{print_of, print_rest, printed, HasBytes, AllHaveBytes};
 ghost use Rattle.tau_sexpr.specs.Tree as tree;
 ghost use Rattle.tau_value.specs.Names.{AreNames};
 ghost use Rattle.tau_value.specs.Value.{val_of};
-ghost use Rattle.tau_value.specs.Written.{name_written, written};
+ghost use Rattle.tau_value.specs.Written.{written};
 ghost use Rattle.tau_trace.specs.Run.{len};
 ghost use Rattle.tau_steps.specs.StepForms.{truth_form, item_forms, step_form, IsWritten, ValueIsWritten};
 ghost use Rattle.tau_text.specs.Inner.Written.{AddsStep};
 
 use std::alloc::AllocError;
-use tau_forms::{put_count, put_name, put_truth, put_value};
+use tau_forms::{add_count, add_name, add_value, put_truth};
 use tau_steps::word_of;
 use tau_trace::{Opening, Step, Trace};
 use tau_value::{Names, Value};
@@ -63,13 +61,13 @@ fn add_items(out: &mut Vec<u8>, opening: &Opening, made: u32, step: &Step) -> Re
         }
         Step::Set { who, value } => {
             add_name(out, &opening.names, *who)?;
-            add_value(out, &opening.names, value)
+            add_written(out, &opening.names, value)
         }
         Step::Send { who, to, value } => {
             add_name(out, &opening.names, *who)?;
             add_count(out, made)?;
             add_name(out, &opening.names, *to)?;
-            add_value(out, &opening.names, value)
+            add_written(out, &opening.names, value)
         }
         Step::New {
             who,
@@ -81,7 +79,7 @@ fn add_items(out: &mut Vec<u8>, opening: &Opening, made: u32, step: &Step) -> Re
             add_count(out, made)?;
             add_name(out, &opening.behaviours, *behaviour)?;
             add_count(out, *node)?;
-            add_value(out, &opening.names, state)
+            add_written(out, &opening.names, state)
         }
         Step::Ask { who, answer } => {
             add_name(out, &opening.names, *who)?;
@@ -113,24 +111,6 @@ fn add_items(out: &mut Vec<u8>, opening: &Opening, made: u32, step: &Step) -> Re
     }
 }
 
-/// Adds a space and the name at a number, or the number where the list has none.
-fn add_name(out: &mut Vec<u8>, names: &Names, number: u32) -> Result<(), AllocError>
-    ensures text { OnOk result (out.new.items ≡ out.old.items ++ 32 ∷ name_written names.now number) }
-    ensures bytes { OnOk result (All IsWordByte (name_written names.now number)) }
-{
-    out.push(b' ')?;
-    put_name(out, names, number)
-}
-
-/// Adds a space and a number.
-fn add_count(out: &mut Vec<u8>, count: u32) -> Result<(), AllocError>
-    ensures text { OnOk result (out.new.items ≡ out.old.items ++ 32 ∷ decimal count) }
-    ensures bytes { OnOk result (All IsWordByte (decimal count)) }
-{
-    out.push(b' ')?;
-    put_count(out, count)
-}
-
 /// Adds a space and a truth.
 fn add_truth(out: &mut Vec<u8>, truth: bool) -> Result<(), AllocError>
     ensures text { OnOk result (out.new.items ≡ out.old.items ++ 32 ∷ print_of (truth_form truth)) }
@@ -140,13 +120,12 @@ fn add_truth(out: &mut Vec<u8>, truth: bool) -> Result<(), AllocError>
     put_truth(out, truth)
 }
 
-/// Adds a space and a value.
-fn add_value(out: &mut Vec<u8>, names: &Names, value: &Value) -> Result<(), AllocError>
+/// Adds a space and a value, which is read back as it is.
+fn add_written(out: &mut Vec<u8>, names: &Names, value: &Value) -> Result<(), AllocError>
     requires { AreNames names.now }
     ensures text { OnOk result (out.new.items ≡ out.old.items ++ 32 ∷ print_of (written names.now (val_of value.now))) }
     ensures bytes { OnOk result (HasBytes (written names.now (val_of value.now))) }
     ensures value { OnOk result (IsWritten names.now value.now) }
 {
-    out.push(b' ')?;
-    put_value(out, value, names)
+    add_value(out, value, names)
 }

@@ -2,7 +2,6 @@
 use Rattle.std.specs.Prelude.{◌≡◌, ◌≢◌, ℕ, ◌+◌, ◌==◌, Bool, true, false, is_some, if◌then◌else◌, List, [], ◌∷◌, ◌++◌, map, Option, Some, None, option_map, Result, Ok, Err}
 use Rattle.tau_sexpr.specs.Form.{tree_of}
 use Rattle.tau_sexpr.specs.Tree.{Tree, Trees, word, list, none, more, inside}
-use Rattle.tau_tree.specs.declared.programs.Program.{Program}
 use Rattle.tau_forms.specs.declared.checking.Parts.{Parts}
 use Rattle.tau_forms.specs.declared.faults.ProgramError.{ProgramError}
 use Rattle.tau_forms.specs.declared.faults.ProgramError.TheVariants as errors
@@ -19,8 +18,7 @@ use Rattle.tau_forms.specs.declared.wanted.Wanted.{Wanted}
 use Rattle.tau_forms.specs.Faults.{Fault, shape, unknown, twice, IsClean, IsFirst, ProgramFaultAt}
 use Rattle.tau_forms.specs.Keywords.{keyword_in}
 use Rattle.tau_forms.specs.Roles.{Role, first, mark, expression, row, count_of, has_items, word_of, names_in}
-use Rattle.tau_forms.specs.Meaning.{plain_of, program_in}
-use Rattle.tau_forms.specs.Tops.{nodes_of, version_of}
+use Rattle.tau_forms.specs.Tops.{nodes_of, version_of, limit_of, tables_of}
 use Rattle.tau_forms.specs.Inner.Wanted.{role_of}
 
 -- an error tells the first fault of a part whose own first node is `at`; want of memory tells nothing
@@ -108,7 +106,8 @@ abbrev pub PassesForms : {A : Type 0} → List Tree → Result A ProgramError �
 PassesForms ts (Ok x) = IsClean (ProgramFaultAt ts)
 PassesForms ts (Err e) = TellsFault (ProgramFaultAt ts) 0 e
 
--- forms without faults have been read as a program
-pub record IsRead (ts : List Tree) (p : Program) : Type 0 where
+-- what forms define that keep the limits and have no fault
+pub record AreAdmitted (ts : List Tree) (tb : Tables) : Type 0 where
+  pub limits : limit_of ts ≡ None
   pub faultless : IsClean (ProgramFaultAt ts)
-  pub is : plain_of p ≡ program_in ts
+  pub tables : tb ≡ tables_of ts

@@ -1,6 +1,7 @@
 -- The forms that are written from the records of transactors and from counts.
-use Rattle.std.specs.Prelude.{◌≡◌, ℕ, ◌≤◌, Bool, ◌||◌, ◌==◌, List, [], ◌∷◌, if◌then◌else◌, IsFalse, All, codes}
+use Rattle.std.specs.Prelude.{◌≡◌, ℕ, ◌≤◌, Bool, ◌||◌, ◌==◌, List, [], ◌∷◌, ◌++◌, if◌then◌else◌, IsFalse, All, codes}
 use Rattle.tau_sexpr.specs.Tree.{Tree, depths, HasWords, headed}
+use Rattle.tau_sexpr.specs.Printing.{printed, HasBytes}
 use Rattle.tau_value.specs.declared.shared.Value.{Value}
 use Rattle.tau_value.specs.Sizes.{IsInBounds}
 use Rattle.tau_value.specs.Value.{val_of}
@@ -46,3 +47,10 @@ abbrev pub AreRows : Opening → List StateRecord → ℕ → List Tree → Type
 AreRows o records n forms =
     (P : Program) (T : Run) → WellFormed T → T.opening ≡ o → All (λ v. IsInBounds (val_of v)) (opening_states P.starts)
     → Holds T (opening_states P.starts) records → SavedForms P T n forms × ArePrintable forms
+
+-- the new text is the old one and that of the rows of the first n transactors
+pub record PutsRows (o : Opening) (records : List StateRecord) (n : ℕ) (old new : List ℕ) : Type 0 where
+  pub forms : List Tree
+  pub rows : AreRows o records n forms
+  pub text : new ≡ old ++ printed forms
+  pub bytes : All HasBytes forms

@@ -21,7 +21,7 @@ build_all-loop-item-preserved t c =
     let lt : k < length fs = omega arith in
     let more = map_more tree_of fs k c.item-item.result lt in
     let before = map tree_of (take k fs) in
-    rw (more, ← c.item-item.is, c.in_default.ensures.ok) (codes_in-push c.args.tables.now before (tree_of c.item-item.result) (codes_of c.loop-item.exprs) _ c.loop-item.invariant c.in_ok-expr.ensures)
+    rw (more, ← c.item-item.is, c.in_ok-add.ensures.ok) (codes_in-push c.args.tables.now before (tree_of c.item-item.result) (codes_of c.loop-item.exprs) _ c.loop-item.invariant c.in_ok-expr.ensures)
 
 pub build_expression-returns-in-Some : goal.build_expression-returns-in-Some
 build_expression-returns-in-Some t c =

@@ -2,7 +2,6 @@ use Rattle.std.proofs.Common.{◌≡◌}
 use Rattle.std.proofs.lemmas.Result.{IfOk-weaker}
 use Rattle.tau_sexpr.specs.Form.{tree_of}
 use Rattle.tau_sexpr.specs.Tree.{HasWords}
-use Rattle.tau_tree.specs.declared.programs.Program.{Program}
 use Rattle.tau_states.specs.Opening.{opening_states}
 use Rattle.tau_report.specs.Report.{counts_form}
 use Rattle.tau_report.specs.Inner.Rows.{counts_tree}
