@@ -9,3 +9,4 @@ pub mod DrillLemmas
 pub mod SerialLemmas
 pub mod MigrationLemmas
 pub mod SpellingLemmas
+pub mod OutputLemmas

@@ -3,14 +3,16 @@ ghost use Rattle.std.specs.Prelude.{◌≡◌, ◌++◌, IfOk, IfErr, OnOk};
 ghost use Rattle.tau_text.specs.Errors.{TellsInputFault};
 ghost use Rattle.tau_text.specs.Faults.{IsRunFault};
 ghost use Rattle.tau_value.specs.Written.{name_written};
-ghost use Rattle.tau_output.specs.Audits.{AuditsAs, broken_line as line_of_broken};
+ghost use Rattle.tau_output.specs.Audits.{AuditsAs, IsAudited, broken_line as line_of_broken};
 ghost use Rattle.tau_output.specs.Inner.Ends.{end_of_audit, line_of_audit};
 
+use crate::outputs::or_no_memory;
 use crate::{End, Output};
 use std::alloc::{AllocError, Global};
 use tau_past::{Audit, audit};
 use tau_points::Point;
 use tau_text::{InputError, read_run_text};
+use tau_trace::Trace;
 use tau_value::Names;
 
 /// The line that tells whether each checkpoint of the run of a run text is safe, and otherwise what breaks the first that
@@ -20,9 +22,16 @@ pub(crate) fn audit_run(alloc: Global, bytes: &[u8]) -> Result<Output, InputErro
     ensures fault { IfErr result (TellsInputFault (IsRunFault bytes.now)) }
 {
     let input = read_run_text(alloc, bytes)?;
-    let found = audit(alloc, &input.trace)?;
+    or_no_memory(audited(alloc, &input.trace))
+}
+
+/// The same of a trace. The error is want of memory.
+fn audited(alloc: Global, trace: &Trace) -> Result<Output, AllocError>
+    ensures { IfOk result (λ o. IsAudited trace.now.run o.end o.text.items) }
+{
+    let found = audit(alloc, trace)?;
     Ok(Output {
-        text: line_of(alloc, &input.trace.opening().names, found)?,
+        text: line_of(alloc, &trace.opening().names, found)?,
         end: end_of(found),
     })
 }

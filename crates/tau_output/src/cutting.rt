@@ -3,8 +3,10 @@ ghost use Rattle.std.specs.Prelude.{◌≡◌, IfOk, IfErr};
 ghost use Rattle.tau_text.specs.Errors.{TellsInputFault};
 ghost use Rattle.tau_text.specs.Faults.{IsRunFault};
 ghost use Rattle.tau_output.specs.Cutting.{CutsAs};
+ghost use Rattle.tau_output.specs.declared.outputs.End.{End};
 
-use crate::{End, Output};
+use crate::Output;
+use crate::outputs::done;
 use std::alloc::Global;
 use tau_cut::cut_text;
 use tau_text::{InputError, read_run_text};
@@ -16,8 +18,5 @@ pub(crate) fn cut_run(alloc: Global, bytes: &[u8]) -> Result<Output, InputError>
     ensures fault { IfErr result (TellsInputFault (IsRunFault bytes.now)) }
 {
     let input = read_run_text(alloc, bytes)?;
-    Ok(Output {
-        text: cut_text(alloc, &input.program, &input.trace)?,
-        end: End::Done,
-    })
+    done(cut_text(alloc, &input.program, &input.trace))
 }

@@ -5,6 +5,7 @@ ghost use Rattle.tau_sexpr.specs.Tree.{HasWords};
 ghost use Rattle.tau_sexpr.specs.Printing.{printed};
 ghost use Rattle.tau_tree.specs.Sound.{Sound};
 ghost use Rattle.tau_script.specs.Openings.{program_opening};
+ghost use Rattle.tau_gen.specs.Generated.{generated};
 ghost use Rattle.tau_output.specs.Drills.{steps_form as form_of_steps, drill_lines, DrillsAs};
 
 use crate::Output;
@@ -26,9 +27,17 @@ pub(crate) fn drill_program(alloc: Global, number: u64) -> Result<Output, AllocE
     ensures { IfOk result (λ o. DrillsAs number o.end o.text.items) }
 {
     let program = generate(alloc, number)?;
-    let made = tau_book::run_serially(alloc, &program, 1, number, DRILL_LIMIT)?;
+    drill(alloc, &program, number)
+}
+
+/// The same of the generated program.
+fn drill(alloc: Global, program: &Program, number: u64) -> Result<Output, AllocError>
+    requires { Sound program.now }
+    ensures { IfOk result (λ o. program.now ≡ generated number → DrillsAs number o.end o.text.items) }
+{
+    let made = tau_book::run_serially(alloc, program, 1, number, DRILL_LIMIT)?;
     Ok(Output {
-        text: lines_of(alloc, &program, &made.trace)?,
+        text: lines_of(alloc, program, &made.trace)?,
         end: end_of(made.is_complete),
     })
 }

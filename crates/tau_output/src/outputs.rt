@@ -1,5 +1,5 @@
 //! What commands write.
-ghost use Rattle.std.specs.Prelude.{◌≡◌, ◌⊎◌, ℕ, ◌≤◌, length, IfOk, IfErr, Err};
+ghost use Rattle.std.specs.Prelude.{◌≡◌, ◌⊎◌, ℕ, ◌≤◌, length, IfOk, IfErr, Ok, Err};
 ghost use Rattle.tau_output.specs.Faults.{input_limit, reads_input as reads, IsInputFault};
 ghost use Rattle.tau_output.specs.Refusals.{TellsFault, TellsNotAsked};
 ghost use Rattle.tau_output.specs.Asking.{AsksInVain};
@@ -18,7 +18,7 @@ use crate::migrating::migrate_run;
 use crate::printing::print_program;
 use crate::reporting::report_run;
 use crate::running::write_serial_run;
-use std::alloc::Global;
+use std::alloc::{AllocError, Global};
 use tau_command::Command;
 use tau_points::Point;
 use tau_text::InputError;
@@ -108,6 +108,25 @@ pub fn output_of(alloc: Global, command: Command, bytes: &[u8]) -> Result<Output
         Command::Cut => refused_by(cut_run(alloc, bytes)),
         Command::Draw { from, to, ask } => draw_run(alloc, bytes, from, to, ask),
     }
+}
+
+/// The output with a text behind which nothing is left to say. The error is want of memory.
+pub(crate) fn done(text: Result<Vec<u8>, AllocError>) -> Result<Output, InputError>
+    ensures text { IfOk result (λ o. (text ≡ Ok o.text) × (o.end ≡ End.Done)) }
+    ensures err { IfErr result (λ e. e ≡ InputError.NoMemory) }
+{
+    Ok(Output {
+        text: text?,
+        end: End::Done,
+    })
+}
+
+/// The same output. The error is want of memory.
+pub(crate) fn or_no_memory(written: Result<Output, AllocError>) -> Result<Output, InputError>
+    ensures output { IfOk result (λ o. written ≡ Ok o) }
+    ensures err { IfErr result (λ e. e ≡ InputError.NoMemory) }
+{
+    Ok(written?)
 }
 
 /// The same output, or the refusal for the error.

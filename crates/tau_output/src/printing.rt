@@ -3,8 +3,10 @@ ghost use Rattle.std.specs.Prelude.{◌≡◌, IfOk, IfErr};
 ghost use Rattle.tau_text.specs.Errors.{TellsInputFault};
 ghost use Rattle.tau_text.specs.Faults.{IsPrintFault};
 ghost use Rattle.tau_output.specs.Printing.{PrintsAs};
+ghost use Rattle.tau_output.specs.declared.outputs.End.{End};
 
-use crate::{End, Output};
+use crate::Output;
+use crate::outputs::done;
 use std::alloc::Global;
 use tau_text::{InputError, program_text, read_printed};
 
@@ -14,8 +16,5 @@ pub(crate) fn print_program(alloc: Global, bytes: &[u8]) -> Result<Output, Input
     ensures fault { IfErr result (TellsInputFault (IsPrintFault bytes.now)) }
 {
     let program = read_printed(alloc, bytes)?;
-    Ok(Output {
-        text: program_text(alloc, &program)?,
-        end: End::Done,
-    })
+    done(program_text(alloc, &program))
 }

@@ -13,6 +13,7 @@ ghost use Rattle.tau_book.specs.declared.limits.TheConstants.{JOB_LIMIT};
 ghost use Rattle.tau_output.specs.Runs.{RunsAs, RunsBy};
 ghost use Rattle.tau_output.specs.Inner.Ends.{end_of_run};
 
+use crate::outputs::or_no_memory;
 use crate::{End, Output};
 use std::alloc::{AllocError, Global};
 use tau_text::{InputError, read_program, run_text};
@@ -35,8 +36,25 @@ pub(crate) fn write_serial_run(
     ensures fault { IfErr result (TellsInputFault (IsProgramFault bytes.now)) }
 {
     let program = read_program(alloc, bytes)?;
-    let made = tau_book::run_serially(alloc, &program, jobs, seed, steps)?;
-    Ok(write_run(alloc, &program, &made.trace, made.is_complete)?)
+    or_no_memory(write_serial(alloc, &program, jobs, seed, steps))
+}
+
+/// The run text of the serial run of a program. The error is want of memory.
+fn write_serial(
+    alloc: Global,
+    program: &Program,
+    jobs: u32,
+    seed: u64,
+    steps: u32,
+) -> Result<Output, AllocError>
+    requires sound { Sound program.now }
+    requires some { 1 ≤ jobs }
+    requires few { jobs ≤ JOB_LIMIT }
+    requires limit { steps ≤ STEP_LIMIT }
+    ensures { IfOk result (λ o. (bytes : List ℕ) → IsProgram bytes program.now → RunsBy 1 jobs seed steps bytes o.end o.text.items) }
+{
+    let made = tau_book::run_serially(alloc, program, jobs, seed, steps)?;
+    write_run(alloc, program, &made.trace, made.is_complete)
 }
 
 /// The run text of a program and a run of it, and how it ends then, by whether the run is complete (docs/formats.md, "Run text").

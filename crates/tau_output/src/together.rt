@@ -1,8 +1,10 @@
 //! What commands write where `run` starts several workers.
-ghost use Rattle.std.specs.Prelude.{◌≡◌, ◌⊎◌, ℕ, ◌<◌, ◌≤◌, length, IfOk, IfErr, Err};
+ghost use Rattle.std.specs.Prelude.{◌≡◌, ◌⊎◌, ℕ, List, ◌<◌, ◌≤◌, length, IfOk, IfErr, Err};
 ghost use Rattle.tau_value.specs.declared.limits.TheConstants.{STEP_LIMIT};
 ghost use Rattle.tau_text.specs.Errors.{TellsInputFault};
 ghost use Rattle.tau_text.specs.Faults.{IsProgramFault};
+ghost use Rattle.tau_text.specs.Meaning.{IsProgram};
+ghost use Rattle.tau_tree.specs.Sound.{Sound};
 ghost use Rattle.tau_book.specs.declared.limits.TheConstants.{JOB_LIMIT};
 ghost use Rattle.tau_output.specs.Faults.{input_limit, IsInputFault};
 ghost use Rattle.tau_output.specs.Refusals.{TellsFault, TellsNotAsked};
@@ -10,14 +12,15 @@ ghost use Rattle.tau_output.specs.Asking.{AsksInVain};
 ghost use Rattle.tau_output.specs.Runs.{RunsAs};
 ghost use Rattle.tau_output.specs.Writing.{Writes, HasLimit};
 
-use crate::outputs::refused_by;
+use crate::outputs::{or_no_memory, refused_by};
 use crate::running::write_run;
 use crate::{Output, Refusal, output_of};
-use std::alloc::Global;
+use std::alloc::{AllocError, Global};
 use std::sync::Wait;
 use std::thread::Threads;
 use tau_command::Command;
 use tau_text::{InputError, read_program};
+use tau_tree::Program;
 use tau_workers::{Gate, Settings, run_workers};
 
 /// What a command writes for the bytes of its input, as [`output_of`] says, but `run` with two workers or more starts a thread for
@@ -76,6 +79,24 @@ fn write_workers_run<R: Threads + Wait + Sync, G: Gate + Sync>(
     ensures fault { IfErr result (TellsInputFault (IsProgramFault bytes.now)) }
 {
     let program = read_program(alloc, bytes)?;
-    let ran = run_workers(rt, alloc, &program, settings, gate)?;
-    Ok(write_run(alloc, &program, &ran.trace, ran.is_complete)?)
+    or_no_memory(write_together(rt, alloc, &program, settings, gate))
+}
+
+/// The run text of a program and of a run that several workers made. The error is want of memory.
+fn write_together<R: Threads + Wait + Sync, G: Gate + Sync>(
+    rt: &R,
+    alloc: Global,
+    program: &Program,
+    settings: Settings,
+    gate: &G,
+) -> Result<Output, AllocError>
+    requires sound { Sound program.now }
+    requires some { 1 ≤ settings.workers }
+    requires one { 1 ≤ settings.jobs }
+    requires few { settings.jobs ≤ JOB_LIMIT }
+    requires limit { settings.limit ≤ STEP_LIMIT }
+    ensures { IfOk result (λ o. (bytes : List ℕ) → IsProgram bytes program.now → RunsAs settings.limit bytes o.end o.text.items) }
+{
+    let ran = run_workers(rt, alloc, program, settings, gate)?;
+    write_run(alloc, program, &ran.trace, ran.is_complete)
 }
