@@ -1,7 +1,8 @@
 //! Texts, values and programs, with what the calls on them answer. Standard input has sections: a line `# VERB TITLE`, and a
 //! text, which ends before its last line feed. For each section the line is written, and what its verb answers:
 //! - `forms`: the forms of the text, printed from a copy;
-//! - `built`: the same, where each word and text at the top was built anew, its last byte by a push;
+//! - `pieces`: how many forms each piece has that is read of the text, 1,000 times over, and the place behind it;
+//! - `built`: the same as `forms`, where each word and text at the top was built anew, its last byte by a push;
 //! - `numbers`: each word as a count and as an integer, written again;
 //! - `values`: each form as a value, with the names `a` and `to-2` and the bound 9, printed from a copy;
 //! - `program`: the program of the forms, printed from a copy that is found sound;
@@ -20,7 +21,7 @@ mod texts;
 mod values;
 
 use crate::programs::{add_mixed, add_program};
-use crate::texts::{add_built, add_forms};
+use crate::texts::{add_built, add_forms, add_pieces};
 use crate::values::{add_numbers, add_values};
 use std::alloc::{AllocError, Global};
 use std::process::ExitCode;
@@ -60,6 +61,7 @@ fn add_section(alloc: Global, text: &mut String, section: &str) -> Result<(), Al
     writeln!(text, "# {line}")?;
     match line.split_whitespace().next().unwrap_or("") {
         "mixed" => add_mixed(alloc, text, rest),
+        "pieces" => add_pieces(alloc, text, rest),
         verb => add_answer(alloc, text, verb, rest),
     }
 }

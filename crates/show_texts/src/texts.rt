@@ -6,7 +6,7 @@ ghost use Rattle.tau_sexpr.specs.Tree.{HasWords, depth_of, depths};
 use std::alloc::{AllocError, Global};
 use tau_sexpr::{
     Form, Forms, Text, Word, are_text_bytes, are_word_bytes, is_text_byte, is_word_byte,
-    print_forms,
+    print_forms, read_some,
 };
 
 /// Adds forms, printed from a copy.
@@ -15,6 +15,29 @@ pub(crate) fn add_forms(alloc: Global, text: &mut String, forms: &Forms) -> Resu
     requires words { All HasWords forms.now }
 {
     add_printed(alloc, text, &forms.copy()?)
+}
+
+/// Adds how many forms each piece of a text has, which stands 1,000 times over, and the place behind it; or the fault.
+pub(crate) fn add_pieces(
+    alloc: Global,
+    text: &mut String,
+    spelled: &str,
+) -> Result<(), AllocError> {
+    let mut bytes = Vec::new(alloc);
+    for _ in 0..1_000 {
+        bytes.extend_from_slice(spelled.as_bytes())?;
+    }
+    let mut at = 0;
+    while at < bytes.len() {
+        match read_some(alloc, &bytes, at) {
+            Ok((forms, next)) => {
+                writeln!(text, "{} up to {next}", forms.len())?;
+                at = next;
+            }
+            Err(error) => return writeln!(text, "{error}"),
+        }
+    }
+    Ok(())
 }
 
 /// Adds forms, printed with words and texts that are built anew.

@@ -14,7 +14,7 @@ use Rattle.tau_value.specs.declared.shared.Value.{Value}
 use Rattle.tau_value.specs.Value.{val_of}
 use Rattle.tau_value.specs.Sizes.{IsInBounds}
 use Rattle.tau_value.specs.Names.{AreNames}
-use Rattle.tau_value.specs.Written.{count_form}
+use Rattle.tau_value.specs.Written.{count_form, IsWritten}
 use Rattle.tau_value.proofs.WrittenLemmas.{number_nonempty, decimal_filled}
 use Rattle.tau_chains.specs.declared.chained.Chained.{Chained}
 use Rattle.tau_tree.specs.declared.programs.Program.{Program}
@@ -26,7 +26,7 @@ use Rattle.tau_trace.specs.Numbering.{born}
 use Rattle.tau_trace.specs.Known.{WellFormed}
 use Rattle.tau_trace.proofs.Indexing.{born-le}
 use Rattle.tau_trace.proofs.Lists.{slice_get-set_same, slice_get-set_other}
-use Rattle.tau_steps.specs.StepForms.{who_form, value_form, IsWritten}
+use Rattle.tau_steps.specs.StepForms.{who_form, value_form}
 use Rattle.tau_states.specs.Opening.{opening_states}
 use Rattle.tau_states.proofs.Bounds.{saved_bounded}
 use Rattle.tau_links.specs.Marks.{IsMarked}
@@ -105,7 +105,7 @@ few_transactors : (T : Run) (t : ℕ) → WellFormed T → t < born T (len T) �
 few_transactors T t w l = omega (arith, l, born-le T (len T), w.opening.few_names, w.few_steps)
 
 -- the forms of a list, one deeper
-state_words : (o : Opening) (t : ℕ) (kept : Kept) → AreNames o.names → t < 2 ^ 64 → kept.interval < 2 ^ 64 → IsWritten o.names kept.value → HasWords (state_form o t kept)
+state_words : (o : Opening) (t : ℕ) (kept : Kept) → AreNames o.names → t < 2 ^ 64 → kept.interval < 2 ^ 64 → IsWritten o.names (val_of kept.value) → HasWords (state_form o t kept)
 state_words o t kept names few small is = ((λ e. cc), (number_nonempty o.names t names few, (decimal_filled kept.interval small, (is.words, tt))))
 
 module _ (P : Program) (T : Run) (marks : List Bool) (steps : List ℕ) (w : WellFormed T) (bounded : All (λ v. IsInBounds (val_of v)) (opening_states P.starts)) (same : (k : ℕ) → Contains steps k ↔ IsMarked marks k) where

@@ -21,12 +21,12 @@ pub(crate) struct Kept {
 }
 
 /// What a record tells of the interval before its own.
-fn kept_of(record: &StateRecord) -> Result<Kept, AllocError>
-    ensures { IfOk result (λ k. k ≡ kept_specs.kept_of record.now) }
+fn kept_of(saved: &StateRecord) -> Result<Kept, AllocError>
+    ensures { IfOk result (λ k. k ≡ kept_specs.kept_of saved.now) }
 {
     Ok(Kept {
-        interval: record.interval,
-        value: record.base.copy()?,
+        interval: saved.interval,
+        value: saved.base.copy()?,
     })
 }
 
@@ -59,10 +59,10 @@ fn keep(states: &States, kept: &mut Vec<Option<Kept>>, who: u32) -> Result<(), A
 }
 
 /// Keeps what a record tells, at the place of its transactor.
-fn put(kept: &mut Vec<Option<Kept>>, who: u32, record: &StateRecord) -> Result<(), AllocError>
-    ensures { OnOk result (who < length kept.old.items → kept.new.items ≡ set kept.old.items who (Some (kept_specs.kept_of record.now))) }
+fn put(kept: &mut Vec<Option<Kept>>, who: u32, saved: &StateRecord) -> Result<(), AllocError>
+    ensures { OnOk result (who < length kept.old.items → kept.new.items ≡ set kept.old.items who (Some (kept_specs.kept_of saved.now))) }
 {
-    let one = kept_of(record)?;
+    let one = kept_of(saved)?;
     if who as usize >= kept.len() {
         return Ok(());
     }

@@ -4,9 +4,10 @@ ghost use Rattle.tau_sexpr.specs.Form.{tree_of};
 ghost use Rattle.tau_sexpr.specs.Printing.{printed};
 ghost use Rattle.tau_sexpr.specs.Tree.{depth_of, depths, HasWords};
 ghost use Rattle.tau_value.specs.Names.{AreNames};
+ghost use Rattle.tau_value.specs.Value.{val_of};
+ghost use Rattle.tau_value.specs.Written.{IsWritten};
 ghost use Rattle.tau_tree.specs.Sound.{Sound};
 ghost use Rattle.tau_script.specs.Openings.{program_opening};
-ghost use Rattle.tau_steps.specs.StepForms.{IsWritten};
 ghost use Rattle.tau_explain.specs.Texts as chains;
 ghost use Rattle.tau_cut.specs.Texts.{mark_form, mark_forms, IsCutText};
 ghost use Rattle.tau_cut.specs.Inner.Keeping as kept_specs;
@@ -140,7 +141,7 @@ fn form_of_state(
 ) -> Result<Form, AllocError>
     requires { AreNames opening.now.names }
     ensures form { IfOk result (λ f. tree_of f ≡ kept_specs.state_form opening.now who kept.now) }
-    ensures written { OnOk result (IsWritten opening.now.names kept.now.value) }
+    ensures written { OnOk result (IsWritten opening.now.names (val_of kept.now.value)) }
     ensures small { OnOk result (kept.now.interval < 2 ^ 32) }
 {
     let mut items = headed(alloc, b"state")?;

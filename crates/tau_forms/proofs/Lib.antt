@@ -5,6 +5,7 @@ pub mod RowLemmas
 pub mod LoopLemmas
 pub mod DefinedLemmas
 pub mod TopLemmas
+pub mod ReadingLemmas
 pub mod BuiltLemmas
 pub mod BuildingLemmas
 pub mod ProgramLemmas

@@ -1,5 +1,5 @@
 -- The faults of a form are those of its own node and of its items.
-use Rattle.std.proofs.Common.{◌≡◌, ◌≢◌, ℕ, ◌+◌, ◌-◌, ◌<◌, ◌≤◌, List, [], ◌∷◌, length, Option, Some, None, option_map, is_some, Result, Ok, Err, refl, sym, ap, subst, ◌∙◌, arith}
+use Rattle.std.proofs.Common.{◌≡◌, ◌≢◌, ℕ, ◌+◌, ◌<◌, ◌≤◌, List, [], ◌∷◌, length, Option, Some, None, option_map, is_some, Result, Ok, Err, refl, sym, ap, subst, ◌∙◌, arith}
 use Rattle.tau_sexpr.specs.Tree.{Tree, Trees, word, text, list, none, more, size_of, size_of_all}
 use Rattle.tau_value.specs.Meaning as values
 use Rattle.tau_value.proofs.MeaningLemmas as values_lemmas

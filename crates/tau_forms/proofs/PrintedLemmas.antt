@@ -16,8 +16,8 @@ use Rattle.tau_tree.specs.declared.programs.Program.{Program}
 use Rattle.tau_tree.specs.declared.starts.Start.{Start}
 use Rattle.tau_value.specs.Names.{AreNames}
 use Rattle.tau_value.specs.Value.{val_of}
-use Rattle.tau_value.specs.Written.{count_form, NumbersFit}
-use Rattle.tau_forms.specs.Inner.Fitting.{HasFittingInteger, HasFittingNumbers, IsWritten, IsFitting}
+use Rattle.tau_value.specs.Written.{count_form, NumbersFit, IsWritten}
+use Rattle.tau_forms.specs.Inner.Fitting.{HasFittingInteger, HasFittingNumbers, IsFitting}
 use Rattle.tau_forms.specs.Printed.{code_form, code_forms, version_forms, behaviour_form, start_form, post_form, entry_form, printed}
 use Rattle.tau_forms.proofs.LineTexts.{lines_both}
 use Rattle.tau_forms.proofs.ValueTexts.{is_written}

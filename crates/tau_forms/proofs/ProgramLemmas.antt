@@ -1,7 +1,7 @@
 -- The bounds of what a program's forms define, and what the reader tells of them.
 use Rattle.std.proofs.Common.{◌≡◌, ℕ, ◌+◌, ◌≤◌, Bool, true, false, cond, ◌&&◌, nat_le, nat_lt, List, [], ◌∷◌, ◌++◌, length, filter, Option, Some, None, unwrap_or, Result, Ok, Err, refl, sym, subst, ◌∙◌, arith}
 use Rattle.std.specs.Option.{option_or, option_map_or}
-use Rattle.std.specs.Result.{IfOk, IfErr}
+use Rattle.std.specs.Result.{IfErr}
 use Rattle.std.proofs.lemmas.Bool.{ltb-true, ltb-false}
 use Rattle.std.proofs.lemmas.List.{length_push}
 use Rattle.tau_sexpr.specs.Tree.{Tree, word, list, none, more}

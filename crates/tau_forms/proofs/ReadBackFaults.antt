@@ -1,5 +1,5 @@
 -- When no node of a form is faulty, node by node.
-use Rattle.std.proofs.Common.{◌≡◌, ◌≢◌, ℕ, Bool, true, false, cond, List, [], ◌∷◌, Option, Some, None, is_some, refl, sym, ap, subst, ◌∙◌, length}
+use Rattle.std.proofs.Common.{◌≡◌, ◌≢◌, ℕ, true, cond, List, [], ◌∷◌, Some, None, is_some, refl, ap, subst, ◌∙◌, length}
 use Rattle.tau_sexpr.specs.Tree.{Tree, Trees, word, text, list, none, more}
 use Rattle.tau_value.specs.Val.{Val}
 use Rattle.tau_value.specs.Meaning as values
@@ -7,7 +7,7 @@ use Rattle.tau_forms.specs.declared.keywords.Keyword.{Keyword}
 use Rattle.tau_forms.specs.declared.tables.Tables.{Tables}
 use Rattle.tau_forms.specs.Keywords.{keyword_in}
 use Rattle.tau_forms.specs.Roles.{Role, first, value, expression, with_first, expression_items, has_items, parts_of, count_of, row}
-use Rattle.tau_forms.specs.Faults.{Fault, shape, unless, word_fault, text_fault, list_fault, own_fault, FaultAt, FaultIn, itself, in_value, in_item, here, later, IsClean}
+use Rattle.tau_forms.specs.Faults.{shape, unless, word_fault, text_fault, list_fault, own_fault, FaultAt, FaultIn, itself, in_value, in_item, here, later, IsClean}
 
 module _ (tb : Tables) where
   pub clean_word : (r : Role) (w : List ℕ) → r ≢ value → word_fault r w ≡ None → IsClean (FaultAt tb r (word w))

@@ -1,5 +1,5 @@
 -- An expression whose form has no fault keeps the rules of a sound program.
-use Rattle.std.proofs.Common.{◌≡◌, ◌≢◌, ℕ, ℤ, ◌+◌, ◌<◌, ◌≤◌, ◌==◌, nat_le, Bool, true, false, cond, ◌||◌, List, [], ◌∷◌, ◌++◌, length, Option, Some, None, is_some, refl, sym, ap, subst, ◌∙◌, arith, codes}
+use Rattle.std.proofs.Common.{◌≡◌, ℕ, ℤ, ◌+◌, ◌<◌, ◌≤◌, nat_le, Bool, true, false, cond, ◌||◌, List, [], ◌∷◌, ◌++◌, length, Option, Some, None, is_some, refl, sym, ap, subst, ◌∙◌, arith, codes}
 use Rattle.std.specs.Option.{option_map_or}
 use Rattle.std.specs.Str.{bytes_eq}
 use Rattle.std.proofs.lemmas.Bool.{false≢true, leb-true, eqb-true}
@@ -18,9 +18,9 @@ use Rattle.tau_forms.specs.declared.keywords.Keyword.TheVariants as keywords
 use Rattle.tau_forms.specs.declared.tables.Tables.{Tables}
 use Rattle.tau_forms.specs.Keywords.{keyword_in}
 use Rattle.tau_forms.specs.Tops.{has}
-use Rattle.tau_forms.specs.Roles.{Role, known, fresh, expression, two_names, every, count_of, word_of, names_in, has_items, parts_of}
-use Rattle.tau_forms.specs.Faults.{Fault, shape, unknown, unless, FaultAt, FaultIn, IsClean}
-use Rattle.tau_forms.specs.Meaning.{number_of, word_code, list_code, code_in, codes_in}
+use Rattle.tau_forms.specs.Roles.{Role, known, fresh, expression, two_names, every, count_of, word_of, names_in}
+use Rattle.tau_forms.specs.Faults.{shape, unknown, unless, FaultAt, FaultIn, IsClean}
+use Rattle.tau_forms.specs.Meaning.{number_of, list_code, code_in, codes_in}
 use Rattle.tau_forms.proofs.SoundFaults.{own_clean, head_clean, tail_clean, passes, IsCleanList, expression_clean, IsKnown, known_clean, IsFresh, fresh_clean, AreTwoNames, two_names_clean, contains_from_has, number_of-lt}
 
 module _ (tb : Tables) where

@@ -9,9 +9,8 @@ use Rattle.tau_sexpr.specs.declared.trees.Form.TheVariants as forms
 use Rattle.tau_value.specs.Names.{AreNames}
 use Rattle.tau_value.specs.Val.{Val}
 use Rattle.tau_value.specs.Val as val
-use Rattle.tau_value.specs.Written.{written, written_all, NumbersFit}
+use Rattle.tau_value.specs.Written.{written, written_all, NumbersFit, IsWritten}
 use Rattle.tau_value.proofs.WrittenLemmas.{written_all-inside, reads_back, depth_from, words_from}
-use Rattle.tau_forms.specs.Inner.Fitting.{IsWritten}
 use Rattle.tau_forms.proofs.LineTexts.{rest-more, bytes-more}
 
 -- what holds anyway holds of an answer

@@ -1,7 +1,7 @@
 -- Which nodes of a program's forms are faulty, and the first fault.
-use Rattle.std.specs.Prelude.{◌≡◌, ℕ, ◌+◌, ◌≤◌, ◌||◌, Bool, true, false, nat_le, is_some, List, [], ◌∷◌, ◌++◌, length, Option, Some, None, if◌then◌else◌, codes}
+use Rattle.std.specs.Prelude.{◌≡◌, ℕ, ◌+◌, ◌≤◌, ◌||◌, Bool, nat_le, is_some, List, [], ◌∷◌, ◌++◌, length, Option, Some, None, if◌then◌else◌, codes}
 use Rattle.std.specs.Str.{bytes_eq}
-use Rattle.tau_sexpr.specs.Tree.{Tree, Trees, word, text, list, none, more, inside, size_of, sizes}
+use Rattle.tau_sexpr.specs.Tree.{Tree, Trees, word, text, list, more, inside, size_of, sizes}
 use Rattle.tau_value.specs.Names.{is_name}
 use Rattle.tau_value.specs.Numbers.{integer_in}
 use Rattle.tau_value.specs.Meaning as values
@@ -9,7 +9,7 @@ use Rattle.tau_forms.specs.declared.faults.ProgramError.{ProgramError}
 use Rattle.tau_forms.specs.declared.faults.ProgramError.TheVariants as errors
 use Rattle.tau_forms.specs.declared.tables.Tables.{Tables}
 use Rattle.tau_forms.specs.Tops.{has, is_count_in, nodes_of, tables_of, limit_of}
-use Rattle.tau_forms.specs.Roles.{Role, top, first, mark, known, fresh, count, failure, value, expression, two_names, row}
+use Rattle.tau_forms.specs.Roles.{Role, top, first, mark, known, fresh, count, value, expression, row}
 
 -- a fault of a node
 pub data Fault : Type 0 where

@@ -1,4 +1,4 @@
--- What contracts of inner functions say; no clause of a public call rests on these.
+-- What contracts of inner functions say; public calls cite of these what stands in Readings alone.
 pub mod Scopes
 pub mod Wanted
 pub mod Passing

@@ -5,4 +5,5 @@ pub mod Faults
 pub mod Meaning
 pub mod Printed
 pub mod Laws
+pub mod Readings
 pub mod Inner

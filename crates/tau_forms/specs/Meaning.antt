@@ -1,5 +1,5 @@
 -- The program that forms without faults mean.
-use Rattle.std.specs.Prelude.{◌≡◌, ℕ, Bool, true, false, List, [], ◌∷◌, map, filter_map, length, Option, Some, None, unwrap_or, codes, if◌then◌else◌}
+use Rattle.std.specs.Prelude.{◌≡◌, ℕ, Bool, true, false, List, map, filter_map, length, Option, Some, None, unwrap_or, codes, if◌then◌else◌}
 use Rattle.std.specs.Option.{option_map_or}
 use Rattle.std.specs.Str.{bytes_eq}
 use Rattle.tau_sexpr.specs.Tree.{Tree, Trees}
@@ -21,11 +21,9 @@ use Rattle.tau_forms.specs.declared.keywords.FailureWord.{FailureWord}
 use Rattle.tau_forms.specs.declared.keywords.FailureWord.TheVariants as failures
 use Rattle.tau_forms.specs.declared.keywords.Keyword.{Keyword}
 use Rattle.tau_forms.specs.declared.keywords.Keyword.TheVariants as keywords
-use Rattle.tau_forms.specs.declared.keywords.Sort.{Sort}
-use Rattle.tau_forms.specs.declared.keywords.Sort.TheVariants as sorts
 use Rattle.tau_forms.specs.declared.tables.Tables.{Tables}
 use Rattle.tau_forms.specs.Keywords.{sort_in, failure_in, keyword_in}
-use Rattle.tau_forms.specs.Tops.{is_behaviour, is_start, is_post, is_entry, nodes_of, tables_of, limit_of}
+use Rattle.tau_forms.specs.Tops.{is_behaviour, is_start, is_post, is_entry, tables_of, limit_of}
 use Rattle.tau_forms.specs.Faults.{ProgramFaultAt, IsClean}
 
 -- the number of a name among names

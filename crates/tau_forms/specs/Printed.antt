@@ -1,7 +1,7 @@
 -- The forms that a program is printed as.
-use Rattle.std.specs.Prelude.{ℕ, ◌==◌, List, [], ◌∷◌, ◌++◌, map, slice_get, unwrap_or, codes, if◌then◌else◌, Bool}
-use Rattle.std.specs.Fmt.{decimal, signed_decimal}
-use Rattle.tau_sexpr.specs.Tree.{Tree, Trees, word, text, list, none, more, inside, headed}
+use Rattle.std.specs.Prelude.{ℕ, ◌==◌, List, [], ◌∷◌, ◌++◌, map, slice_get, unwrap_or, codes, if◌then◌else◌}
+use Rattle.std.specs.Fmt.{signed_decimal}
+use Rattle.tau_sexpr.specs.Tree.{Tree, Trees, word, text, list, none, more, headed}
 use Rattle.tau_value.specs.Written.{written, count_form}
 use Rattle.tau_value.specs.Value.{val_of}
 use Rattle.tau_tree.specs.Code.{Code, Codes}

@@ -1,6 +1,6 @@
 -- What is wanted at each place of a program's forms.
-use Rattle.std.specs.Prelude.{ℕ, ◌+◌, ◌^◌, ◌==◌, ◌&&◌, Bool, true, false, nat_le, is_some, List, [], ◌∷◌, ◌++◌, Option, Some, None, if◌then◌else◌}
-use Rattle.tau_sexpr.specs.Tree.{Tree, Trees, word, text, list, none, more}
+use Rattle.std.specs.Prelude.{ℕ, ◌+◌, ◌^◌, ◌==◌, Bool, true, false, nat_le, is_some, List, [], ◌∷◌, ◌++◌, Option, Some, None, if◌then◌else◌}
+use Rattle.tau_sexpr.specs.Tree.{Tree, Trees, word, list, none, more}
 use Rattle.tau_tree.specs.Parts.{arity}
 use Rattle.tau_forms.specs.declared.keywords.Sort.{Sort}
 use Rattle.tau_forms.specs.declared.keywords.Sort.TheVariants as sorts

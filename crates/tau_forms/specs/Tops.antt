@@ -1,10 +1,10 @@
 -- What the lists at the top define, and how many there may be.
-use Rattle.std.specs.Prelude.{ℕ, ◌+◌, ◌==◌, ◌&&◌, Bool, true, false, nat_le, nat_lt, List, [], ◌∷◌, ◌++◌, length, filter, Option, Some, None, unwrap_or, if◌then◌else◌}
+use Rattle.std.specs.Prelude.{ℕ, ◌==◌, ◌&&◌, Bool, true, false, nat_le, nat_lt, List, [], ◌∷◌, ◌++◌, length, filter, Option, Some, None, unwrap_or, if◌then◌else◌}
 use Rattle.std.specs.Option.{option_or, option_map_or}
 use Rattle.std.specs.List.{list_any}
 use Rattle.std.specs.Str.{bytes_eq}
 use Rattle.tau_value.specs.declared.limits.TheConstants.{NODE_LIMIT, BEHAVIOUR_LIMIT, START_LIMIT, POST_LIMIT, ENTRY_LIMIT}
-use Rattle.tau_sexpr.specs.Tree.{Tree, word, text, list, none, more}
+use Rattle.tau_sexpr.specs.Tree.{Tree, word, list, none, more}
 use Rattle.tau_value.specs.Names.{is_name}
 use Rattle.tau_value.specs.Numbers.{count_in}
 use Rattle.tau_forms.specs.declared.keywords.Sort.{Sort}

@@ -1,63 +1,65 @@
 //! How many lists of each kind a program may have.
-ghost use Rattle.std.specs.Prelude.{◌≡◌, map};
-ghost use Rattle.tau_sexpr.specs.Form.{tree_of};
-ghost use Rattle.tau_forms.specs.Tops.{is_behaviour, is_start, is_post, is_entry, count_of, limit_of as limit_in};
+ghost use Rattle.std.specs.Prelude.{◌≡◌, ◌++◌, ◌∷◌, [], List};
+ghost use Rattle.tau_sexpr.specs.Tree.{Tree};
+ghost use Rattle.tau_forms.specs.Readings.{AreCounts};
+ghost use Rattle.tau_forms.specs.Tops.{sort_of as sort_in_tree, limit_of};
 
 use crate::keywords::Sort;
-use crate::tables::sort_of_form;
-use tau_sexpr::Form;
 use tau_value::{BEHAVIOUR_LIMIT, ENTRY_LIMIT, POST_LIMIT, START_LIMIT};
 
-/// The least number of a kind of which there are too many lists: 1 of behaviours, 2 of starts, 3 of posts, 4 of script
-/// entries (docs/limits.md).
-pub(crate) fn limit_of(forms: &[Form]) -> Option<u8>
-    ensures { result ≡ limit_in (map tree_of forms.now) }
-{
-    let counts = counts_of(forms);
-    if counts.behaviours > BEHAVIOUR_LIMIT {
-        return Some(1);
-    }
-    if counts.starts > START_LIMIT {
-        return Some(2);
-    }
-    if counts.posts > POST_LIMIT {
-        return Some(3);
-    }
-    if counts.entries > ENTRY_LIMIT {
-        return Some(4);
-    }
-    None
-}
-
-/// How many lists of each kind there are.
+/// How many lists of each kind stand at the top up to a place. A greater number is told as the last of usize.
 #[derive(Clone, Copy)]
-struct Counts {
+pub(crate) struct Counts {
     behaviours: usize,
     starts: usize,
     posts: usize,
     entries: usize,
 }
 
-fn counts_of(forms: &[Form]) -> Counts
-    ensures behaviours { result.behaviours ≡ count_of is_behaviour (map tree_of forms.now) }
-    ensures starts { result.starts ≡ count_of is_start (map tree_of forms.now) }
-    ensures posts { result.posts ≡ count_of is_post (map tree_of forms.now) }
-    ensures entries { result.entries ≡ count_of is_entry (map tree_of forms.now) }
-{
-    let mut counts = Counts {
-        behaviours: 0,
-        starts: 0,
-        posts: 0,
-        entries: 0,
-    };
-    for form in forms {
-        match sort_of_form(form) {
-            Sort::Behaviour => counts.behaviours += 1,
-            Sort::Start => counts.starts += 1,
-            Sort::Post => counts.posts += 1,
-            Sort::At => counts.entries += 1,
+impl Counts {
+    /// Before the first form.
+    pub(crate) fn none() -> Counts
+        ensures { AreCounts [] result }
+    {
+        Counts {
+            behaviours: 0,
+            starts: 0,
+            posts: 0,
+            entries: 0,
+        }
+    }
+
+    /// Counts the next form, by its kind.
+    pub(crate) fn note(&mut self, sort: Sort)
+        ensures { (before : List Tree) (t : Tree) → AreCounts before self.old → sort ≡ sort_in_tree t
+            → AreCounts (before ++ t ∷ []) self.new }
+    {
+        match sort {
+            Sort::Behaviour => self.behaviours = self.behaviours.saturating_add(1),
+            Sort::Start => self.starts = self.starts.saturating_add(1),
+            Sort::Post => self.posts = self.posts.saturating_add(1),
+            Sort::At => self.entries = self.entries.saturating_add(1),
             Sort::Nodes | Sort::Version | Sort::Other => {}
         }
     }
-    counts
+
+    /// The least number of a kind of which there are too many lists: 1 of behaviours, 2 of starts, 3 of posts, 4 of script
+    /// entries (docs/limits.md).
+    pub(crate) fn limit(self) -> Option<u8>
+        ensures { (ts : List Tree) → AreCounts ts self → result ≡ limit_of ts }
+    {
+        if self.behaviours > BEHAVIOUR_LIMIT {
+            return Some(1);
+        }
+        if self.starts > START_LIMIT {
+            return Some(2);
+        }
+        if self.posts > POST_LIMIT {
+            return Some(3);
+        }
+        if self.entries > ENTRY_LIMIT {
+            return Some(4);
+        }
+        None
+    }
 }

@@ -23,39 +23,9 @@ use tau_tree::{
 };
 use tau_value::{NODE_LIMIT, Names, START_LIMIT, Value, count_of, value_of};
 
-/// The program that forms at the top mean, which have no fault. The error is want of memory.
-pub(crate) fn build_program(
-    alloc: Global,
-    forms: &[Form],
-    tables: &Tables,
-) -> Result<Program, ProgramError>
-    requires { AreAdmitted (map tree_of forms.now) tables.now }
-    ensures program { IfOk result (Means (map tree_of forms.now)) }
-    ensures err { IfErr result (λ e. e ≡ ProgramError.NoMemory) }
-{
-    let mut draft = Draft::new(alloc);
-    draft.add_all(alloc, forms, tables)?;
-    Ok(draft.finish(tables))
-}
-
-/// The same of forms that are given up, each of which is dropped once what it defines stands in the program.
-pub(crate) fn build_from(
-    alloc: Global,
-    forms: Forms,
-    tables: &Tables,
-) -> Result<Program, ProgramError>
-    requires { AreAdmitted forms tables.now }
-    ensures program { IfOk result (Means forms) }
-    ensures err { IfErr result (λ e. e ≡ ProgramError.NoMemory) }
-{
-    let mut draft = Draft::new(alloc);
-    draft.take_all(alloc, forms, tables)?;
-    Ok(draft.finish(tables))
-}
-
 /// The parts of a program up to a form.
 #[derive(Drop)]
-struct Draft {
+pub(crate) struct Draft {
     behaviours: Behaviours,
     starts: Starts,
     posts: Posts,
@@ -63,7 +33,7 @@ struct Draft {
 }
 
 impl Draft {
-    fn new(alloc: Global) -> Draft
+    pub(crate) fn new(alloc: Global) -> Draft
         ensures { (t : Tables) → HasBuilt t [] result }
     {
         Draft {
@@ -74,32 +44,8 @@ impl Draft {
         }
     }
 
-    /// Adds what forms define. The error is want of memory.
-    fn add_all(&mut self, alloc: Global, forms: &[Form], tables: &Tables) -> Result<(), AllocError>
-        requires few { length tables.now.starts ≤ START_LIMIT }
-        requires empty { HasBuilt tables.now [] self.old }
-        ensures { OnOk result (HasBuilt tables.now (map tree_of forms.now) self.new) }
-    {
-        for form in forms {
-            self.add(alloc, form, tables)?;
-        }
-        Ok(())
-    }
-
-    /// The same of forms that are given up: each is dropped once it is added.
-    fn take_all(&mut self, alloc: Global, forms: Forms, tables: &Tables) -> Result<(), AllocError>
-        requires few { length tables.now.starts ≤ START_LIMIT }
-        requires empty { HasBuilt tables.now [] self.old }
-        ensures { OnOk result (HasBuilt tables.now forms self.new) }
-    {
-        for form in forms.into_items() {
-            self.add(alloc, &form, tables)?;
-        }
-        Ok(())
-    }
-
     /// The program of the forms, which have been added.
-    fn finish(self, tables: &Tables) -> Program
+    pub(crate) fn finish(self, tables: &Tables) -> Program
         requires { tables.now.nodes ≤ NODE_LIMIT }
         ensures { (ts : List Tree) → AreAdmitted ts tables.now → HasBuilt tables.now ts self → Means ts result }
     {
@@ -114,7 +60,12 @@ impl Draft {
     }
 
     /// Adds what a form defines. The error is want of memory.
-    fn add(&mut self, alloc: Global, form: &Form, tables: &Tables) -> Result<(), AllocError>
+    pub(crate) fn add(
+        &mut self,
+        alloc: Global,
+        form: &Form,
+        tables: &Tables,
+    ) -> Result<(), AllocError>
         requires few { length tables.now.starts ≤ START_LIMIT }
         ensures { OnOk result ((before : List Tree) → HasBuilt tables.now before self.old
             → HasBuilt tables.now (before ++ tree_of form.now ∷ []) self.new) }

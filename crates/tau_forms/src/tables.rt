@@ -66,22 +66,18 @@ impl Defined {
             Definition::Nothing => Ok(()),
         }
     }
-}
 
-/// What forms at the top define. The error is want of memory.
-pub(crate) fn collect(alloc: Global, forms: &[Form]) -> Result<Tables, AllocError>
-    ensures { IfOk result (λ t. t ≡ tables_of (map tree_of forms.now)) }
-{
-    let mut defined = Defined::new(alloc);
-    for form in forms {
-        defined.note(form)?;
+    /// What all forms of a program define, which have been noted.
+    pub(crate) fn tables(self) -> Tables
+        ensures { (ts : List Tree) → IsDefined ts self → result ≡ tables_of ts }
+    {
+        Tables {
+            behaviours: self.behaviours,
+            starts: self.starts,
+            nodes: self.nodes.unwrap_or(NODE_LIMIT as u64),
+            version: version_by(self.second),
+        }
     }
-    Ok(Tables {
-        behaviours: defined.behaviours,
-        starts: defined.starts,
-        nodes: defined.nodes.unwrap_or(NODE_LIMIT as u64),
-        version: version_by(defined.second),
-    })
 }
 
 /// The version of a program, by whether a (version 2) stands among its forms.

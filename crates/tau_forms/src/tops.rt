@@ -1,4 +1,4 @@
-//! The forms at the top checked for faults.
+//! A form at the top checked for faults.
 ghost use Rattle.std.specs.Prelude.{◌≡◌, ◌≢◌, ◌+◌, ◌<◌, ◌≤◌, ◌^◌, [], true, List, length, map, Some};
 ghost use Rattle.tau_sexpr.specs.Form.{tree_of};
 ghost use Rattle.tau_sexpr.specs.Tree.{Tree, Trees, inside, list as list_tree, more, size_of, size_of_all};
@@ -21,47 +21,8 @@ use std::alloc::Global;
 use tau_sexpr::Form;
 use tau_value::START_LIMIT;
 
-/// Checks all forms at the top: the error is the first fault (docs/formats.md, "Programs"), or want of memory.
-pub(crate) fn check_forms(
-    alloc: Global,
-    forms: &[Form],
-    tables: &Tables,
-) -> Result<(), ProgramError>
-    requires tables { tables.now ≡ tables_of (map tree_of forms.now) }
-    requires few { length tables.now.starts ≤ START_LIMIT }
-    requires range { size_of_all (inside (map tree_of forms.now)) + 1 < 2 ^ 64 }
-    ensures { PassesForms (map tree_of forms.now) result }
-{
-    let mut earlier = Defined::new(alloc);
-    check_each(alloc, forms, tables, &mut earlier)
-}
-
-/// Checks all forms at the top; `earlier` is what stands before the first.
-fn check_each(
-    alloc: Global,
-    forms: &[Form],
-    tables: &Tables,
-    earlier: &mut Defined,
-) -> Result<(), ProgramError>
-    requires first { IsDefined [] earlier.old }
-    requires tables { tables.now ≡ tables_of (map tree_of forms.now) }
-    requires few { length tables.now.starts ≤ START_LIMIT }
-    requires range { size_of_all (inside (map tree_of forms.now)) + 1 < 2 ^ 64 }
-    ensures { PassesForms (map tree_of forms.now) result }
-{
-    let mut node = 0u64;
-    for form in forms {
-        check_top(alloc, form, tables, &*earlier, &mut node)?;
-        earlier.note(form)?;
-    }
-    match earlier.nodes {
-        Some(_) => Ok(()),
-        None => Err(ProgramError::Shape { node }),
-    }
-}
-
 /// Passes a form at the top, after forms that define this.
-fn check_top(
+pub(crate) fn check_top(
     alloc: Global,
     form: &Form,
     tables: &Tables,

@@ -4,10 +4,11 @@ ghost use Rattle.std.specs.Fmt.{decimal, signed_decimal};
 ghost use Rattle.std.specs.List.{flat_map};
 ghost use Rattle.tau_sexpr.specs.Bytes.{IsWordByte, IsTextByte};
 ghost use Rattle.tau_sexpr.specs.Printing.{quoted_byte, print_of, HasBytes, AllHaveBytes};
+ghost use Rattle.tau_value.specs.Names.{AreNames};
 ghost use Rattle.tau_value.specs.Val as val;
 ghost use Rattle.tau_value.specs.Val.{inside};
 ghost use Rattle.tau_value.specs.Value.{val_of};
-ghost use Rattle.tau_value.specs.Written.{name_written, written, written_all, NumbersFit, AllNumbersFit};
+ghost use Rattle.tau_value.specs.Written.{name_written, written, written_all, NumbersFit, AllNumbersFit, IsWritten};
 
 use itoa::Buffer;
 use std::alloc::AllocError;
@@ -98,12 +99,13 @@ pub fn add_count(out: &mut Vec<u8>, count: u32) -> Result<(), AllocError>
     put_count(out, count)
 }
 
-/// Adds a space and the text of a value's form, as `put_value` does, to the end of `out`. The error is want of memory, and a part
-/// may then be added.
+/// Adds a space and the text of a value's form, as `put_value` does, to the end of `out`; it is read back as the value. The error
+/// is want of memory, and a part may then be added.
 pub fn add_value(out: &mut Vec<u8>, value: &Value, names: &Names) -> Result<(), AllocError>
     ensures text { OnOk result (out.new.items ≡ out.old.items ++ 32 ∷ print_of (written names.now (val_of value.now))) }
     ensures bytes { OnOk result (HasBytes (written names.now (val_of value.now))) }
     ensures numbers { OnOk result (NumbersFit (val_of value.now)) }
+    ensures written { AreNames names.now → OnOk result (IsWritten names.now (val_of value.now)) }
 {
     out.push(b' ')?;
     put_value(out, value, names)

@@ -39,18 +39,18 @@ fn add_item(
     forms: &mut Forms,
     records: &Records,
     place: usize,
-    record: &[u8],
+    bytes: &[u8],
 ) -> Result<bool, AllocError>
     requires behind { 0 < place }
-    requires stands { slice_get records.now place ≡ Some record.now }
+    requires stands { slice_get records.now place ≡ Some bytes.now }
     requires so_far { AreFormsTo records.now place forms.old }
     ensures { IfOk result (AddsItem records.now place forms.new) }
 {
-    let is_mark = is_mark(record);
+    let is_mark = is_mark(bytes);
     if is_mark {
         return Ok(true);
     }
-    let form = form_of(alloc, record)?;
+    let form = form_of(alloc, bytes)?;
     match form {
         Some(form) => add_form(forms, form),
         None => Ok(false),
@@ -66,10 +66,10 @@ fn add_form(forms: &mut Forms, form: Form) -> Result<bool, AllocError>
 }
 
 /// The one form of a record; `None` where it has none or several.
-fn form_of(alloc: Global, record: &[u8]) -> Result<Option<Form>, AllocError>
-    ensures { IfOk result (TellsForm record.now) }
+fn form_of(alloc: Global, bytes: &[u8]) -> Result<Option<Form>, AllocError>
+    ensures { IfOk result (TellsForm bytes.now) }
 {
-    match read_forms(alloc, record) {
+    match read_forms(alloc, bytes) {
         Ok(forms) => {
             if forms.len() != 1 {
                 return Ok(None);

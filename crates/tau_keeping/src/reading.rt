@@ -81,13 +81,13 @@ fn first_program(alloc: Global, records: &Records) -> Result<Option<Program>, Al
 }
 
 /// The program whose text a record is; `None` where it is no program's text.
-fn program_of_text(alloc: Global, record: &[u8]) -> Result<Option<Program>, AllocError>
-    ensures { IfOk result (TellsProgram record.now) }
+fn program_of_text(alloc: Global, bytes: &[u8]) -> Result<Option<Program>, AllocError>
+    ensures { IfOk result (TellsProgram bytes.now) }
 {
-    match read_program(alloc, record) {
+    match read_program(alloc, bytes) {
         Ok(program) => {
             let text = program_text(alloc, &program)?;
-            if same_bytes(&text, record) {
+            if same_bytes(&text, bytes) {
                 Ok(Some(program))
             } else {
                 Ok(None)
@@ -185,16 +185,16 @@ fn take_item(
     alloc: Global,
     trace: &mut Trace,
     steps: &Trace,
-    record: &[u8],
+    bytes: &[u8],
 ) -> Result<bool, AllocError>
     requires { trace.old.run ≡ front steps.now.run (len trace.old.run) }
-    ensures { IfOk result (TakesItem steps.now.run trace.old.run record.now trace.new.run) }
+    ensures { IfOk result (TakesItem steps.now.run trace.old.run bytes.now trace.new.run) }
 {
     let place = trace.len();
     let Some(step) = steps.step(place) else {
         return Ok(false);
     };
-    let is_text = is_text_at(alloc, steps, place, record)?;
+    let is_text = is_text_at(alloc, steps, place, bytes)?;
     if !is_text {
         return Ok(false);
     }

@@ -29,20 +29,20 @@ pub(crate) fn is_text_at(
     alloc: Global,
     trace: &Trace,
     place: u32,
-    record: &[u8],
+    bytes: &[u8],
 ) -> Result<bool, AllocError>
     requires { place < len trace.now.run }
-    ensures { IfOk result (λ b. IsTrue b ↔ IsTextAt trace.now.run place record.now) }
+    ensures { IfOk result (λ b. IsTrue b ↔ IsTextAt trace.now.run place bytes.now) }
 {
     let text = text_at(alloc, trace, place)?;
-    Ok(same_bytes(&text, record))
+    Ok(same_bytes(&text, bytes))
 }
 
 /// Whether a record says that the run went on after a stop.
-pub(crate) fn is_mark(record: &[u8]) -> bool
-    ensures { IsTrue result ↔ (record.now ≡ going_on) }
+pub(crate) fn is_mark(bytes: &[u8]) -> bool
+    ensures { IsTrue result ↔ (bytes.now ≡ going_on) }
 {
-    record == b"(resumed)\n".as_slice()
+    bytes == b"(resumed)\n".as_slice()
 }
 
 /// Whether two texts are the same.

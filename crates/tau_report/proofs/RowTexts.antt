@@ -8,18 +8,12 @@ use Rattle.tau_sexpr.specs.Tree.{Tree}
 use Rattle.tau_sexpr.specs.Printing.{printed, HasBytes}
 use Rattle.tau_sexpr.proofs.Literals.{word_literal}
 use Rattle.tau_sexpr.proofs.PrintLemmas.{spells_printed, printed-append}
-use Rattle.tau_value.specs.Names.{AreNames}
-use Rattle.tau_value.specs.Value.{val_of}
-use Rattle.tau_value.specs.Written.{NumbersFit}
-use Rattle.tau_value.specs.declared.shared.Value.{Value}
 use Rattle.tau_value.proofs.NumberLemmas.{digits_are_word_bytes, decimal_digits}
-use Rattle.tau_forms.proofs.ValueTexts as values
 use Rattle.tau_tree.specs.declared.programs.Program.{Program}
 use Rattle.tau_tree.specs.Sound.{Sound}
 use Rattle.tau_trace.specs.declared.opening.Opening.{Opening}
 use Rattle.tau_trace.specs.Run.{Run}
 use Rattle.tau_trace.specs.Known.{WellFormed}
-use Rattle.tau_steps.specs.StepForms.{IsWritten}
 use Rattle.tau_states.specs.declared.state_record.StateRecord.{StateRecord}
 use Rattle.tau_states.specs.Opening.{opening_states}
 use Rattle.tau_report.specs.declared.counts.Counts.{Counts}
@@ -28,12 +22,6 @@ use Rattle.tau_report.specs.Inner.Counted.{IsSurvey}
 use Rattle.tau_report.specs.Inner.Rows.{saved_row, IsRowWritten, counts_tree, PutsRows}
 use Rattle.tau_report.proofs.Counting.{counts_fit}
 use Rattle.tau_report.proofs.SavedRows.{rows_none, rows_more, report_is}
-
--- what is written of a value whose numbers fit their types is read back
-pub is_written : (names : List (List ℕ)) (v : Value) → AreNames names → NumbersFit (val_of v) → IsWritten names v
-is_written names v are fit =
-    let w = values.is_written names (val_of v) are fit in
-    record { read_back = w.read_back; depth = w.depth; words = w.words }
 
 -- no rows
 pub puts_none : (o : Opening) (rs : List StateRecord) (old : List ℕ) → PutsRows o rs 0 old old

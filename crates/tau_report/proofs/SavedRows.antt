@@ -6,6 +6,7 @@ use Rattle.tau_sexpr.specs.Tree.{Tree, depths-append, HasWords}
 use Rattle.tau_value.specs.declared.shared.Value.{Value}
 use Rattle.tau_value.specs.Value.{val_of}
 use Rattle.tau_value.specs.Sizes.{IsInBounds}
+use Rattle.tau_value.specs.Written.{IsWritten}
 use Rattle.tau_value.proofs.WrittenLemmas.{number_nonempty, decimal_filled}
 use Rattle.tau_history.specs.Timeline.{interval}
 use Rattle.tau_tree.specs.declared.programs.Program.{Program}
@@ -15,7 +16,6 @@ use Rattle.tau_trace.specs.Run.{Run, len, starts}
 use Rattle.tau_trace.specs.Numbering.{born}
 use Rattle.tau_trace.specs.Histories.{history, move_at, is_close}
 use Rattle.tau_trace.specs.Known.{WellFormed}
-use Rattle.tau_steps.specs.StepForms.{IsWritten}
 use Rattle.tau_trace.proofs.Counts.{count-le}
 use Rattle.tau_trace.proofs.Counted.{counted}
 use Rattle.tau_trace.proofs.Indexing.{born-le}
@@ -80,7 +80,7 @@ module _ (P : Program) (T : Run) (rs : List StateRecord) (h : Holds T (opening_s
     by : (b : Bool) → is_unlisted r ≡ b → ArePrintable (fs ++ cond b [] (saved_form T.opening t r.interval r.base ∷ []))
     by true u = subst ArePrintable (sym (append-nil fs)) p
     by false u =
-        let is : IsWritten T.opening.names r.base = written u in
+        let is : IsWritten T.opening.names (val_of r.base) = written u in
         let form = saved_form T.opening t r.interval r.base in
         let small = saved_bounded T (opening_states P.starts) w bounded t (saved_value u).0 r.base (saved_value u).3 in
         let words : HasWords (saved_form T.opening t r.interval r.base) = ((λ x. cc), (number_nonempty T.opening.names t w.opening.names (few_transactors T t w (saved_value u).1), (decimal_filled r.interval (omega (arith, few_intervals T t w, (h.each t r (sym e)).interval)), (is.words, tt)))) in

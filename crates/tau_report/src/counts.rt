@@ -1,8 +1,6 @@
 //! Counts of steps.
 ghost use Rattle.std.specs.Prelude.{◌≡◌};
-ghost use Rattle.tau_trace.specs.Steps as steps;
 ghost use Rattle.tau_report.specs.Inner.Counted.{no_counts, counts_after, AreFew};
-ghost use Rattle.tau_report.specs.Report as kinds;
 
 use tau_trace::Step;
 
@@ -36,36 +34,28 @@ impl Counts {
         requires { AreFew self }
         ensures { result ≡ counts_after step.now falls self }
     {
-        Counts {
-            checkpoints: self.checkpoints + u32::from(is_checkpoint(step)),
-            holds: self.holds + u32::from(is_hold(step)),
-            drops: self.drops + u32::from(is_drop(step)),
+        let counts = Counts {
             falls: self.falls + u32::from(falls),
-            losses: self.losses + u32::from(is_lose(step)),
+            ..self
+        };
+        match step {
+            Step::Checkpoint { .. } => Counts {
+                checkpoints: self.checkpoints + 1,
+                ..counts
+            },
+            Step::Hold { .. } => Counts {
+                holds: self.holds + 1,
+                ..counts
+            },
+            Step::Drop { .. } => Counts {
+                drops: self.drops + 1,
+                ..counts
+            },
+            Step::Lose { .. } => Counts {
+                losses: self.losses + 1,
+                ..counts
+            },
+            _ => counts,
         }
     }
-}
-
-fn is_checkpoint(step: &Step) -> bool
-    ensures { result ≡ steps.is_checkpoint step.now }
-{
-    matches!(step, Step::Checkpoint { .. })
-}
-
-fn is_hold(step: &Step) -> bool
-    ensures { result ≡ kinds.is_hold step.now }
-{
-    matches!(step, Step::Hold { .. })
-}
-
-fn is_drop(step: &Step) -> bool
-    ensures { result ≡ kinds.is_drop step.now }
-{
-    matches!(step, Step::Drop { .. })
-}
-
-fn is_lose(step: &Step) -> bool
-    ensures { result ≡ kinds.is_lose step.now }
-{
-    matches!(step, Step::Lose { .. })
 }

@@ -1,10 +1,9 @@
 //! The lines of saved states, put straight behind a text: no form of a saved state is made.
 ghost use Rattle.std.specs.Prelude.{◌≡◌, ◌<◌, ◌^◌, ◌∷◌, ◌++◌, [], length, All, OnOk};
-ghost use Rattle.tau_sexpr.specs.Printing.{print_of, printed, HasBytes};
+ghost use Rattle.tau_sexpr.specs.Printing.{printed, HasBytes};
 ghost use Rattle.tau_value.specs.Names.{AreNames};
 ghost use Rattle.tau_value.specs.Value.{val_of};
-ghost use Rattle.tau_value.specs.Written.{written};
-ghost use Rattle.tau_steps.specs.StepForms.{IsWritten};
+ghost use Rattle.tau_value.specs.Written.{IsWritten};
 ghost use Rattle.tau_report.specs.Inner.Rows as rows;
 ghost use Rattle.tau_report.specs.Inner.Rows.{saved_form, saved_row, IsRowWritten, PutsRows};
 
@@ -12,7 +11,6 @@ use std::alloc::AllocError;
 use tau_forms::{add_count, add_name, add_value};
 use tau_states::StateRecord;
 use tau_trace::Opening;
-use tau_value::{Names, Value};
 
 /// Adds the lines of the saved states of transactors, by number, from their records. The error is want of memory, and a part
 /// of the lines may then be added.
@@ -25,8 +23,8 @@ pub(crate) fn put_rows(
     requires few { length records.now < 2 ^ 32 }
     ensures { OnOk result (PutsRows opening.now records.now (length records.now) out.old.items out.new.items) }
 {
-    for (who, record) in records.iter().enumerate() {
-        put_row(out, opening, who as u32, record)?;
+    for (who, saved) in records.iter().enumerate() {
+        put_row(out, opening, who as u32, saved)?;
     }
     Ok(())
 }
@@ -36,24 +34,24 @@ fn put_row(
     out: &mut Vec<u8>,
     opening: &Opening,
     who: u32,
-    record: &StateRecord,
+    saved: &StateRecord,
 ) -> Result<(), AllocError>
     requires { AreNames opening.now.names }
-    ensures text { OnOk result (out.new.items ≡ out.old.items ++ printed (saved_row opening.now who record.now)) }
-    ensures bytes { OnOk result (All HasBytes (saved_row opening.now who record.now)) }
-    ensures written { OnOk result (IsRowWritten opening.now record.now) }
+    ensures text { OnOk result (out.new.items ≡ out.old.items ++ printed (saved_row opening.now who saved.now)) }
+    ensures bytes { OnOk result (All HasBytes (saved_row opening.now who saved.now)) }
+    ensures written { OnOk result (IsRowWritten opening.now saved.now) }
 {
-    if is_unlisted(record) {
+    if is_unlisted(saved) {
         return Ok(());
     }
-    put_saved(out, opening, who, record)
+    put_saved(out, opening, who, saved)
 }
 
 /// Whether a transactor has ended or is at interval 0.
-fn is_unlisted(record: &StateRecord) -> bool
-    ensures { result ≡ rows.is_unlisted record.now }
+fn is_unlisted(saved: &StateRecord) -> bool
+    ensures { result ≡ rows.is_unlisted saved.now }
 {
-    record.ended || record.interval == 0
+    saved.ended || saved.interval == 0
 }
 
 /// Adds the line of a transactor's saved state.
@@ -62,26 +60,16 @@ fn put_saved(
     out: &mut Vec<u8>,
     opening: &Opening,
     who: u32,
-    record: &StateRecord,
+    saved: &StateRecord,
 ) -> Result<(), AllocError>
     requires { AreNames opening.now.names }
-    ensures text { OnOk result (out.new.items ≡ out.old.items ++ printed (saved_form opening.now who record.now.interval record.now.base ∷ [])) }
-    ensures bytes { OnOk result (HasBytes (saved_form opening.now who record.now.interval record.now.base)) }
-    ensures written { OnOk result (IsWritten opening.now.names record.now.base) }
+    ensures text { OnOk result (out.new.items ≡ out.old.items ++ printed (saved_form opening.now who saved.now.interval saved.now.base ∷ [])) }
+    ensures bytes { OnOk result (HasBytes (saved_form opening.now who saved.now.interval saved.now.base)) }
+    ensures written { OnOk result (IsWritten opening.now.names (val_of saved.now.base)) }
 {
     out.extend_from_slice(b"(saved")?;
     add_name(out, &opening.names, who)?;
-    add_count(out, record.interval)?;
-    add_written(out, &opening.names, &record.base)?;
+    add_count(out, saved.interval)?;
+    add_value(out, &saved.base, &opening.names)?;
     out.extend_from_slice(b")\n")
-}
-
-/// Adds a space and a value, which is read back as it is.
-fn add_written(out: &mut Vec<u8>, names: &Names, value: &Value) -> Result<(), AllocError>
-    requires { AreNames names.now }
-    ensures text { OnOk result (out.new.items ≡ out.old.items ++ 32 ∷ print_of (written names.now (val_of value.now))) }
-    ensures bytes { OnOk result (HasBytes (written names.now (val_of value.now))) }
-    ensures value { OnOk result (IsWritten names.now value.now) }
-{
-    add_value(out, value, names)
 }

@@ -59,7 +59,7 @@ pub answer_spelled : (r : Result (List Tree) FormError) (bs : List ℕ) → Give
 answer_spelled (Ok ts) bs h = read_spells bs ts h
 answer_spelled (Err e) bs h = tt
 
-tells : (e : FormError) (r : Result (List Tree) FormError) → TellsFormFault e r → e ≢ NoMemory → r ≡ Err e
+pub tells : (e : FormError) (r : Result (List Tree) FormError) → TellsFormFault e r → e ≢ NoMemory → r ≡ Err e
 tells (BadByte p) r h ne = h
 tells (Unopened p) r h ne = h
 tells (Unclosed p) r h ne = h

@@ -5,6 +5,7 @@ pub mod RunLemmas
 pub mod SoundLemmas
 pub mod FaultLemmas
 pub mod LawLemmas
+pub mod FrontLemmas
 pub mod ScanLemmas
 pub mod PlaceLemmas
 pub mod PrintLemmas

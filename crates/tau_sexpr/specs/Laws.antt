@@ -1,8 +1,9 @@
 -- What holds of all bytes: they spell at most one list of forms, and none exactly where they have a fault.
-use Rattle.std.specs.Prelude.{◌≡◌, ◌⊎◌, ℕ, List}
+use Rattle.std.specs.Prelude.{◌≡◌, ◌⊎◌, ℕ, List, [], length, Ok}
 use Rattle.tau_sexpr.specs.Tree.{Tree}
 use Rattle.tau_sexpr.specs.Spelling.{IsSpelling}
 use Rattle.tau_sexpr.specs.Faults.{IsFault, IsFirstFault}
+use Rattle.tau_sexpr.specs.Rest.{IsReading, forms_from}
 use Rattle.tau_sexpr.specs.declared.faults.FormError.{FormError}
 
 -- no other forms are spelled by the same bytes
@@ -20,3 +21,11 @@ HasFormsOrFault bs = ((ts : List Tree) × IsSpelling bs ts) ⊎ ((e : FormError)
 -- bytes have one first fault
 abbrev pub FailsOnce : List ℕ → Type 0
 FailsOnce bs = (e f : FormError) → IsFirstFault bs e → IsFirstFault bs f → e ≡ f
+
+-- from the start on bytes give all their forms, or their first fault
+abbrev pub ReadsFromStart : List ℕ → Type 0
+ReadsFromStart bs = IsReading bs (forms_from bs 0)
+
+-- from the end on they give no forms
+abbrev pub ReadsNothingBehind : List ℕ → Type 0
+ReadsNothingBehind bs = forms_from bs (length bs) ≡ Ok []

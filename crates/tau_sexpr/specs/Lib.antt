@@ -6,5 +6,6 @@ pub mod Kinds
 pub mod Spelling
 pub mod Faults
 pub mod Printing
+pub mod Rest
 pub mod Laws
 pub mod Inner

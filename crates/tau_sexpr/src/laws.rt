@@ -1,5 +1,5 @@
 //! Laws of spelling. The calls do nothing: what they ensure holds of all bytes.
-ghost use Rattle.tau_sexpr.specs.Laws.{SpellsOnce, SpellsWithoutFault, HasFormsOrFault, FailsOnce};
+ghost use Rattle.tau_sexpr.specs.Laws.{SpellsOnce, SpellsWithoutFault, HasFormsOrFault, FailsOnce, ReadsFromStart, ReadsNothingBehind};
 
 /// Bytes spell one list of forms at most, and what has forms has no fault (docs/formats.md, "Texts and forms").
 pub fn spelling_is_unique(_bytes: &[u8])
@@ -11,4 +11,11 @@ pub fn spelling_is_unique(_bytes: &[u8])
 pub fn forms_or_first_fault(_bytes: &[u8])
     ensures either { HasFormsOrFault _bytes.now }
     ensures one_fault { FailsOnce _bytes.now }
+{}
+
+/// Bytes give their forms from the start on, or their first fault there, and nothing from the end on (docs/formats.md, "Texts
+/// and forms").
+pub fn reading_goes_on(_bytes: &[u8])
+    ensures start { ReadsFromStart _bytes.now }
+    ensures end { ReadsNothingBehind _bytes.now }
 {}

@@ -28,7 +28,7 @@ pub fn print_forms(alloc: Global, forms: &Forms) -> Result<Vec<u8>, AllocError>
 
 /// Prints forms behind a text, as `print_forms` prints them. What is added is read back as the same forms.
 /// Without memory the text stays as it was.
-pub fn put_forms(out: &mut Vec<u8>, forms: &Forms) -> Result<(), AllocError>
+fn put_forms(out: &mut Vec<u8>, forms: &Forms) -> Result<(), AllocError>
     requires depth { depths forms.now ≤ 200 }
     requires words { All HasWords forms.now }
 

@@ -1,5 +1,5 @@
 //! Reading forms.
-ghost use Rattle.std.specs.Prelude.{◌≡◌, ◌≢◌, ◌+◌, ◌<◌, ◌≤◌, ◌⊎◌, ℕ, List, [], length, drop, slice_range, slice_index, IsTrue, Result, Ok, Err, IfOk, IfErr, OnOk, All, IfSome, IfNone, ◌∷◌, ◌++◌};
+ghost use Rattle.std.specs.Prelude.{◌≡◌, ◌≢◌, ◌+◌, ◌<◌, ◌≤◌, ◌⊎◌, ℕ, List, [], length, drop, slice_range, slice_index, IsTrue, Result, Ok, Err, IfOk, IfErr, OnOk, All, IfSome, IfNone, ◌∷◌, ◌++◌, true, false};
 ghost use Rattle.tau_sexpr.specs.Bytes.{IsWordByte, IsTextByte};
 ghost use Rattle.tau_sexpr.specs.Kinds.{is_plain, kind_of};
 ghost use Rattle.tau_sexpr.specs.Spelling.{EndsWord, EndsLine, EndsPlain, IsSpelling, IsUnlessNoMemory};
@@ -7,6 +7,7 @@ ghost use Rattle.tau_sexpr.specs.Faults.{IsFirstFault};
 ghost use Rattle.tau_sexpr.specs.declared.faults.FormError.{FormError};
 ghost use Rattle.tau_sexpr.specs.Tree.{Tree, word, text, depths, HasWords};
 ghost use Rattle.tau_sexpr.specs.Form.{tree_of};
+ghost use Rattle.tau_sexpr.specs.Rest.{forms_from, behind};
 ghost use Rattle.tau_sexpr.specs.Inner.Reader.{Stack, stack, stack_of, with_form, step_outside, ended, reading, read_all, outside, in_text, in_pair, IsPairRest, IsPair, IsClosing, ArePlain, IsText, IsWord, Steps, TellsFormFault, Gives};
 
 use crate::bytes::{ByteKind, is_plain as is_plain_byte, is_word_byte, kind, meaning};
@@ -33,11 +34,35 @@ pub fn read_forms(alloc: Global, bytes: &[u8]) -> Result<Forms, FormError>
     read_whole(alloc, bytes)
 }
 
+/// Reads some forms of a text, given by its bytes, from a place on, and gives the place behind them (docs/formats.md, "Texts
+/// and forms"): all forms up to the end, or those of at least 16 KiB up to a place outside of lists. So a text that is read
+/// from its start, each time from the place that came last, gives its forms in order, and takes memory for some of them at a
+/// time; a form at the top is never cut.
+///
+/// The error is the first fault from that place on, with its place counted from the start of the text, or want of memory.
+pub fn read_some(alloc: Global, bytes: &[u8], start: usize) -> Result<(Forms, usize), FormError>
+    requires { start ≤ length bytes.now }
+    ensures read { IfOk result (λ r. forms_from bytes.now start ≡ behind r.0 (forms_from bytes.now r.1)) }
+    ensures within { IfOk result (λ r. r.1 ≤ length bytes.now) }
+    ensures moves { IfOk result (λ r. start < length bytes.now → start < r.1) }
+    ensures fault { IfErr result (λ e. e ≢ FormError.NoMemory → forms_from bytes.now start ≡ Err e) }
+{
+    let mut held = OpenLists::new(alloc);
+    let mut at = start;
+    while at < bytes.len() && held.takes_more(at - start) {
+        at = read_token(alloc, &mut held, bytes, at)?;
+    }
+    Ok((held.finish(at)?, at))
+}
+
 /// How many lists may be open.
 const DEPTH: usize = 200;
 
 /// How many forms a list has at most that is copied when it is closed, so that a later one uses its room.
 const COPIED: usize = 32;
+
+/// How many bytes a call of `read_some` reads at least, where there are so many: 16 KiB.
+const PIECE: usize = 16_384;
 
 /// The lists that are open, outermost first, and the forms of the innermost one, or of the text where none is open.
 #[derive(Drop)]
@@ -121,6 +146,14 @@ impl OpenLists {
             }
             None => Err(FormError::Unopened { at: at as u64 }),
         }
+    }
+
+    /// Whether a piece of a text goes on that has so many bytes: where they are too few, and where a list is open.
+    fn takes_more(&self, len: usize) -> bool
+        ensures some { len ≡ 0 → result ≡ true }
+        ensures closed { result ≡ false → (stack_of self.now).lists ≡ [] }
+    {
+        len < PIECE || !self.outer.is_empty()
     }
 
     /// The end of the text, at its length.

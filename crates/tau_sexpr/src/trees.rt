@@ -175,13 +175,6 @@ impl Forms {
         &self.items
     }
 
-    /// The forms of the list, which is given up.
-    pub fn into_items(self) -> Vec<Form>
-        ensures { map tree_of result.items ≡ self }
-    {
-        self.items
-    }
-
     /// An equal list. The error is want of memory.
     #[cycle(copy)]
     pub fn copy(&self) -> Result<Forms, AllocError>

@@ -11,7 +11,7 @@ use Rattle.tau_value.specs.Value.{val_of}
 use Rattle.tau_value.specs.Names.{AreNames, place_of}
 use Rattle.tau_value.specs.Sizes.{IsInBounds}
 use Rattle.tau_value.specs.Meaning.{number_named, counted}
-use Rattle.tau_value.specs.Written.{name_written, count_form}
+use Rattle.tau_value.specs.Written.{name_written, count_form, IsWritten}
 use Rattle.tau_value.specs.declared.shared.Value.{Value}
 use Rattle.tau_value.proofs.NameLemmas.{place_of-at}
 use Rattle.tau_value.proofs.NumberLemmas.{count_in-decimal}
@@ -23,7 +23,7 @@ use Rattle.tau_trace.specs.declared.step.Step.TheVariants.{Take, Drop, Fall, Voi
 use Rattle.tau_trace.specs.Run.{Run, len, step_at}
 use Rattle.tau_trace.specs.Numbering.{born, sent, number_made}
 use Rattle.tau_trace.specs.Known.{IsSound, IsKnown, IsKnownValue, IsInVersion, WellFormed}
-use Rattle.tau_steps.specs.StepForms.{who_form, truth_form, value_form, item_forms, step_form, step_form_at, IsWritten, ValueIsWritten, IsWrittenAt}
+use Rattle.tau_steps.specs.StepForms.{who_form, truth_form, value_form, item_forms, step_form, step_form_at, ValueIsWritten, IsWrittenAt}
 use Rattle.tau_trace.proofs.Indexing.{born-le, sent-le}
 use Rattle.tau_trace.proofs.Lists.{same_some}
 use Rattle.tau_trace.proofs.Reading.{element}
@@ -80,7 +80,7 @@ module _ (o : Opening) (b m : ℕ) (sound : IsSound o) (fb : b < 2 ^ 32) (fm : m
   message_is x l = (count_means x (omega arith), l)
 
   -- the form of a value
-  value_is : (v : Value) → IsKnownValue b v → IsWritten o.names v → MeansItem o b m (item.value (val_of v)) (value_form o v)
+  value_is : (v : Value) → IsKnownValue b v → IsWritten o.names (val_of v) → MeansItem o b m (item.value (val_of v)) (value_form o v)
   value_is v known is = is.read_back b known.in_bounds known.names
 
   -- each kind of step in turn

@@ -11,9 +11,10 @@ use Rattle.tau_value.specs.Val as val
 use Rattle.tau_value.specs.Val.{Val}
 use Rattle.tau_value.specs.Names.{AreNames}
 use Rattle.tau_value.specs.Numbers.{count_in}
+use Rattle.tau_value.specs.Value.{val_of}
 use Rattle.tau_value.specs.Sizes.{IsInBounds}
 use Rattle.tau_value.specs.Meaning.{counted, named}
-use Rattle.tau_value.specs.Written.{name_written, count_form}
+use Rattle.tau_value.specs.Written.{name_written, count_form, IsWritten}
 use Rattle.tau_value.specs.declared.shared.Value.{Value}
 use Rattle.tau_value.proofs.NumberLemmas.{count_in-decimal}
 use Rattle.tau_value.proofs.WrittenLemmas.{reads_back, number_nonempty, decimal_filled}
@@ -24,7 +25,7 @@ use Rattle.tau_trace.specs.declared.step.Step.TheVariants.{Take, Drop, Fall, Voi
 use Rattle.tau_trace.specs.Run.{Run, step_at}
 use Rattle.tau_trace.specs.Numbering.{born, sent, number_made}
 use Rattle.tau_trace.specs.Known.{IsSound, IsKnown, IsKnownValue, WellFormed}
-use Rattle.tau_steps.specs.StepForms.{kind_word, who_form, truth_form, value_form, item_forms, step_form, step_form_at, IsWritten, ValueIsWritten, IsWrittenAt}
+use Rattle.tau_steps.specs.StepForms.{kind_word, who_form, truth_form, value_form, item_forms, step_form, step_form_at, ValueIsWritten, IsWrittenAt}
 use Rattle.tau_trace.proofs.Agreement.{born-same}
 use Rattle.tau_trace.proofs.Indexing.{born-le, sent-le}
 use Rattle.tau_trace.proofs.Lists.{same_some}
@@ -102,7 +103,7 @@ unfolding truth_in word_in
 truth_back true = refl
 truth_back false = refl
 
-value_back : (o : Opening) (bound : ℕ) (v : Value) → IsKnownValue bound v → IsWritten o.names v → value_in o bound (value_form o v) ≡ v
+value_back : (o : Opening) (bound : ℕ) (v : Value) → IsKnownValue bound v → IsWritten o.names (val_of v) → value_in o bound (value_form o v) ≡ v
 unfolding value_in
 value_back o bound v known is = ap value_at (is.read_back bound known.in_bounds known.names).value ∙ value_at-val_of v
 
@@ -214,7 +215,7 @@ step_form-words o b m made s sound fb fm fn h w = (kind_nonempty s, items s h w)
   items (Heed t x) h w = (who t h.0, (decimal_filled x (omega (arith, h.1)), tt))
   items (Repeat x) h w = (decimal_filled made (omega arith), (decimal_filled x (omega (arith, h)), tt))
 
-value_depth : (o : Opening) (b : ℕ) (v : Value) → IsKnownValue b v → IsWritten o.names v → depth_of (value_form o v) ≤ 64
+value_depth : (o : Opening) (b : ℕ) (v : Value) → IsKnownValue b v → IsWritten o.names (val_of v) → depth_of (value_form o v) ≤ 64
 value_depth o b v known is = omega (arith, is.depth, known.in_bounds.1)
 
 pub step_form-depth : (o : Opening) (b m made : ℕ) (s : Step) → IsKnown o b m s → ValueIsWritten o s → depth_of (step_form o made s) ≤ 65

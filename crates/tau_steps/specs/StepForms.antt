@@ -1,10 +1,9 @@
 -- The forms that steps are written as (docs/formats.md, "Steps").
 use Rattle.std.specs.Prelude.{◌≡◌, ℕ, Bool, List, [], ◌∷◌, Option, Some, option_map, codes, if◌then◌else◌}
-use Rattle.tau_sexpr.specs.Tree.{Tree, word, list, inside, depth_of, HasWords}
-use Rattle.tau_value.specs.Sizes.{levels_of}
+use Rattle.tau_sexpr.specs.Tree.{Tree, word, list, inside}
 use Rattle.tau_value.specs.declared.shared.Value.{Value}
 use Rattle.tau_value.specs.Value.{val_of}
-use Rattle.tau_value.specs.Written.{name_written, written, ReadsBack, count_form}
+use Rattle.tau_value.specs.Written.{name_written, written, count_form, IsWritten}
 use Rattle.tau_trace.specs.declared.opening.Opening.{Opening}
 use Rattle.tau_trace.specs.declared.step.Step.{Step}
 use Rattle.tau_trace.specs.declared.step.Step.TheVariants.{Take, Drop, Fall, Void, Get, Set, Skip, Send, New, Stabilize, Ask, Checkpoint, Hold, Rollback, Stay, Done, Trap, Fail, Lose, Echo, Heed, Repeat}
@@ -82,17 +81,11 @@ step_form o made s = list (inside (word (kind_word s) ∷ item_forms o made s))
 abbrev pub step_form_at : Run → ℕ → Option Tree
 step_form_at T k = option_map (λ s. step_form T.opening (number_made s (born T k) (sent T k)) s) (step_at T k)
 
--- what holds of the form of a value: it is read back as the value, as deep as the value has levels, and of words
-pub record IsWritten (names : List (List ℕ)) (v : Value) : Type 0 where
-  pub read_back : ReadsBack names (val_of v) (written names (val_of v))
-  pub depth : depth_of (written names (val_of v)) ≡ levels_of (val_of v)
-  pub words : HasWords (written names (val_of v))
-
--- the same for the value of a step, if it has one
+-- the value of a step, if it has one, has a form that is read back
 abbrev pub ValueIsWritten : Opening → Step → Type 0
-ValueIsWritten o (Set t v) = IsWritten o.names v
-ValueIsWritten o (Send t u v) = IsWritten o.names v
-ValueIsWritten o (New t b n v) = IsWritten o.names v
+ValueIsWritten o (Set t v) = IsWritten o.names (val_of v)
+ValueIsWritten o (Send t u v) = IsWritten o.names (val_of v)
+ValueIsWritten o (New t b n v) = IsWritten o.names (val_of v)
 ValueIsWritten o s = Unit {0}
 
 -- and for the step at place k

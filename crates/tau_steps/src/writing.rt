@@ -5,10 +5,10 @@ ghost use Rattle.tau_sexpr.specs.Form.{tree_of};
 ghost use Rattle.tau_sexpr.specs.Tree as tree;
 ghost use Rattle.tau_sexpr.specs.Tree.{depth_of, HasWords};
 ghost use Rattle.tau_value.specs.Names.{AreNames};
-ghost use Rattle.tau_value.specs.Written.{name_written, written, count_form};
+ghost use Rattle.tau_value.specs.Written.{name_written, written, count_form, IsWritten};
 ghost use Rattle.tau_value.specs.Value.{val_of};
 ghost use Rattle.tau_trace.specs.Run.{len};
-ghost use Rattle.tau_steps.specs.StepForms.{kind_word, truth_form, item_forms, step_form, step_form_at, IsWritten, ValueIsWritten, IsWrittenAt};
+ghost use Rattle.tau_steps.specs.StepForms.{kind_word, truth_form, item_forms, step_form, step_form_at, ValueIsWritten, IsWrittenAt};
 
 use std::alloc::{AllocError, Global};
 use tau_sexpr::{Form, Forms, Word};
@@ -190,7 +190,7 @@ fn add_value(
 ) -> Result<(), AllocError>
     requires { AreNames names.now }
     ensures item { OnOk result (forms.new ≡ forms.old ++ written names.now (val_of value.now) ∷ []) }
-    ensures value { OnOk result (IsWritten names.now value.now) }
+    ensures value { OnOk result (IsWritten names.now (val_of value.now)) }
 {
     forms.add(form_of(alloc, value, names)?)
 }

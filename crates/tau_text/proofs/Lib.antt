@@ -10,3 +10,4 @@ pub mod Writing
 pub mod StepTexts
 pub mod LineLemmas
 pub mod PartialLemmas
+pub mod SurveyLemmas

@@ -1,3 +1,4 @@
 -- What contracts of inner functions say; no clause of a public call rests on these.
 pub mod Written
 pub mod Partial
+pub mod Surveyed

@@ -9,6 +9,7 @@ mod laws;
 mod marks;
 mod parts;
 mod printing;
+mod programs;
 mod reading;
 mod steps;
 

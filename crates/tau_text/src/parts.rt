@@ -15,7 +15,7 @@ ghost use Rattle.tau_text.specs.Parts.{program_forms, step_forms};
 use crate::marks::place_of_mark;
 use crate::{InputError, InputFault};
 use std::alloc::Global;
-use tau_forms::{program_from, program_of};
+use tau_forms::program_of;
 use tau_script::opening_of;
 use tau_sexpr::{Form, Forms};
 use tau_steps::steps_of;
@@ -27,16 +27,6 @@ use tau_tree::Program;
 pub struct RunText {
     pub program: Program,
     pub trace: Trace,
-}
-
-/// The program that all forms mean.
-pub(crate) fn whole_program(alloc: Global, forms: Forms) -> Result<Program, InputError>
-    requires { depths forms ≤ 200 }
-    ensures program { IfOk result (Means forms) }
-    ensures sound { IfOk result Sound }
-    ensures fault { IfErr result (TellsInputFault (ProgramFault forms)) }
-{
-    Ok(program_from(alloc, forms)?)
 }
 
 /// The program that forms mean.
@@ -61,21 +51,6 @@ pub(crate) fn marked_text(alloc: Global, forms: &Forms) -> Result<RunText, Input
         return Err(InputFault::NoTrace.at(mark as u64));
     }
     read_parts(alloc, forms, mark)
-}
-
-/// The program of forms with or without `(trace)`.
-pub(crate) fn printed_program(alloc: Global, forms: Forms) -> Result<Program, InputError>
-    requires { depths forms ≤ 200 }
-    ensures means { IfOk result (λ p. (T : Run) × MeansRun forms p T) }
-    ensures sound { IfOk result Sound }
-    ensures fault { IfErr result (TellsInputFault (PartsFault forms)) }
-{
-    let mark = place_of_mark(forms.items(), b"trace");
-    if mark == forms.len() {
-        return whole_program(alloc, forms);
-    }
-    let text = read_parts(alloc, &forms, mark)?;
-    Ok(text.program)
 }
 
 /// The program and the trace of forms, of which so many stand before `(trace)`.

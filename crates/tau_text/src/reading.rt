@@ -7,9 +7,11 @@ ghost use Rattle.tau_script.specs.Openings.{program_opening};
 ghost use Rattle.tau_text.specs.Errors.{TellsInputFault};
 ghost use Rattle.tau_text.specs.Faults.{IsProgramFault, IsRunFault, IsPrintFault};
 ghost use Rattle.tau_text.specs.Meaning.{IsProgram, IsRunInput, IsPrintInput};
+ghost use Rattle.tau_text.specs.Inner.Surveyed.{IsMarkedText};
 
 use crate::by_parts::read_by_parts;
-use crate::parts::{marked_text, printed_program, whole_program};
+use crate::parts::marked_text;
+use crate::programs::{program_built, survey_of};
 use crate::{InputError, RunText};
 use std::alloc::Global;
 use tau_sexpr::read_forms;
@@ -18,8 +20,8 @@ use tau_tree::Program;
 /// The program that all the forms of an input mean (docs/formats.md, "Programs"), as `run` takes it. It is sound.
 /// `Fault` comes exactly where they mean none, with the first of the faults 1 to 9 in the order of docs/formats.md,
 /// "Input faults".
-/// Each form is dropped once what it defines stands in the program, so that a large text takes memory for the greater of the
-/// two, and not for both.
+/// The forms are read twice, some at a time, so that beside the program those of 16 KiB of the text, or of one form at the top,
+/// take memory.
 pub fn read_program(alloc: Global, bytes: &[u8]) -> Result<Program, InputError>
     ensures program { IfOk result (IsProgram bytes.now) }
     ensures sound { IfOk result Sound }
@@ -29,8 +31,8 @@ pub fn read_program(alloc: Global, bytes: &[u8]) -> Result<Program, InputError>
     ensures faulty { (fault at : ℕ) → IsProgramFault bytes.now fault at
         → (result ≡ Err (InputError.Fault fault at)) ⊎ (result ≡ Err InputError.NoMemory) }
 {
-    let forms = read_forms(alloc, bytes)?;
-    whole_program(alloc, forms)
+    let survey = survey_of(alloc, bytes)?;
+    program_built(alloc, bytes, survey.outline)
 }
 
 /// The program and the trace that the forms of an input mean (docs/formats.md, "Run text"), as `check`, `audit` and `report`
@@ -75,6 +77,21 @@ pub fn read_printed(alloc: Global, bytes: &[u8]) -> Result<Program, InputError>
     if let Some(text) = read_by_parts(alloc, bytes)? {
         return Ok(text.program);
     }
+    let survey = survey_of(alloc, bytes)?;
+    if survey.marked {
+        return marked_program(alloc, bytes);
+    }
+    program_built(alloc, bytes, survey.outline)
+}
+
+/// The program of an input with `(trace)` among its forms, as `print` takes it, which is read as a whole.
+fn marked_program(alloc: Global, bytes: &[u8]) -> Result<Program, InputError>
+    requires { IsMarkedText bytes.now }
+    ensures program { IfOk result (IsPrintInput bytes.now) }
+    ensures sound { IfOk result Sound }
+    ensures fault { IfErr result (TellsInputFault (IsPrintFault bytes.now)) }
+{
     let forms = read_forms(alloc, bytes)?;
-    printed_program(alloc, forms)
+    let text = marked_text(alloc, &forms)?;
+    Ok(text.program)
 }

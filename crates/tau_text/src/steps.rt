@@ -3,17 +3,14 @@ ghost use Rattle.std.specs.Prelude.{◌≡◌, ◌<◌, ◌∷◌, ◌++◌, [],
 ghost use Rattle.tau_sexpr.specs.Printing.{print_of, print_rest, printed, HasBytes, AllHaveBytes};
 ghost use Rattle.tau_sexpr.specs.Tree as tree;
 ghost use Rattle.tau_value.specs.Names.{AreNames};
-ghost use Rattle.tau_value.specs.Value.{val_of};
-ghost use Rattle.tau_value.specs.Written.{written};
 ghost use Rattle.tau_trace.specs.Run.{len};
-ghost use Rattle.tau_steps.specs.StepForms.{truth_form, item_forms, step_form, IsWritten, ValueIsWritten};
+ghost use Rattle.tau_steps.specs.StepForms.{truth_form, item_forms, step_form, ValueIsWritten};
 ghost use Rattle.tau_text.specs.Inner.Written.{AddsStep};
 
 use std::alloc::AllocError;
 use tau_forms::{add_count, add_name, add_value, put_truth};
 use tau_steps::word_of;
 use tau_trace::{Opening, Step, Trace};
-use tau_value::{Names, Value};
 
 /// Adds the text of the form of the step at a place (docs/formats.md, "Steps") and a line feed, in time for the step's own
 /// size. What is added is read back as this form, and its value, if it has one, as the step's. It takes memory for the text
@@ -61,13 +58,13 @@ fn add_items(out: &mut Vec<u8>, opening: &Opening, made: u32, step: &Step) -> Re
         }
         Step::Set { who, value } => {
             add_name(out, &opening.names, *who)?;
-            add_written(out, &opening.names, value)
+            add_value(out, value, &opening.names)
         }
         Step::Send { who, to, value } => {
             add_name(out, &opening.names, *who)?;
             add_count(out, made)?;
             add_name(out, &opening.names, *to)?;
-            add_written(out, &opening.names, value)
+            add_value(out, value, &opening.names)
         }
         Step::New {
             who,
@@ -79,7 +76,7 @@ fn add_items(out: &mut Vec<u8>, opening: &Opening, made: u32, step: &Step) -> Re
             add_count(out, made)?;
             add_name(out, &opening.behaviours, *behaviour)?;
             add_count(out, *node)?;
-            add_written(out, &opening.names, state)
+            add_value(out, state, &opening.names)
         }
         Step::Ask { who, answer } => {
             add_name(out, &opening.names, *who)?;
@@ -118,14 +115,4 @@ fn add_truth(out: &mut Vec<u8>, truth: bool) -> Result<(), AllocError>
 {
     out.push(b' ')?;
     put_truth(out, truth)
-}
-
-/// Adds a space and a value, which is read back as it is.
-fn add_written(out: &mut Vec<u8>, names: &Names, value: &Value) -> Result<(), AllocError>
-    requires { AreNames names.now }
-    ensures text { OnOk result (out.new.items ≡ out.old.items ++ 32 ∷ print_of (written names.now (val_of value.now))) }
-    ensures bytes { OnOk result (HasBytes (written names.now (val_of value.now))) }
-    ensures value { OnOk result (IsWritten names.now value.now) }
-{
-    add_value(out, value, names)
 }

@@ -1,11 +1,11 @@
 -- The form that a value is written as.
 use Rattle.std.specs.Prelude.{◌≡◌, ℕ, ◌^◌, ◌<◌, List, Some, codes, unwrap_or, slice_get, if◌then◌else◌}
 use Rattle.std.specs.Fmt.{decimal, signed_decimal}
-use Rattle.tau_sexpr.specs.Tree.{Tree, Trees, word, text, list, none, more}
+use Rattle.tau_sexpr.specs.Tree.{Tree, Trees, word, text, list, none, more, depth_of, HasWords}
 use Rattle.tau_value.specs.Val as val
 use Rattle.tau_value.specs.Val.{Val, Vals}
 use Rattle.tau_value.specs.Numbers.{in_i64}
-use Rattle.tau_value.specs.Sizes.{IsInBounds, NamesBelow}
+use Rattle.tau_value.specs.Sizes.{IsInBounds, NamesBelow, levels_of}
 use Rattle.tau_value.specs.Meaning.{name_word, list_word, Means}
 
 -- the word for the name of transactor n: the start's name, or the number where n is no start
@@ -43,6 +43,12 @@ abbrev mutual
 -- a form is read back as a value that is in bounds, under any bound that its names are below
 abbrev pub ReadsBack : List (List ℕ) → Val → Tree → Type 0
 ReadsBack names v t = (bound : ℕ) → IsInBounds v → NamesBelow bound v → Means names bound t v
+
+-- the form that is written of a value is read back as the value, has words, and is as deep as the value has levels
+pub record IsWritten (names : List (List ℕ)) (v : Val) : Type 0 where
+  pub read_back : ReadsBack names v (written names v)
+  pub depth : depth_of (written names v) ≡ levels_of v
+  pub words : HasWords (written names v)
 
 -- the form of a number
 abbrev pub count_form : ℕ → Tree

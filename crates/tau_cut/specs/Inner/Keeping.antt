@@ -4,7 +4,7 @@ use Rattle.tau_sexpr.specs.Tree.{Tree, word, depths, HasWords, headed}
 use Rattle.tau_value.specs.declared.shared.Value.{Value}
 use Rattle.tau_value.specs.Value.{val_of}
 use Rattle.tau_value.specs.Sizes.{IsInBounds}
-use Rattle.tau_value.specs.Written.{count_form}
+use Rattle.tau_value.specs.Written.{count_form, IsWritten}
 use Rattle.tau_tree.specs.declared.programs.Program.{Program}
 use Rattle.tau_trace.specs.declared.opening.Opening.{Opening}
 use Rattle.tau_trace.specs.declared.step.Step.{Step}
@@ -14,7 +14,7 @@ use Rattle.tau_trace.specs.Numbering.{born}
 use Rattle.tau_trace.specs.Histories.{Closes}
 use Rattle.tau_trace.specs.Points.{point_at}
 use Rattle.tau_trace.specs.Known.{WellFormed}
-use Rattle.tau_steps.specs.StepForms.{who_form, value_form, IsWritten}
+use Rattle.tau_steps.specs.StepForms.{who_form, value_form}
 use Rattle.tau_past.specs.States.{SavedWith}
 use Rattle.tau_states.specs.declared.state_record.StateRecord.{StateRecord}
 use Rattle.tau_states.specs.Opening.{opening_states}
@@ -89,7 +89,7 @@ state_row o t (Some kept) = state_form o t kept ∷ []
 -- the value, if there is one, is read back as it is
 abbrev pub IsRowWritten : Opening → Option Kept → Type 0
 IsRowWritten o None = Unit {0}
-IsRowWritten o (Some kept) = IsWritten o.names kept.value
+IsRowWritten o (Some kept) = IsWritten o.names (val_of kept.value)
 
 -- its interval, if anything is kept, fits u32
 abbrev pub IsRowSmall : Option Kept → Type 0

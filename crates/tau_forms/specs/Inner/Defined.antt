@@ -1,5 +1,5 @@
 -- What the forms at the top up to a place define, as the reader keeps it.
-use Rattle.std.specs.Prelude.{◌≡◌, ℕ, ◌^◌, List, Option, Some, None, if◌then◌else◌}
+use Rattle.std.specs.Prelude.{◌≡◌, ℕ, List, Option, Some, None, if◌then◌else◌}
 use Rattle.std.specs.List.{list_any}
 use Rattle.tau_sexpr.specs.Tree.{Tree, Trees, word, none, more}
 use Rattle.tau_value.specs.Numbers.{count_in}

@@ -1,11 +1,8 @@
 -- What is known of a program's numbers and values where it is printed.
-use Rattle.std.specs.Prelude.{◌≡◌, ℕ, ◌^◌, ◌<◌, List, Some, All}
-use Rattle.tau_sexpr.specs.Tree.{depth_of, HasWords}
+use Rattle.std.specs.Prelude.{◌≡◌, ◌^◌, ◌<◌, Some, All}
 use Rattle.tau_value.specs.Numbers.{in_i64}
-use Rattle.tau_value.specs.Sizes.{levels_of}
-use Rattle.tau_value.specs.Val.{Val}
 use Rattle.tau_value.specs.Value.{val_of}
-use Rattle.tau_value.specs.Written.{written, ReadsBack}
+use Rattle.tau_value.specs.Written.{IsWritten}
 use Rattle.tau_tree.specs.Code.{Code, int}
 use Rattle.tau_tree.specs.Parts.{Throughout}
 use Rattle.tau_tree.specs.Sound.{start_names, bodies}
@@ -28,12 +25,6 @@ HasFittingMessage (Repeat message) = message < 2 ^ 32
 pub record HasFittingNumbers (e : Entry) : Type 0 where
   pub place : e.at < 2 ^ 32
   pub message : HasFittingMessage e.failure
-
--- the form that is written of a value is read back, has words, and is as deep as the value
-pub record IsWritten (names : List (List ℕ)) (v : Val) : Type 0 where
-  pub read_back : ReadsBack names v (written names v)
-  pub depth : depth_of (written names v) ≡ levels_of v
-  pub words : HasWords (written names v)
 
 -- a program's numbers fit their types, and the forms of its values are read back
 pub record IsFitting (p : Program) : Type 0 where

@@ -1,7 +1,7 @@
 -- What the checks tell of a part of the forms: it has no fault, or its first fault.
-use Rattle.std.specs.Prelude.{◌≡◌, ◌≢◌, ℕ, ◌+◌, ◌==◌, Bool, true, false, is_some, if◌then◌else◌, List, [], ◌∷◌, ◌++◌, map, Option, Some, None, option_map, Result, Ok, Err}
+use Rattle.std.specs.Prelude.{◌≡◌, ℕ, ◌+◌, ◌==◌, Bool, true, false, is_some, if◌then◌else◌, List, [], ◌∷◌, map, Option, Some, None, option_map, Result, Ok, Err}
 use Rattle.tau_sexpr.specs.Form.{tree_of}
-use Rattle.tau_sexpr.specs.Tree.{Tree, Trees, word, list, none, more, inside}
+use Rattle.tau_sexpr.specs.Tree.{Tree, Trees, word, none, more, inside}
 use Rattle.tau_forms.specs.declared.checking.Parts.{Parts}
 use Rattle.tau_forms.specs.declared.faults.ProgramError.{ProgramError}
 use Rattle.tau_forms.specs.declared.faults.ProgramError.TheVariants as errors

@@ -1,5 +1,5 @@
 -- What the checks take for the roles and the faults of the definitions.
-use Rattle.std.specs.Prelude.{ℕ, List, [], ◌∷◌, map}
+use Rattle.std.specs.Prelude.{map}
 use Rattle.tau_sexpr.specs.Form.{tree_of}
 use Rattle.tau_sexpr.specs.Tree.{inside}
 use Rattle.tau_forms.specs.declared.wanted.Wanted.{Wanted}

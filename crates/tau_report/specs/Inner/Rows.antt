@@ -5,12 +5,12 @@ use Rattle.tau_sexpr.specs.Printing.{printed, HasBytes}
 use Rattle.tau_value.specs.declared.shared.Value.{Value}
 use Rattle.tau_value.specs.Sizes.{IsInBounds}
 use Rattle.tau_value.specs.Value.{val_of}
-use Rattle.tau_value.specs.Written.{count_form}
+use Rattle.tau_value.specs.Written.{count_form, IsWritten}
 use Rattle.tau_tree.specs.declared.programs.Program.{Program}
 use Rattle.tau_trace.specs.Run.{Run}
 use Rattle.tau_trace.specs.Known.{WellFormed}
 use Rattle.tau_trace.specs.declared.opening.Opening.{Opening}
-use Rattle.tau_steps.specs.StepForms.{who_form, value_form, IsWritten}
+use Rattle.tau_steps.specs.StepForms.{who_form, value_form}
 use Rattle.tau_states.specs.declared.state_record.StateRecord.{StateRecord}
 use Rattle.tau_report.specs.declared.counts.Counts.{Counts}
 use Rattle.tau_states.specs.Opening.{opening_states}
@@ -31,7 +31,7 @@ saved_row o t r = if is_unlisted r then [] else saved_form o t r.interval r.base
 
 -- the value of the form, if there is one, is read back as it is
 abbrev pub IsRowWritten : Opening → StateRecord → Type 0
-IsRowWritten o r = IsFalse (is_unlisted r) → IsWritten o.names r.base
+IsRowWritten o r = IsFalse (is_unlisted r) → IsWritten o.names (val_of r.base)
 
 -- the form of counts
 abbrev pub counts_tree : Counts → Tree

@@ -1,4 +1,4 @@
--- The reader byte by byte, of which its private functions speak. No public clause cites this file.
+-- The reader byte by byte, of which its private functions speak. Public clauses cite of this file what `forms_from` is alone.
 use Rattle.std.specs.Prelude.{◌≡◌, ℕ, ◌+◌, ◌==◌, nat_lt, List, [], ◌∷◌, ◌++◌, length, drop, ◌<◌, ◌≤◌, reverse, Result, Ok, Err, Option, Some, None, if◌then◌else◌}
 use Rattle.tau_sexpr.specs.Tree.{Tree, word, text, list, inside}
 use Rattle.tau_sexpr.specs.Bytes.{IsTextByte}

@@ -1,4 +1,4 @@
-use Rattle.std.proofs.Common.{◌<◌, ◌∙◌, sym, ap, length, map, take, arith}
+use Rattle.std.proofs.Common.{◌<◌, length, map, take, arith}
 use Rattle.std.proofs.lemmas.List.{map_more}
 use Rattle.tau_sexpr.specs.Form.{tree_of}
 use Rattle.tau_tree.specs.Expr.{codes_of}

@@ -1,10 +1,9 @@
-use Rattle.std.proofs.Common.{◌≡◌, ◌≢◌, ◌<◌, length, map, refl, sym, ap, subst, ◌∙◌, arith, true, ◌++◌, ◌∷◌, ◌+◌, Some, option_map}
+use Rattle.std.proofs.Common.{◌≡◌, ◌<◌, length, map, refl, sym, ap, ◌∙◌, arith, true, ◌++◌, ◌∷◌, ◌+◌, Some, option_map}
 use Rattle.std.proofs.lemmas.Result.{err_from_is_err_and}
 use Rattle.tau_sexpr.specs.Form.{tree_of}
-use Rattle.tau_sexpr.specs.Tree.{inside, word, size_of, size_of_all}
-use Rattle.tau_forms.specs.Faults.{FaultAt}
-use Rattle.tau_forms.specs.Inner.Passing.{Passes, IsRow, IsExpression, roles_of, bound_by}
-use Rattle.tau_forms.specs.Roles.{Role, value, expression, first, parts_of, words_of}
+use Rattle.tau_sexpr.specs.Tree.{inside, word}
+use Rattle.tau_forms.specs.Inner.Passing.{roles_of, bound_by}
+use Rattle.tau_forms.specs.Roles.{expression, first, parts_of, words_of}
 use Rattle.tau_forms.specs.Inner.Scopes.{names_of}
 use Rattle.tau_forms.specs.Inner.Wanted.{role_of}
 use Rattle.tau_forms.proofs.PassLemmas.{word_passes, text_passes, no_row_tells}

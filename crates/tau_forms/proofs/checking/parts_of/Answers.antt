@@ -1,4 +1,4 @@
-use Rattle.std.proofs.Common.{true, false, refl, sym, ap, ◌∙◌, map}
+use Rattle.std.proofs.Common.{false, sym, ap, ◌∙◌, map}
 use Rattle.tau_sexpr.specs.Form.{tree_of}
 use Rattle.tau_sexpr.specs.Tree.{inside}
 use Rattle.tau_forms.specs.Roles.{has_items}

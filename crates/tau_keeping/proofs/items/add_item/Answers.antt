@@ -8,19 +8,19 @@ use Rattle.tau_keeping.proofs.ItemForms.{adds_none, adds_form, adds_true, stops_
 use Rattle.tau_keeping.proofs.items.add_item.Goals as goal
 
 pub returns-then-is_mark : goal.returns-then-is_mark
-returns-then-is_mark c = adds_none c.args.records.now c.args.place c.args.record.now c.args.forms.now c.requires.behind c.requires.stands c.requires.so_far (c.is_mark-is_mark.ensures.0 c.if-is_mark.true)
+returns-then-is_mark c = adds_none c.args.records.now c.args.place c.args.bytes.now c.args.forms.now c.requires.behind c.requires.stands c.requires.so_far (c.is_mark-is_mark.ensures.0 c.if-is_mark.true)
 
 pub returns-in-Some : goal.returns-in-Some
 returns-in-Some c =
-    let no : c.args.record.now ≢ going_on = λ e. false≢true (sym c.if-is_mark.false ∙ c.is_mark-is_mark.ensures.1 e) in
+    let no : c.args.bytes.now ≢ going_on = λ e. false≢true (sym c.if-is_mark.false ∙ c.is_mark-is_mark.ensures.1 e) in
     if_ok_then _ _ c.add_form.result
     (λ b added. adds_true c.args.records.now c.args.place c.add_form.new.forms b added.0
-    (adds_form c.args.records.now c.args.place c.args.record.now c.args.forms.now c.requires.behind c.requires.stands c.requires.so_far no (tree_of c.in-Some.form) c.add_form.new.forms
-    (form_told c.args.record.now c.in_ok-form.form c.in-Some.form c.in-Some.is c.in_ok-form.ensures) added.1))
+    (adds_form c.args.records.now c.args.place c.args.bytes.now c.args.forms.now c.requires.behind c.requires.stands c.requires.so_far no (tree_of c.in-Some.form) c.add_form.new.forms
+    (form_told c.args.bytes.now c.in_ok-form.form c.in-Some.form c.in-Some.is c.in_ok-form.ensures) added.1))
     c.add_form.ensures
 
 pub returns-in-None : goal.returns-in-None
 returns-in-None c =
-    let no : c.args.record.now ≢ going_on = λ e. false≢true (sym c.if-is_mark.false ∙ c.is_mark-is_mark.ensures.1 e) in
-    stops_there c.args.records.now c.args.place c.args.record.now c.args.forms.now c.requires.behind c.requires.stands c.requires.so_far no
-    (no_form_told c.args.record.now c.in_ok-form.form c.in-None.is c.in_ok-form.ensures)
+    let no : c.args.bytes.now ≢ going_on = λ e. false≢true (sym c.if-is_mark.false ∙ c.is_mark-is_mark.ensures.1 e) in
+    stops_there c.args.records.now c.args.place c.args.bytes.now c.args.forms.now c.requires.behind c.requires.stands c.requires.so_far no
+    (no_form_told c.args.bytes.now c.in_ok-form.form c.in-None.is c.in_ok-form.ensures)

@@ -1,36 +1,35 @@
-use Rattle.std.proofs.lemmas.Result.{IfOk-weaker}
-use Rattle.tau_forms.specs.Meaning.{Means}
-use Rattle.tau_text.specs.Faults.{ProgramFault, IsProgramFault}
+use Rattle.tau_text.specs.Faults.{HasFault, ProgramFault, IsProgramFault}
 use Rattle.tau_text.specs.Meaning.{IsProgram}
-use Rattle.tau_text.proofs.AnswerLemmas.{from_bytes, from_forms, none_answered, fault_answered, no_answer}
+use Rattle.tau_text.specs.Inner.Surveyed.{NoFault}
+use Rattle.tau_text.proofs.AnswerLemmas.{kept_error, none_answered, fault_answered, no_answer}
 use Rattle.tau_text.proofs.FaultLemmas.{program_unique}
+use Rattle.tau_text.proofs.SurveyLemmas.{any_fault}
 use Rattle.tau_text.proofs.reading.read_program.Goals as goal
 
-pub returns-in_err-forms-clause-fault : goal.returns-in_err-forms-clause-fault
-returns-in_err-forms-clause-fault c =
-    from_bytes ProgramFault c.from_residual.result c.args.bytes.now c.in_err-forms.field-0.0 c.from_residual.ensures.1 c.in_err-forms.ensures.faulty
-
-pub returns-in_err-forms-clause-faulty : goal.returns-in_err-forms-clause-faulty
-returns-in_err-forms-clause-faulty c fault at h =
+pub returns-in_err-survey-clause-fault : goal.returns-in_err-survey-clause-fault
+returns-in_err-survey-clause-fault c =
     let bytes = c.args.bytes.now in
-    let told = from_bytes ProgramFault c.from_residual.result bytes c.in_err-forms.field-0.0 c.from_residual.ensures.1 c.in_err-forms.ensures.faulty in
-    let none = no_answer (λ r. IsProgram bytes r) _ c.from_residual.result c.from_residual.ensures.1 in
+    kept_error (HasFault NoFault bytes) (IsProgramFault bytes) c.from_residual.result c.in_err-survey.field-0.0 c.from_residual.ensures.1 (any_fault ProgramFault bytes) c.in_err-survey.ensures.fault
+
+pub returns-in_err-survey-clause-faulty : goal.returns-in_err-survey-clause-faulty
+returns-in_err-survey-clause-faulty c fault at h =
+    let bytes = c.args.bytes.now in
+    let told = kept_error (HasFault NoFault bytes) (IsProgramFault bytes) c.from_residual.result c.in_err-survey.field-0.0 c.from_residual.ensures.1 (any_fault ProgramFault bytes) c.in_err-survey.ensures.fault in
+    let none = no_answer (IsProgram bytes) _ c.from_residual.result c.from_residual.ensures.1 in
     fault_answered (IsProgram bytes) (IsProgramFault bytes) (λ p. p) c.from_residual.result (program_unique bytes) none told fault at h
+
+pub returns-in_err-survey-clause-read : goal.returns-in_err-survey-clause-read
+returns-in_err-survey-clause-read c p m =
+    let bytes = c.args.bytes.now in
+    let told = kept_error (HasFault NoFault bytes) (IsProgramFault bytes) c.from_residual.result c.in_err-survey.field-0.0 c.from_residual.ensures.1 (any_fault ProgramFault bytes) c.in_err-survey.ensures.fault in
+    none_answered (IsProgram bytes) (IsProgramFault bytes) c.from_residual.result (program_unique bytes) told p m
 
 pub returns-clause-read : goal.returns-clause-read
 returns-clause-read c p m =
     let bytes = c.args.bytes.now in
-    let told = from_forms ProgramFault c.whole_program.result bytes c.in_ok-forms.forms c.in_ok-forms.ensures.spelled c.whole_program.ensures.fault in
-    none_answered (IsProgram bytes) (IsProgramFault bytes) c.whole_program.result (program_unique bytes) told p m
-
-pub returns-clause-fault : goal.returns-clause-fault
-returns-clause-fault c = from_forms ProgramFault c.whole_program.result c.args.bytes.now c.in_ok-forms.forms c.in_ok-forms.ensures.spelled c.whole_program.ensures.fault
+    none_answered (IsProgram bytes) (IsProgramFault bytes) c.program_built.result (program_unique bytes) c.program_built.ensures.fault p m
 
 pub returns-clause-faulty : goal.returns-clause-faulty
 returns-clause-faulty c fault at h =
     let bytes = c.args.bytes.now in
-    let forms = c.in_ok-forms.forms in
-    let spelled = c.in_ok-forms.ensures.spelled in
-    let told = from_forms ProgramFault c.whole_program.result bytes forms spelled c.whole_program.ensures.fault in
-    let meant = IfOk-weaker c.whole_program.result (λ r. Means forms r) (λ r. IsProgram bytes r) (λ r m. record { forms = forms; spelled = spelled; means = m }) c.whole_program.ensures.program in
-    fault_answered (IsProgram bytes) (IsProgramFault bytes) (λ p. p) c.whole_program.result (program_unique bytes) meant told fault at h
+    fault_answered (IsProgram bytes) (IsProgramFault bytes) (λ p. p) c.program_built.result (program_unique bytes) c.program_built.ensures.program c.program_built.ensures.fault fault at h

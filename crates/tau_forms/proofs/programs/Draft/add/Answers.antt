@@ -1,4 +1,3 @@
-use Rattle.std.proofs.Common.{refl}
 use Rattle.std.proofs.lemmas.Result.{on_ok_weaker}
 use Rattle.tau_sexpr.specs.Form.{tree_of}
 use Rattle.tau_forms.specs.declared.programs.TopForm.TheVariants as forms
