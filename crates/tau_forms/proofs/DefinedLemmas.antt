@@ -1,5 +1,5 @@
 -- What the forms at the top define, form by form.
-use Rattle.std.proofs.Common.{◌≡◌, ℕ, zero, suc, ◌≤◌, ◌==◌, Bool, true, false, cond, map, take, ◌&&◌, ◌||◌, is_some, List, [], ◌∷◌, ◌++◌, length, filter, Option, Some, None, refl, sym, ap, ◌∙◌, arith}
+use Rattle.std.proofs.Common.{◌≡◌, ℕ, ◌==◌, Bool, true, false, cond, map, ◌&&◌, ◌||◌, is_some, List, [], ◌∷◌, ◌++◌, length, Option, Some, None, refl, sym, ap, ◌∙◌}
 use Rattle.std.specs.List.{list_any}
 use Rattle.std.specs.Option.{option_or}
 use Rattle.std.proofs.lemmas.List.Folds.{list_any-append}
@@ -8,12 +8,11 @@ use Rattle.tau_sexpr.specs.Tree.{Tree, Trees, word, text, list, none, more, insi
 use Rattle.tau_sexpr.specs.declared.trees.Form.{Form}
 use Rattle.tau_value.specs.Names.{place_of}
 use Rattle.tau_value.specs.Numbers.{count_in}
-use Rattle.tau_forms.specs.declared.keywords.Sort.{Sort}
 use Rattle.tau_forms.specs.declared.tables.Defined.{Defined}
 use Rattle.tau_forms.specs.declared.tables.Definition.{Definition}
 use Rattle.tau_forms.specs.Inner.Defined.{IsDefined, Defines, nodes_told, version_items, behaviour_name, start_name, nodes_number, version_number}
 use Rattle.tau_forms.specs.Keywords.{sort_in}
-use Rattle.tau_forms.specs.Tops.{sort_of, is_nodes, is_version, is_behaviour, is_start, with_name, behaviours_of, starts_of, is_count_in, nodes_in, nodes_of, version_in, version_of, is_two, is_second, count_of}
+use Rattle.tau_forms.specs.Tops.{is_nodes, is_version, is_behaviour, is_start, with_name, behaviours_of, starts_of, is_count_in, nodes_in, nodes_of, version_in, version_of, is_two, is_second}
 use Rattle.tau_forms.proofs.WordLemmas.{placed}
 use Rattle.tau_forms.proofs.SoundNames.{defined_after-push}
 
@@ -78,23 +77,6 @@ version_in_list h (more (text t) us) true e = refl
 version_in_list h (more (text t) us) false e = refl
 version_in_list h (more (list t) us) true e = refl
 version_in_list h (more (list t) us) false e = refl
-
-pub count_le : (is : Sort → Bool) (ts : List Tree) → count_of is ts ≤ length ts
-count_le is [] = omega arith
-count_le is (t ∷ ts) = by (is (sort_of t)) (count_le is ts)
-  where
-    by : (b : Bool) → count_of is ts ≤ length ts → length (cond b (t ∷ filter (λ u. is (sort_of u)) ts) (filter (λ u. is (sort_of u)) ts)) ≤ length (t ∷ ts)
-    by true h = omega arith
-    by false h = omega arith
-
-pub taken_le : (fs : List Form) (k : ℕ) → length (map tree_of (take k fs)) ≤ k
-taken_le [] zero = omega arith
-taken_le [] (suc k) = omega arith
-taken_le (f ∷ fs) zero = omega arith
-taken_le (f ∷ fs) (suc k) = omega (arith, taken_le fs k)
-
-pub count_taken : (is : Sort → Bool) (fs : List Form) (k : ℕ) → count_of is (map tree_of (take k fs)) ≤ k
-count_taken is fs k = omega (arith, count_le is (map tree_of (take k fs)), taken_le fs k)
 
 -- a name is added where it isn't there
 pub with_known : (ws : List (List ℕ)) (w : List ℕ) (o : Option ℕ) (b : Bool) → o ≡ place_of ws w → b ≡ is_some o → b ≡ true → ws ≡ with_name ws (Some w)

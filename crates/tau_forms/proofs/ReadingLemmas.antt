@@ -1,5 +1,5 @@
 -- The two readings of a program's forms, form by form.
-use Rattle.std.proofs.Common.{◌≡◌, ℕ, ◌+◌, ◌<◌, ◌≤◌, ◌^◌, Bool, true, false, cond, List, [], ◌∷◌, ◌++◌, length, get_or, take, drop, map, filter, Some, None, refl, sym, ap, subst, ◌∙◌, arith, append_assoc, append-nil}
+use Rattle.std.proofs.Common.{◌≡◌, ℕ, ◌+◌, ◌<◌, ◌≤◌, ◌^◌, List, [], ◌∷◌, ◌++◌, length, get_or, take, drop, map, Some, None, refl, sym, ap, subst, ◌∙◌, arith, append_assoc, append-nil}
 use Rattle.std.proofs.lemmas.List.{map_more, map-append, take-append-drop, take_all}
 use Rattle.tau_sexpr.specs.Form.{tree_of}
 use Rattle.tau_sexpr.specs.declared.trees.Form.{Form}
@@ -7,7 +7,6 @@ use Rattle.tau_sexpr.specs.Tree.{Tree, none, inside, size_of, sizes, size_of_all
 use Rattle.tau_forms.specs.declared.builder.ProgramBuilder.{ProgramBuilder}
 use Rattle.tau_forms.specs.declared.faults.ProgramError.{ProgramError}
 use Rattle.tau_forms.specs.declared.faults.ProgramError.TheVariants as errors
-use Rattle.tau_forms.specs.declared.keywords.Sort.{Sort}
 use Rattle.tau_forms.specs.declared.tables.Tables.{Tables}
 use Rattle.tau_forms.specs.Faults.{Fault, FaultAt, FaultIn, here, later, tops_after, IsClean, IsFault}
 use Rattle.tau_forms.specs.Inner.Building.{HasBuilt}
@@ -15,7 +14,7 @@ use Rattle.tau_forms.specs.Inner.Defined.{IsDefined}
 use Rattle.tau_forms.specs.Inner.Passing.{TellsFault, AreAdmitted}
 use Rattle.tau_forms.specs.Readings.{HasTaken}
 use Rattle.tau_forms.specs.Roles.{top}
-use Rattle.tau_forms.specs.Tops.{sort_of, count_of, limit_of, tables_of}
+use Rattle.tau_forms.specs.Tops.{limit_of, tables_of}
 use Rattle.tau_forms.proofs.ListLemmas.{drop_item}
 use Rattle.tau_forms.proofs.PassLemmas.{Shift, shift_both, shift_clean, shift_tells, item_shift, item_tells, no_items_clean}
 use Rattle.tau_forms.proofs.ProgramLemmas.{starts_le, told}
@@ -52,19 +51,6 @@ front_tells : (tb : Tables) (before after : List Tree) (t : Tree) (e : ProgramEr
 front_tells tb before after t e clean told =
     shift_tells (FaultFrom tb [] (before ++ t ∷ after)) (FaultFrom tb before (t ∷ after)) (sizes before) 0 (sizes before) e (front_shift tb [] before (t ∷ after) clean) (omega arith)
     (item_tells tb (top before) (tops_after (before ++ t ∷ []) after) t (inside after) (sizes before) e told)
-
--- how many forms of a kind there are, with one more
-pub count_push : (is : Sort → Bool) (ts : List Tree) (t : Tree) → count_of is (ts ++ t ∷ []) ≡ count_of is ts + cond (is (sort_of t)) 1 0
-count_push is [] t = by (is (sort_of t))
-  where
-    by : (b : Bool) → length (cond b (t ∷ []) []) ≡ 0 + cond b 1 0
-    by true = refl
-    by false = refl
-count_push is (u ∷ us) t = by (is (sort_of u)) (filter (λ x. is (sort_of x)) us) (filter (λ x. is (sort_of x)) (us ++ t ∷ [])) (count_push is us t)
-  where
-    by : (b : Bool) (xs ys : List Tree) → length ys ≡ length xs + cond (is (sort_of t)) 1 0 → length (cond b (u ∷ ys) ys) ≡ length (cond b (u ∷ xs) xs) + cond (is (sort_of t)) 1 0
-    by true xs ys e = omega (arith, e)
-    by false xs ys e = e
 
 -- the next form is passed: its place fits, and what it is after stands there
 pub next_range : (ts before after : List Tree) (t : Tree) (b : ProgramBuilder) → ts ≡ before ++ (t ∷ after) → HasTaken ts before b → b.node + size_of t < 2 ^ 64

@@ -1,4 +1,4 @@
--- What contracts of inner functions say; public calls cite of these what stands in Readings alone.
+-- What contracts of inner functions say; public calls cite of these what Readings cites of them alone.
 pub mod Scopes
 pub mod Wanted
 pub mod Passing

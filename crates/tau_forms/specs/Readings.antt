@@ -7,14 +7,15 @@ use Rattle.tau_forms.specs.declared.outline.Outline.{Outline}
 use Rattle.tau_forms.specs.Faults.{FaultIn, tops_after, IsClean}
 use Rattle.tau_forms.specs.Inner.Building.{HasBuilt}
 use Rattle.tau_forms.specs.Inner.Defined.{IsDefined}
-use Rattle.tau_forms.specs.Tops.{is_behaviour, is_start, is_post, is_entry, count_of, limit_of, tables_of}
+use Rattle.tau_forms.specs.Tops.{is_behaviour, is_start, is_post, is_entry, is_other, count_of, limit_of, tables_of}
 
--- as many lists of each kind stand among forms; a greater number is told as the last of usize
+-- as many lists of each kind stand among forms, and as many forms of no kind; a greater number is told as the last of usize
 pub record AreCounts (before : List Tree) (c : Counts) : Type 0 where
   pub behaviours : c.behaviours ≡ min (count_of is_behaviour before) (2 ^ 64 - 1)
   pub starts : c.starts ≡ min (count_of is_start before) (2 ^ 64 - 1)
   pub posts : c.posts ≡ min (count_of is_post before) (2 ^ 64 - 1)
   pub entries : c.entries ≡ min (count_of is_entry before) (2 ^ 64 - 1)
+  pub others : c.others ≡ min (count_of is_other before) (2 ^ 64 - 1)
 
 -- what forms define, with their numbers of lists and of nodes
 pub record IsOutline (before : List Tree) (o : Outline) : Type 0 where

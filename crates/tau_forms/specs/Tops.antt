@@ -41,6 +41,11 @@ abbrev pub is_entry : Sort → Bool
 is_entry sorts.At = true
 is_entry s = false
 
+-- a form that no program has at the top
+abbrev pub is_other : Sort → Bool
+is_other sorts.Other = true
+is_other s = false
+
 -- whether a word is one of these
 abbrev pub has : List (List ℕ) → List ℕ → Bool
 has ws w = list_any (bytes_eq w) ws

@@ -7,13 +7,14 @@ ghost use Rattle.tau_forms.specs.Tops.{sort_of as sort_in_tree, limit_of};
 use crate::keywords::Sort;
 use tau_value::{BEHAVIOUR_LIMIT, ENTRY_LIMIT, POST_LIMIT, START_LIMIT};
 
-/// How many lists of each kind stand at the top up to a place. A greater number is told as the last of usize.
+/// How many lists of each kind stand at the top up to a place, and how many forms of no kind. A greater number is told as the last of usize.
 #[derive(Clone, Copy)]
 pub(crate) struct Counts {
     behaviours: usize,
     starts: usize,
     posts: usize,
     entries: usize,
+    others: usize,
 }
 
 impl Counts {
@@ -26,6 +27,7 @@ impl Counts {
             starts: 0,
             posts: 0,
             entries: 0,
+            others: 0,
         }
     }
 
@@ -39,8 +41,16 @@ impl Counts {
             Sort::Start => self.starts = self.starts.saturating_add(1),
             Sort::Post => self.posts = self.posts.saturating_add(1),
             Sort::At => self.entries = self.entries.saturating_add(1),
-            Sort::Nodes | Sort::Version | Sort::Other => {}
+            Sort::Other => self.others = self.others.saturating_add(1),
+            Sort::Nodes | Sort::Version => {}
         }
+    }
+
+    /// How many forms of no kind there are.
+    pub(crate) fn others(self) -> usize
+        ensures { result ≡ self.others }
+    {
+        self.others
     }
 
     /// The least number of a kind of which there are too many lists: 1 of behaviours, 2 of starts, 3 of posts, 4 of script

@@ -1,9 +1,10 @@
 //! What a program's forms define, found in a first reading of them.
-ghost use Rattle.std.specs.Prelude.{◌≡◌, [], ◌∷◌, ◌++◌, List, map, IfOk, IfErr, OnOk};
+ghost use Rattle.std.specs.Prelude.{◌≡◌, ◌-◌, ◌^◌, min, [], ◌∷◌, ◌++◌, List, map, IfOk, IfErr, OnOk};
 ghost use Rattle.tau_sexpr.specs.Form.{tree_of};
 ghost use Rattle.tau_sexpr.specs.Tree.{Tree};
 ghost use Rattle.tau_forms.specs.Faults.{IsFault};
 ghost use Rattle.tau_forms.specs.Readings.{IsOutline, HasTaken};
+ghost use Rattle.tau_forms.specs.Tops.{count_of, is_other};
 
 use crate::ProgramError;
 use crate::builder::ProgramBuilder;
@@ -53,6 +54,14 @@ impl Outline {
         self.counts.note(sort_of_form(form));
         self.nodes = self.nodes.saturating_add(form.size());
         self.defined.note(form)
+    }
+
+    /// How many of the forms are no lists of a kind that programs have: where there is one, the forms mean no program. A greater
+    /// number is told as the last of usize.
+    pub fn others(&self) -> usize
+        ensures { (ts : List Tree) → IsOutline ts self.now → result ≡ min (count_of is_other ts) (2 ^ 64 - 1) }
+    {
+        self.counts.others()
     }
 
     /// What builds the program of all forms, which have been noted, in a second reading.

@@ -1,15 +1,14 @@
 -- What is read behind forms that stand in front: the same, with these before it.
-use Rattle.std.proofs.Common.{◌≡◌, ◌≢◌, ℕ, suc, ◌+◌, ◌<◌, ◌≤◌, ◌==◌, Bool, true, false, nat_lt, if◌then◌else◌, List, [], ◌∷◌, ◌++◌, length, drop, Option, Some, None, Result, Ok, Err, refl, sym, ap, ap₂, subst, ◌∙◌, arith, append_assoc, append-nil}
-use Rattle.std.specs.Result.{IfErr}
+use Rattle.std.proofs.Common.{◌≡◌, ◌≢◌, ◌⊎◌, ⊎_elim, ℕ, suc, ◌+◌, ◌<◌, ◌≤◌, ◌==◌, Bool, true, false, nat_lt, if◌then◌else◌, List, [], ◌∷◌, ◌++◌, length, drop, Option, Some, None, Result, Ok, Err, refl, sym, ap, ◌∙◌, arith, append_assoc, append-nil}
 use Rattle.tau_sexpr.specs.Tree.{Tree, word, text, list, inside}
 use Rattle.tau_sexpr.specs.Kinds.{kind_of, is_plain, meaning}
 use Rattle.tau_sexpr.specs.Rest.{IsReading, forms_from, behind}
 use Rattle.tau_sexpr.specs.Laws.{ReadsFromStart, ReadsNothingBehind}
-use Rattle.tau_sexpr.specs.Inner.Reader.{Stack, stack, Reader, reader, Mode, outside, comment, in_word, in_text, in_pair, with_form, closed, step_outside, step_word, step_text, step_pair, step, ended, finish, and_then, run, read_all, TellsFormFault, Gives}
+use Rattle.tau_sexpr.specs.Inner.Reader.{Stack, stack, Reader, reader, Mode, outside, comment, in_word, in_text, in_pair, with_form, closed, step_outside, step_word, step_text, step_pair, step, ended, finish, and_then, run, read_all, TellsFormFault}
 use Rattle.tau_sexpr.specs.declared.bytes.ByteKind.{ByteKind}
 use Rattle.tau_sexpr.specs.declared.bytes.ByteKind.TheVariants.{Blank, Semicolon, Opening, Closing, Quote, OfWord, Other}
 use Rattle.tau_sexpr.specs.declared.faults.FormError.{FormError}
-use Rattle.tau_sexpr.specs.declared.faults.FormError.TheVariants.{TooDeep, NoMemory}
+use Rattle.tau_sexpr.specs.declared.faults.FormError.TheVariants.{BadByte, Unopened, Unclosed, BadText, TooDeep, NoMemory}
 use Rattle.tau_sexpr.proofs.RunLemmas.{go_on}
 use Rattle.tau_sexpr.proofs.SoundLemmas.{read_spells}
 use Rattle.tau_sexpr.proofs.LawLemmas.{read_fault, tells}
@@ -174,3 +173,22 @@ from_end bs at le = run_end bs at (stack [] []) le
 
 pub nothing_behind : (bs : List ℕ) → ReadsNothingBehind bs
 nothing_behind bs = from_end bs (length bs) (omega arith)
+
+-- what is read where all bytes are wanted is all that they give
+pub whole_read : (bs : List ℕ) (at : ℕ) (fs : List Tree) → forms_from bs 0 ≡ behind fs (forms_from bs at) → (at < length bs → 0 + length bs ≤ at) → read_all bs ≡ Ok fs
+whole_read bs at fs read least = sym (from_here bs 0) ∙ read ∙ ap (behind fs) (from_end bs at (⊎_elim (λ lt. omega (arith, least lt)) (λ le. le) (sides at (length bs)))) ∙ ap (λ ts. Ok ts) (append-nil fs)
+  where
+    sides : (a b : ℕ) → (a < b) ⊎ (b ≤ a)
+    sides a b = grind arith
+
+-- a fault that is told but for want of memory
+told_or_none : (e : FormError) (r : Result (List Tree) FormError) → (e ≢ NoMemory → r ≡ Err e) → TellsFormFault e r
+told_or_none (BadByte p) r h = h (λ is. cc)
+told_or_none (Unopened p) r h = h (λ is. cc)
+told_or_none (Unclosed p) r h = h (λ is. cc)
+told_or_none (BadText p) r h = h (λ is. cc)
+told_or_none (TooDeep p) r h = h (λ is. cc)
+told_or_none NoMemory r h = tt
+
+pub whole_told : (bs : List ℕ) (e : FormError) → (e ≢ NoMemory → forms_from bs 0 ≡ Err e) → TellsFormFault e (read_all bs)
+whole_told bs e h = told_or_none e (read_all bs) (λ some. sym (from_here bs 0) ∙ h some)

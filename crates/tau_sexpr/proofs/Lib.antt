@@ -6,6 +6,7 @@ pub mod SoundLemmas
 pub mod FaultLemmas
 pub mod LawLemmas
 pub mod FrontLemmas
+pub mod FurtherLemmas
 pub mod ScanLemmas
 pub mod PlaceLemmas
 pub mod PrintLemmas

@@ -47,9 +47,25 @@ pub fn read_some(alloc: Global, bytes: &[u8], start: usize) -> Result<(Forms, us
     ensures moves { IfOk result (λ r. start < length bytes.now → start < r.1) }
     ensures fault { IfErr result (λ e. e ≢ FormError.NoMemory → forms_from bytes.now start ≡ Err e) }
 {
+    read_piece(alloc, bytes, start, PIECE)
+}
+
+/// The forms of at least so many bytes from a place on, up to a place outside of lists or to the end, and the place behind them.
+fn read_piece(
+    alloc: Global,
+    bytes: &[u8],
+    start: usize,
+    least: usize,
+) -> Result<(Forms, usize), FormError>
+    requires { start ≤ length bytes.now }
+    ensures read { IfOk result (λ r. forms_from bytes.now start ≡ behind r.0 (forms_from bytes.now r.1)) }
+    ensures within { IfOk result (λ r. r.1 ≤ length bytes.now) }
+    ensures least { IfOk result (λ r. r.1 < length bytes.now → start + least ≤ r.1) }
+    ensures fault { IfErr result (λ e. e ≢ FormError.NoMemory → forms_from bytes.now start ≡ Err e) }
+{
     let mut held = OpenLists::new(alloc);
     let mut at = start;
-    while at < bytes.len() && held.takes_more(at - start) {
+    while at < bytes.len() && held.takes_more(at - start, least) {
         at = read_token(alloc, &mut held, bytes, at)?;
     }
     Ok((held.finish(at)?, at))
@@ -148,12 +164,12 @@ impl OpenLists {
         }
     }
 
-    /// Whether a piece of a text goes on that has so many bytes: where they are too few, and where a list is open.
-    fn takes_more(&self, len: usize) -> bool
-        ensures some { len ≡ 0 → result ≡ true }
+    /// Whether a piece of a text goes on that has so many bytes: where at least so many are wanted, and where a list is open.
+    fn takes_more(&self, len: usize, least: usize) -> bool
+        ensures enough { result ≡ false → least ≤ len }
         ensures closed { result ≡ false → (stack_of self.now).lists ≡ [] }
     {
-        len < PIECE || !self.outer.is_empty()
+        len < least || !self.outer.is_empty()
     }
 
     /// The end of the text, at its length.
@@ -342,10 +358,6 @@ fn read_token(
 fn read_whole(alloc: Global, bytes: &[u8]) -> Result<Forms, FormError>
     ensures { Gives result (read_all bytes.now) }
 {
-    let mut held = OpenLists::new(alloc);
-    let mut at = 0;
-    while at < bytes.len() {
-        at = read_token(alloc, &mut held, bytes, at)?;
-    }
-    held.finish(at)
+    let (forms, _end) = read_piece(alloc, bytes, 0, bytes.len())?;
+    Ok(forms)
 }

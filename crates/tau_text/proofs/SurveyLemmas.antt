@@ -1,6 +1,7 @@
 -- An input that is read some forms at a time.
 use Rattle.std.proofs.Common.{◌≡◌, ℕ, ◌≤◌, Bool, true, false, ◌||◌, nat_lt, List, [], ◌∷◌, ◌++◌, length, codes, Result, Ok, Err, refl, sym, ap, subst, ◌∙◌, arith, append_assoc, append-nil}
 use Rattle.std.proofs.lemmas.Bool.{ltb-true, ltb-false}
+use Rattle.std.proofs.lemmas.Grind.{flat_map-append}
 use Rattle.tau_sexpr.specs.Tree.{Tree}
 use Rattle.tau_sexpr.specs.Spelling.{IsSpelling}
 use Rattle.tau_sexpr.specs.Faults.{IsFirstFault}
@@ -12,7 +13,7 @@ use Rattle.tau_tree.specs.declared.programs.Program.{Program}
 use Rattle.tau_script.specs.Openings.{program_opening}
 use Rattle.tau_text.specs.Faults.{HasFault, of_bytes, of_forms, ProgramFault, IsProgramFault, IsPrintFault, MarkedFault, no_trace, in_parts, PartsFault, in_program}
 use Rattle.tau_text.specs.Meaning.{IsProgram, IsPrintInput}
-use Rattle.tau_text.specs.Inner.Surveyed.{NoFault}
+use Rattle.tau_text.specs.Inner.Surveyed.{joined, NoFault}
 use Rattle.tau_text.specs.Parts.{is_mark, is_marked, before, has_trace}
 use Rattle.tau_text.proofs.PartLemmas.{before_le, marked_below, unmarked_all, all_before}
 use Rattle.tau_text.proofs.ReadBack.{empty_run, unmarked_run}
@@ -42,15 +43,15 @@ behind_both : (front fs : List Tree) (r : Result (List Tree) FormError) → behi
 behind_both front fs (Ok ts) = ap (λ us. Ok us) (sym (append_assoc front fs ts))
 behind_both front fs (Err e) = refl
 
-pub reads_on : (bs : List ℕ) (at next : ℕ) (front fs : List Tree) → forms_from bs 0 ≡ behind front (forms_from bs at) → forms_from bs at ≡ behind fs (forms_from bs next) → forms_from bs 0 ≡ behind (front ++ fs) (forms_from bs next)
-reads_on bs at next front fs read more = read ∙ ap (behind front) more ∙ behind_both front fs (forms_from bs next)
+pub reads_on : (bs : List ℕ) (start at next : ℕ) (front fs : List Tree) → forms_from bs start ≡ behind front (forms_from bs at) → forms_from bs at ≡ behind fs (forms_from bs next) → forms_from bs start ≡ behind (front ++ fs) (forms_from bs next)
+reads_on bs start at next front fs read more = read ∙ ap (behind front) more ∙ behind_both front fs (forms_from bs next)
 
 nothing_before : (r : Result (List Tree) FormError) → r ≡ behind [] r
 nothing_before (Ok ts) = refl
 nothing_before (Err e) = refl
 
-pub reads_first : (bs : List ℕ) → forms_from bs 0 ≡ behind [] (forms_from bs 0)
-reads_first bs = nothing_before (forms_from bs 0)
+pub reads_first : (bs : List ℕ) (start : ℕ) → forms_from bs start ≡ behind [] (forms_from bs start)
+reads_first bs start = nothing_before (forms_from bs start)
 
 -- a fault at a place is the first of all bytes
 pub first_fault : (bs : List ℕ) (at : ℕ) (front : List Tree) (e : FormError) → forms_from bs 0 ≡ behind front (forms_from bs at) → forms_from bs at ≡ Err e → IsFirstFault bs e
@@ -69,11 +70,28 @@ left_of : (fs ts : List Tree) (r : Result (List Tree) FormError) → Ok ts ≡ b
 left_of fs ts (Ok us) e = record { rest = us; is = cc }
 left_of fs ts (Err f) e = absurd (cc)
 
+pub left_behind : (bs : List ℕ) (at : ℕ) (front ts : List Tree) → forms_from bs 0 ≡ behind front (forms_from bs at) → IsSpelling bs ts → (rest : List Tree) × (ts ≡ front ++ rest)
+left_behind bs at front ts read spelled =
+    let l = left_of front ts (forms_from bs at) (sym (from_here bs 0 ∙ spelled_read bs ts spelled) ∙ read) in
+    (l.rest, l.is)
+
 pub what_is_left : (bs : List ℕ) (at next : ℕ) (front fs ts : List Tree) → forms_from bs 0 ≡ behind front (forms_from bs at) → forms_from bs at ≡ behind fs (forms_from bs next) → IsSpelling bs ts → (rest : List Tree) × (ts ≡ front ++ (fs ++ rest))
 what_is_left bs at next front fs ts read more spelled =
-    let all : Ok ts ≡ behind (front ++ fs) (forms_from bs next) = sym (from_here bs 0 ∙ spelled_read bs ts spelled) ∙ reads_on bs at next front fs read more in
-    let l = left_of (front ++ fs) ts (forms_from bs next) all in
-    (l.rest, l.is ∙ append_assoc front fs l.rest)
+    let l = left_behind bs next (front ++ fs) ts (reads_on bs 0 at next front fs read more) spelled in
+    (l.0, l.1 ∙ append_assoc front fs l.0)
+
+-- the forms of pieces, with one piece more
+pub joined_more : (pieces : List (List Tree)) (fs : List Tree) → joined (pieces ++ fs ∷ []) ≡ joined pieces ++ fs
+joined_more pieces fs = flat_map-append (λ ts. ts) pieces (fs ∷ []) ∙ ap (λ ts. joined pieces ++ ts) (append-nil fs)
+
+-- the next piece of those that were kept
+pub piece_next : (pieces done rest : List (List Tree)) (fs before after ts : List Tree) → done ++ fs ∷ rest ≡ pieces → ts ≡ before ++ (joined pieces ++ after) → ts ≡ (before ++ joined done) ++ (fs ++ (joined rest ++ after))
+piece_next pieces done rest fs before after ts is all =
+    let parts : joined pieces ≡ joined done ++ (fs ++ joined rest) = sym (ap joined is) ∙ flat_map-append (λ us. us) done (fs ∷ rest) in
+    all
+    ∙ ap (λ us. before ++ (us ++ after)) parts
+    ∙ ap (λ us. before ++ us) (append_assoc (joined done) (fs ++ joined rest) after ∙ ap (λ us. joined done ++ us) (append_assoc fs (joined rest) after))
+    ∙ sym (append_assoc before (joined done) (fs ++ (joined rest ++ after)))
 
 pub same_forms : (bs : List ℕ) (ts us : List Tree) → IsSpelling bs ts → IsSpelling bs us → ts ≡ us
 same_forms bs ts us one two = once bs ts us one two

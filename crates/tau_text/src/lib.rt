@@ -5,6 +5,7 @@ mod by_parts;
 mod errors;
 mod faults;
 mod forms;
+mod front;
 mod laws;
 mod marks;
 mod parts;

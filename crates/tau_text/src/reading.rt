@@ -20,8 +20,9 @@ use tau_tree::Program;
 /// The program that all the forms of an input mean (docs/formats.md, "Programs"), as `run` takes it. It is sound.
 /// `Fault` comes exactly where they mean none, with the first of the faults 1 to 9 in the order of docs/formats.md,
 /// "Input faults".
-/// The forms are read twice, some at a time, so that beside the program those of 16 KiB of the text, or of one form at the top,
-/// take memory.
+/// The forms are read some at a time. Those of the front in which each is a list of a kind that programs have are kept until the
+/// program is built of them, each of its pieces until its own forms are added; the others are read twice, and take memory for
+/// 16 KiB of the text, or for one form at the top.
 pub fn read_program(alloc: Global, bytes: &[u8]) -> Result<Program, InputError>
     ensures program { IfOk result (IsProgram bytes.now) }
     ensures sound { IfOk result Sound }
@@ -31,8 +32,8 @@ pub fn read_program(alloc: Global, bytes: &[u8]) -> Result<Program, InputError>
     ensures faulty { (fault at : ℕ) → IsProgramFault bytes.now fault at
         → (result ≡ Err (InputError.Fault fault at)) ⊎ (result ≡ Err InputError.NoMemory) }
 {
-    let survey = survey_of(alloc, bytes)?;
-    program_built(alloc, bytes, survey.outline)
+    let (survey, front) = survey_of(alloc, bytes)?;
+    program_built(alloc, bytes, survey.outline, front)
 }
 
 /// The program and the trace that the forms of an input mean (docs/formats.md, "Run text"), as `check`, `audit` and `report`
@@ -77,11 +78,11 @@ pub fn read_printed(alloc: Global, bytes: &[u8]) -> Result<Program, InputError>
     if let Some(text) = read_by_parts(alloc, bytes)? {
         return Ok(text.program);
     }
-    let survey = survey_of(alloc, bytes)?;
+    let (survey, front) = survey_of(alloc, bytes)?;
     if survey.marked {
         return marked_program(alloc, bytes);
     }
-    program_built(alloc, bytes, survey.outline)
+    program_built(alloc, bytes, survey.outline, front)
 }
 
 /// The program of an input with `(trace)` among its forms, as `print` takes it, which is read as a whole.

@@ -1,7 +1,13 @@
-use Rattle.std.proofs.Common.{◌∙◌}
-use Rattle.tau_sexpr.specs.Inner.Reader.{stack_of}
-use Rattle.tau_sexpr.proofs.PlaceLemmas.{run_end, gives_same}
+use Rattle.std.proofs.lemmas.Result.{err_from_is_err_and}
+use Rattle.tau_sexpr.proofs.FrontLemmas.{whole_read, whole_told}
 use Rattle.tau_sexpr.proofs.reader.read_whole.Goals as goal
 
+pub returns-in_err-forms : goal.returns-in_err-forms
+returns-in_err-forms c =
+    let p = err_from_is_err_and c.from_residual.result c.from_residual.ensures.1 in
+    rw (p.1, p.2) (whole_told c.args.bytes.now _ c.in_err-forms.ensures.fault)
+
 pub returns : goal.returns
-returns c = gives_same _ _ _ (c.loop-at.invariant.1 ∙ run_end c.args.bytes.now c.loop-at.at (stack_of c.loop-at.held) c.loop-at-test.false) c.finish.ensures
+returns c =
+    let h = c.in_ok-forms.ensures in
+    whole_read c.args.bytes.now c.in_ok-forms._end c.in_ok-forms.forms h.read h.least

@@ -1,10 +1,9 @@
-use Rattle.std.proofs.Common.{◌≡◌, ◌∙◌, ◌≤◌, length, drop, Err, sym, ap, arith}
-use Rattle.tau_sexpr.specs.Inner.Reader.{stack_of, outside, run, ended}
-use Rattle.tau_sexpr.specs.Rest.{forms_from}
+use Rattle.std.proofs.Common.{◌∙◌, drop, sym, ap, arith}
+use Rattle.tau_sexpr.specs.Inner.Reader.{stack_of, outside, run}
 use Rattle.tau_sexpr.proofs.FrontLemmas.{from_here, gives_behind, told_at_end, told_closed}
 use Rattle.std.proofs.lemmas.Result.{err_from_is_err_and}
-use Rattle.tau_sexpr.proofs.reader.read_some.Goals as goal
-use Rattle.tau_sexpr.proofs.reader.read_some.Goals.{then-loop-at-test+else-takes_more, else-loop-at-test}
+use Rattle.tau_sexpr.proofs.reader.read_piece.Goals as goal
+use Rattle.tau_sexpr.proofs.reader.read_piece.Goals.{then-loop-at-test+else-takes_more, else-loop-at-test}
 
 pub loop-at-init : goal.loop-at-init
 loop-at-init c =

@@ -1,7 +1,7 @@
-use Rattle.std.proofs.Common.{◌≡◌, ◌-◌, ◌≤◌, ◌<◌, length, drop}
+use Rattle.std.proofs.Common.{◌≡◌, ◌-◌, ◌≤◌, length, drop}
 use Rattle.tau_sexpr.specs.Inner.Reader.{stack_of, outside, run}
 use Rattle.tau_sexpr.specs.Rest.{forms_from}
-use Rattle.tau_sexpr.proofs.reader.read_some.Given as goal
+use Rattle.tau_sexpr.proofs.reader.read_piece.Given as goal
 
 abbrev pub invariant-loop-at : goal.invariant-loop-at
 invariant-loop-at l = record {
