@@ -72,27 +72,14 @@ def words_of(command, text):
     return ["why", str(holds[-1])] if holds else []
 
 
-def measure(given, taken, words):
-    """Writes what a command writes for a text in a file into another, and prints seconds, memory and status: this process is
-    small, so the peak is that of the program."""
-    with open(given, "rb") as source, open(taken, "wb") as sink:
-        process = subprocess.Popen([PROGRAM, *words], stdin=source, stdout=sink, stderr=subprocess.DEVNULL)
-        _, status, usage = os.wait4(process.pid, 0)
-        process.returncode = os.waitstatus_to_exitcode(status)
-    print(usage.ru_utime + usage.ru_stime, usage.ru_maxrss / 1024, process.returncode)
-
-
 def measured(given, taken, words):
     """Seconds, memory in MB and status of a command on a text in a file."""
-    call = [sys.executable, os.path.abspath(__file__), given, taken, *words]
+    call = [sys.executable, os.path.join(os.path.dirname(os.path.abspath(__file__)), "measure.py"), given, taken, PROGRAM, *words]
     seconds, memory, status = subprocess.run(call, stdout=subprocess.PIPE, check=True).stdout.split()
     return float(seconds), float(memory), int(status)
 
 
 def main():
-    if len(sys.argv) > 3:
-        measure(sys.argv[1], sys.argv[2], sys.argv[3:])
-        return
     programs.prove()
     print(f"{'program':46} {'command':8} {'processor':>9} {'MB':>6} {'status':>6}  last line")
     with tempfile.TemporaryDirectory() as folder:

@@ -3,7 +3,8 @@
 
 It has `bin/tau prove` build the program, and prints a table. Each run is repeated, the numbers of workers in turn, and
 the least time is shown, since other work on the machine only adds to it. The aims, on four processors: with heavy turns, of 90,000
-evaluations each, at most 0.55 of the time of one worker by two and 0.35 by four; with small turns at most twice the time of one.
+evaluations each, at most 0.55 of the time of one worker by two and 0.35 by four; with small turns at most 1.2 of it by two and four,
+and twice by 32.
 Then, with the program show_workers, the same programs by workers on seats and by workers on a book under a lock, the two in turn, with
 the aim that seats take at most a tenth more; what a turn of one seat takes, where nobody else waits, with the aim of a microsecond;
 and 1,000 runs by 32 workers on seats, each of which must end.
@@ -50,8 +51,8 @@ def small(count, posts, number):
 # Each program with the numbers of workers, and the aim for each: the greatest share of the time of one worker.
 PROGRAMS = [
     ("heavy: 1,000 turns of 90,000 evaluations", heavy(16, 1_000), {2: 0.55, 4: 0.35}),
-    ("small: 80 messages at a time, 3,760 steps", small(16, 5, 11), {2: 2.0, 4: 2.0, 32: 2.0}),
-    ("small: 1 message at a time, 3,999 steps", small(1, 1, 999), {2: 2.0, 4: 2.0, 32: 2.0}),
+    ("small: 80 messages at a time, 3,760 steps", small(16, 5, 11), {2: 1.2, 4: 1.2, 32: 2.0}),
+    ("small: 1 message at a time, 3,999 steps", small(1, 1, 999), {2: 1.2, 4: 1.2, 32: 2.0}),
 ]
 
 
