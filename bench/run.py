@@ -47,7 +47,6 @@ PROGRAMS = [
     ("a ring of 64", ring(64, SET)),
     ("a ring of 64 that checkpoints", ring(64, SAVE)),
     ("a ring of 200", ring(200, SET)),
-    ("a text of 16 MiB, nearly all comment", long_text(LIMIT)),
 ]
 
 
@@ -55,6 +54,14 @@ def generated(number):
     """The generated program of a number."""
     made = subprocess.run([PROGRAM, "gen", number], stdout=subprocess.PIPE, check=True)
     return made.stdout.decode("utf-8")
+
+
+def texts(numbers):
+    """Each program with its name. The large one comes last, and is made there: a peak of memory is no less than this process has."""
+    yield from PROGRAMS
+    for number in numbers:
+        yield f"the generated program {number}", generated(number)
+    yield "a text of 16 MiB, nearly all comment", long_text(LIMIT)
 
 
 def measured(path):
@@ -78,11 +85,9 @@ def steps_of(text):
 
 def main():
     programs.prove()
-    numbers = sys.argv[1:] or ["1"]
-    texts = PROGRAMS + [(f"the generated program {number}", generated(number)) for number in numbers]
     print(f"{'program':44} {'steps':>6} {'ms':>9} {'steps/s':>10} {'MB':>7}")
     with tempfile.TemporaryDirectory() as folder:
-        for name, text in texts:
+        for name, text in texts(sys.argv[1:] or ["1"]):
             path = os.path.join(folder, "program.tau")
             with open(path, "w", encoding="utf-8") as file:
                 file.write(text)
