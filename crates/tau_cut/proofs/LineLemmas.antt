@@ -5,30 +5,21 @@ use Rattle.std.proofs.lemmas.Option.{slice_get_within}
 use Rattle.std.proofs.Math.ListN.{length-set}
 use Rattle.std.proofs.lemmas.Bool.{cases_eq}
 use Rattle.std.proofs.lemmas.List.{take_more, take_all, map_push, get_or_default}
-use Rattle.std.proofs.lemmas.List.Elements.{All-nil, All-cons, All-append, All-map, All-contains, Contains-append_left, Contains-push, Contains-push_cases}
+use Rattle.std.proofs.lemmas.List.Elements.{All-nil, All-cons, All-append, All-contains, Contains-append_left, Contains-push, Contains-push_cases}
 use Rattle.tau_points.proofs.Membership.{Contains-none}
 use Rattle.tau_sexpr.specs.Tree.{Tree, word, list, headed, inside, depth_of, depths, depths-append, depth_of_all-inside, HasWords, AllHaveWords-inside}
 use Rattle.tau_sexpr.specs.Printing.{printed}
 use Rattle.tau_sexpr.proofs.PrintLemmas.{printed-append}
-use Rattle.tau_value.specs.declared.shared.Value.{Value}
-use Rattle.tau_value.specs.Value.{val_of}
-use Rattle.tau_value.specs.Sizes.{IsInBounds}
-use Rattle.tau_value.specs.Names.{AreNames}
-use Rattle.tau_value.specs.Written.{count_form, IsWritten}
-use Rattle.tau_value.proofs.WrittenLemmas.{number_nonempty, decimal_filled}
+use Rattle.tau_value.specs.Written.{count_form}
+use Rattle.tau_value.proofs.WrittenLemmas.{decimal_filled}
 use Rattle.tau_chains.specs.declared.chained.Chained.{Chained}
 use Rattle.tau_tree.specs.declared.programs.Program.{Program}
-use Rattle.tau_tree.specs.Sound.{Sound}
 use Rattle.tau_trace.specs.declared.opening.Opening.{Opening}
 use Rattle.tau_trace.specs.declared.step.Step.TheVariants.{Checkpoint}
 use Rattle.tau_trace.specs.Run.{Run, len}
-use Rattle.tau_trace.specs.Numbering.{born}
-use Rattle.tau_trace.specs.Known.{WellFormed}
-use Rattle.tau_trace.proofs.Indexing.{born-le}
 use Rattle.tau_trace.proofs.Lists.{slice_get-set_same, slice_get-set_other}
 use Rattle.tau_steps.specs.StepForms.{who_form, value_form}
 use Rattle.tau_states.specs.Opening.{opening_states}
-use Rattle.tau_states.proofs.Bounds.{saved_bounded}
 use Rattle.tau_links.specs.Marks.{IsMarked}
 use Rattle.tau_links.proofs.DependentLemmas.{none_marked}
 use Rattle.tau_explain.specs.Texts.{point_form, chain_forms}
@@ -36,12 +27,12 @@ use Rattle.tau_explain.proofs.TextLemmas as points
 use Rattle.tau_cut.specs.declared.cut.Marked.{Marked}
 use Rattle.tau_cut.specs.declared.cut.Marked.TheVariants.{In, Out}
 use Rattle.tau_cut.specs.Cuts.{places_in, IsCut}
-use Rattle.tau_cut.specs.declared.kept_states.Kept.{Kept}
-use Rattle.tau_cut.specs.KeptStates.{KeepsWith, at_checkpoint as with_checkpoint, at_opening as with_opening, StateForms, none, without, with_one}
+use Rattle.tau_cut.specs.declared.states.Kept.{Kept}
+use Rattle.tau_cut.specs.KeptStates.{KeepsWith, at_checkpoint as with_checkpoint, at_opening as with_opening, IsKeptState, AreKeptWith, StateForms, none, without, with_one, PutsStates}
 use Rattle.tau_cut.specs.Texts.{mark_form, mark_forms, IsCutText}
 use Rattle.tau_cut.specs.Inner.Marking.{MarksIn}
 use Rattle.tau_cut.proofs.MarkLemmas.{in_place, in_mark}
-use Rattle.tau_cut.specs.Inner.Keeping.{in_front, out_front, state_form, state_row, IsRowWritten, IsRowSmall, ArePrintable, AreStateRows, KeepsBelow, at_checkpoint, at_opening, IsKeptBelow, AreKept}
+use Rattle.tau_cut.specs.Inner.Keeping.{in_front, out_front, state_row, KeepsBelow, at_checkpoint, at_opening, IsKeptBelow, AreKept}
 
 -- the forms of points of a chain, behind others
 
@@ -101,45 +92,48 @@ keeps_back : (T : Run) (marks : List Bool) (steps : List ℕ) (t i : ℕ) → ((
 keeps_back T marks steps t i same (at_checkpoint {j = j} lt m c e) = with_checkpoint {k = j} ((same j).1 m) c e
 keeps_back T marks steps t i same (at_opening lt e) = with_opening lt e
 
-few_transactors : (T : Run) (t : ℕ) → WellFormed T → t < born T (len T) → t < 2 ^ 64
-few_transactors T t w l = omega (arith, l, born-le T (len T), w.opening.few_names, w.few_steps)
+-- what is kept below the end of the trace is kept
+state_of : (P : Program) (T : Run) (marks : List Bool) (steps : List ℕ) (t : ℕ) (o : Option Kept) → ((k : ℕ) → Contains steps k ↔ IsMarked marks k) → IsKeptBelow T (opening_states P.starts) marks (len T) t o → IsKeptState P T steps t o
+state_of P T marks steps t None same never = λ i k. never i (keeps_same T marks steps t i same k)
+state_of P T marks steps t (Some kept) same h = record {
+  last = h.0;
+  keeps = keeps_back T marks steps t h.0 same h.2;
+  greatest = λ i k. h.3 i (keeps_same T marks steps t i same k);
+  interval_is = h.1;
+  saved = h.4;
+}
 
--- the forms of a list, one deeper
-state_words : (o : Opening) (t : ℕ) (kept : Kept) → AreNames o.names → t < 2 ^ 64 → kept.interval < 2 ^ 64 → IsWritten o.names (val_of kept.value) → HasWords (state_form o t kept)
-state_words o t kept names few small is = ((λ e. cc), (number_nonempty o.names t names few, (decimal_filled kept.interval small, (is.words, tt))))
+pub states_are : (P : Program) (T : Run) (marks : List Bool) (steps : List ℕ) (kept : List (Option Kept)) → ((k : ℕ) → Contains steps k ↔ IsMarked marks k) → AreKept T (opening_states P.starts) marks (len T) kept → AreKeptWith P T steps kept
+states_are P T marks steps kept same are = record { count = are.count; each = λ t o e. state_of P T marks steps t o same (are.each t o e) }
 
-module _ (P : Program) (T : Run) (marks : List Bool) (steps : List ℕ) (w : WellFormed T) (bounded : All (λ v. IsInBounds (val_of v)) (opening_states P.starts)) (same : (k : ℕ) → Contains steps k ↔ IsMarked marks k) where
-  row : (t : ℕ) (o : Option Kept) (fs : List Tree) → IsKeptBelow T (opening_states P.starts) marks (len T) t o → StateForms P T steps t fs → StateForms P T steps (suc t) (fs ++ state_row T.opening t o)
-  row t None fs never s = subst (StateForms P T steps (suc t)) (sym (append-nil fs)) (without (λ i k. never i (keeps_same T marks steps t i same k)) s)
-  row t (Some kept) fs h s = with_one (record {
-    last = h.0;
-    keeps = keeps_back T marks steps t h.0 same h.2;
-    greatest = λ i k. h.3 i (keeps_same T marks steps t i same k);
-    value = kept.value;
-    saved = h.4;
-    form_is = ap (λ n. headed (codes "state") (who_form T.opening t ∷ count_form n ∷ value_form T.opening kept.value ∷ [])) h.1;
-  }) s
+-- the rows of the first n transactors, behind a text
+pub record PutsRows (T : Run) (states : List (Option Kept)) (n : ℕ) (old new : List ℕ) : Type 0 where
+  pub forms : List Tree
+  pub are : (P : Program) (steps : List ℕ) → AreKeptWith P T steps states → StateForms P T steps n forms
+  pub text : new ≡ old ++ printed forms
 
-  row_printable : (t : ℕ) (o : Option Kept) (fs : List Tree) → t < born T (len T) → IsKeptBelow T (opening_states P.starts) marks (len T) t o → IsRowWritten T.opening o → IsRowSmall o → ArePrintable fs → ArePrintable (fs ++ state_row T.opening t o)
-  row_printable t None fs few never written small p = subst ArePrintable (sym (append-nil fs)) p
-  row_printable t (Some kept) fs few h is small p =
-      let in_bounds = saved_bounded T (opening_states P.starts) w bounded t h.0 kept.value h.4 in
-      let form = state_form T.opening t kept in
-      record {
-        depth = omega (arith, depths-append fs (form ∷ []), p.depth, is.depth, in_bounds.1);
-        words = All-append HasWords fs (form ∷ []) p.words (All-cons HasWords form [] (state_words T.opening t kept w.opening.names (few_transactors T t w few) (omega (arith, small)) is) (All-nil HasWords));
-      }
+row : (P : Program) (T : Run) (steps : List ℕ) (t : ℕ) (o : Option Kept) (fs : List Tree) → IsKeptState P T steps t o → StateForms P T steps t fs → StateForms P T steps (suc t) (fs ++ state_row T.opening t o)
+row P T steps t None fs never s = subst (StateForms P T steps (suc t)) (sym (append-nil fs)) (without never s)
+row P T steps t (Some kept) fs is s = with_one (record {
+  last = is.last;
+  keeps = is.keeps;
+  greatest = is.greatest;
+  value = kept.value;
+  saved = is.saved;
+  form_is = ap (λ n. headed (codes "state") (who_form T.opening t ∷ count_form n ∷ value_form T.opening kept.value ∷ [])) is.interval_is;
+}) s
 
-pub state_rows_none : (o : Opening) (kept : List (Option Kept)) (fs : List Tree) → fs ≡ [] → AreStateRows o kept 0 fs
-state_rows_none o kept fs is = subst (AreStateRows o kept 0) (sym is) (λ P T marks steps w same bounded a marked. (none, record { depth = omega arith; words = All-nil HasWords }))
+pub puts_none : (T : Run) (states : List (Option Kept)) (old : List ℕ) → PutsRows T states 0 old old
+puts_none T states old = record { forms = []; are = λ P steps a. none; text = sym (append-nil old) }
 
-pub state_rows_more : (o : Opening) (kept : List (Option Kept)) (t : ℕ) (one : Option Kept) (fs0 fs : List Tree) → slice_get kept t ≡ Some one → IsRowWritten o one → IsRowSmall one → fs ≡ fs0 ++ state_row o t one → AreStateRows o kept t fs0 → AreStateRows o kept (suc t) fs
-state_rows_more o kept t one fs0 fs e written small is rows = subst (AreStateRows o kept (suc t)) (sym is) (λ P T marks steps w same bounded a marked.
-    let Q : Opening → Type 0 = λ x. IsRowWritten x one → StateForms P T steps (suc t) (fs0 ++ state_row x t one) × ArePrintable (fs0 ++ state_row x t one) in
-    let before = rows P T marks steps w same bounded a marked in
-    let told = a.each t one e in
-    let few : t < born T (len T) = omega (arith, slice_get_within kept t one e, a.count) in
-    subst Q same (λ is_written. (row P T marks steps w bounded marked t one fs0 told before.0, row_printable P T marks steps w bounded marked t one fs0 few told is_written small before.1)) written)
+pub puts_more : (T : Run) (o : Opening) (states : List (Option Kept)) (t : ℕ) (one : Option Kept) (old now new : List ℕ) → o ≡ T.opening → slice_get states t ≡ Some one → new ≡ now ++ printed (state_row o t one) → PutsRows T states t old now → PutsRows T states (suc t) old new
+puts_more T o states t one old now new is e text before =
+    let here : new ≡ now ++ printed (state_row T.opening t one) = text ∙ ap (λ (x : Opening). now ++ printed (state_row x t one)) is in
+    record {
+      forms = before.forms ++ state_row T.opening t one;
+      are = λ P steps a. row P T steps t one before.forms (a.each t one e) (before.are P steps a);
+      text = here ∙ ap (λ bs. bs ++ printed (state_row T.opening t one)) before.text ∙ append_assoc old (printed before.forms) (printed (state_row T.opening t one)) ∙ ap (λ bs. old ++ bs) (sym (printed-append before.forms (state_row T.opening t one)));
+    }
 
 -- places that are In
 
@@ -198,25 +192,12 @@ ins_fit T marks cut i d lt =
     let c = cut.consistent.checkpoints k (i, lt, get_or_default (places_in marks) i k d lt) in
     slice_get_within T.steps k (Checkpoint c.1.by) c.1.closes
 
-opening_bounded : (P : Program) → Sound P → All (λ v. IsInBounds (val_of v)) (opening_states P.starts)
-opening_bounded P s = All-map (λ v. IsInBounds (val_of v)) (λ x. x.state) P.starts s.states_bounded
-
 -- the whole text
-pub whole_text : (P : Program) (T : Run) (o : Opening) (cut : List Marked) (marks : List Bool) (kept : List (Option Kept)) (states : List Tree) (text lines out : List ℕ) → Sound P → WellFormed T → o ≡ T.opening → IsCut T cut → ((k : ℕ) → Contains (places_in cut) k ↔ IsMarked marks k)
-    → AreKept T (opening_states P.starts) marks (len T) kept → AreStateRows o kept (length kept) states → text ≡ printed (mark_forms o cut) → lines ≡ printed states → out ≡ text ++ lines → IsCutText P T out
-whole_text P T o cut marks kept states text lines out sound w opening_is is_cut marked are rows text_is lines_is is =
-    let told = rows P T marks (places_in cut) w (sym opening_is) (opening_bounded P sound) are marked in
-    record {
-      marks = cut;
-      is_cut = is_cut;
-      states = states;
-      states_are = subst (λ n. StateForms P T (places_in cut) n states) are.count told.0;
-      is = is ∙ (λ i. text_is i ++ lines_is i) ∙ sym (printed-append (mark_forms o cut) states) ∙ ap (λ x. printed (mark_forms x cut ++ states)) opening_is;
-    }
-
-pub rows_printable : (P : Program) (T : Run) (o : Opening) (cut : List Marked) (marks : List Bool) (kept : List (Option Kept)) (states : List Tree) → Sound P → WellFormed T → o ≡ T.opening → ((k : ℕ) → Contains (places_in cut) k ↔ IsMarked marks k)
-    → AreKept T (opening_states P.starts) marks (len T) kept → AreStateRows o kept (length kept) states → ArePrintable states
-rows_printable P T o cut marks kept states sound w opening_is marked are rows = (rows P T marks (places_in cut) w (sym opening_is) (opening_bounded P sound) are marked).1
-
-pub few_kept : (T : Run) (values : List Value) (marks : List Bool) (kept : List (Option Kept)) → WellFormed T → AreKept T values marks (len T) kept → length kept < 2 ^ 32
-few_kept T values marks kept w are = omega (arith, are.count, born-le T (len T), w.opening.few_names, w.few_steps)
+pub whole_text : (P : Program) (T : Run) (o : Opening) (cut : List Marked) (text out : List ℕ) → o ≡ T.opening → IsCut T cut → text ≡ printed (mark_forms o cut) → PutsStates P T (places_in cut) text out → IsCutText P T out
+whole_text P T o cut text out opening_is is_cut text_is puts = record {
+  marks = cut;
+  is_cut = is_cut;
+  states = puts.forms;
+  states_are = puts.forms_are;
+  is = puts.text ∙ ap (λ bs. bs ++ printed puts.forms) text_is ∙ sym (printed-append (mark_forms o cut) puts.forms) ∙ ap (λ (x : Opening). printed (mark_forms x cut ++ puts.forms)) opening_is;
+}

@@ -80,7 +80,7 @@ form_once P T steps t f g a b =
     let value : a.value ≡ b.value = saved_once T (opening_states P.starts) t a.last a.value b.value a.saved (subst Q same b.saved) in
     a.form_is ∙ (λ i. state_form T.opening t (record { interval = suc (sym same i); value = value i })) ∙ sym b.form_is
 
-states_once : (P : Program) (T : Run) (steps : List ℕ) (n : ℕ) (fs gs : List Tree) → StateForms P T steps n fs → StateForms P T steps n gs → fs ≡ gs
+pub states_once : (P : Program) (T : Run) (steps : List ℕ) (n : ℕ) (fs gs : List Tree) → StateForms P T steps n fs → StateForms P T steps n gs → fs ≡ gs
 states_once P T steps n fs gs none none = refl
 states_once P T steps n fs gs (without not a) (without nor b) = states_once P T steps _ _ _ a b
 states_once P T steps n fs gs (without not a) (with_one one b) = absurd (not one.last one.keeps)

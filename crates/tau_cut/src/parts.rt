@@ -2,12 +2,10 @@
 ghost use Rattle.std.specs.Prelude.{◌≡◌, ◌<◌, ◌^◌, ◌∷◌, ◌++◌, [], All, IfOk, OnOk};
 ghost use Rattle.tau_sexpr.specs.Bytes.{IsWordByte};
 ghost use Rattle.tau_sexpr.specs.Tree as tree;
-ghost use Rattle.tau_steps.specs.StepForms.{who_form};
 ghost use Rattle.tau_value.specs.Written.{count_form};
 
 use std::alloc::{AllocError, Global};
 use tau_sexpr::{Form, Forms, Word};
-use tau_trace::Opening;
 use tau_value::word_of_count;
 
 /// A list that begins with a word.
@@ -18,22 +16,6 @@ pub(crate) fn headed(alloc: Global, bytes: &[u8]) -> Result<Forms, AllocError>
     let mut forms = Forms::new(alloc);
     forms.add(Form::Word(Word::of(alloc, bytes)?))?;
     Ok(forms)
-}
-
-/// Adds the name of a start, or the number of another transactor.
-pub(crate) fn add_who(
-    alloc: Global,
-    forms: &mut Forms,
-    opening: &Opening,
-    who: u32,
-) -> Result<(), AllocError>
-    ensures { OnOk result (forms.new ≡ forms.old ++ who_form opening.now who ∷ []) }
-{
-    let word = match opening.names.item(who as usize) {
-        Some(name) => name.copy()?,
-        None => word_of_count(alloc, u64::from(who))?,
-    };
-    forms.add(Form::Word(word))
 }
 
 /// Adds a number.

@@ -1,30 +1,26 @@
 //! The lines that tell a cut.
-ghost use Rattle.std.specs.Prelude.{◌≡◌, ◌≤◌, ◌<◌, ◌^◌, ◌∷◌, ◌++◌, [], All, length, IfOk, OnOk};
+ghost use Rattle.std.specs.Prelude.{◌≡◌, ◌≤◌, ◌<◌, ◌^◌, ◌∷◌, ◌++◌, [], All, IfOk, OnOk};
 ghost use Rattle.tau_sexpr.specs.Form.{tree_of};
 ghost use Rattle.tau_sexpr.specs.Printing.{printed};
 ghost use Rattle.tau_sexpr.specs.Tree.{depth_of, depths, HasWords};
 ghost use Rattle.tau_value.specs.Names.{AreNames};
-ghost use Rattle.tau_value.specs.Value.{val_of};
-ghost use Rattle.tau_value.specs.Written.{IsWritten};
 ghost use Rattle.tau_tree.specs.Sound.{Sound};
 ghost use Rattle.tau_script.specs.Openings.{program_opening};
 ghost use Rattle.tau_explain.specs.Texts as chains;
 ghost use Rattle.tau_cut.specs.Texts.{mark_form, mark_forms, IsCutText};
 ghost use Rattle.tau_cut.specs.Inner.Keeping as kept_specs;
-ghost use Rattle.tau_cut.specs.Inner.Keeping.{state_row, IsRowWritten, IsRowSmall, AreStateRows};
 
 use crate::cut::{Cut, Marked};
-use crate::kept::kept_places;
-use crate::kept_states::{Kept, states_kept};
 use crate::marking::greatest;
-use crate::parts::{add_count, add_who, headed};
+use crate::parts::{add_count, headed};
+use crate::state_lines::put_states;
+use crate::states::states_with;
 use std::alloc::{AllocError, Global};
 use tau_chains::Chain;
 use tau_explain::form_of_chained;
 use tau_sexpr::{Form, Forms, print_forms};
 use tau_trace::{Opening, Trace};
 use tau_tree::Program;
-use tau_value::form_of;
 
 /// Adds the forms of the points of a chain.
 fn add_points(
@@ -131,62 +127,6 @@ fn lines_of_marks(alloc: Global, opening: &Opening, cut: &Cut) -> Result<Vec<u8>
     Ok(text)
 }
 
-/// The form of what is kept of a transactor.
-#[tactic(auto, using(tau_sexpr::proofs::Literals::word_literal), unfolding(tau_sexpr::specs::Bytes::is_word_byte, tau_sexpr::specs::Bytes::is_letter_or_digit, tau_sexpr::specs::Bytes::is_word_sign))]
-fn form_of_state(
-    alloc: Global,
-    opening: &Opening,
-    who: u32,
-    kept: &Kept,
-) -> Result<Form, AllocError>
-    requires { AreNames opening.now.names }
-    ensures form { IfOk result (λ f. tree_of f ≡ kept_specs.state_form opening.now who kept.now) }
-    ensures written { OnOk result (IsWritten opening.now.names (val_of kept.now.value)) }
-    ensures small { OnOk result (kept.now.interval < 2 ^ 32) }
-{
-    let mut items = headed(alloc, b"state")?;
-    add_who(alloc, &mut items, opening, who)?;
-    add_count(alloc, &mut items, kept.interval)?;
-    items.add(form_of(alloc, &kept.value, &opening.names)?)?;
-    Ok(Form::List(items))
-}
-
-/// Adds the form of what is kept of a transactor, if anything is.
-fn add_state(
-    alloc: Global,
-    forms: &mut Forms,
-    opening: &Opening,
-    who: u32,
-    kept: &Option<Kept>,
-) -> Result<(), AllocError>
-    requires { AreNames opening.now.names }
-    ensures forms { OnOk result (forms.new ≡ forms.old ++ state_row opening.now who kept.now) }
-    ensures written { OnOk result (IsRowWritten opening.now kept.now) }
-    ensures small { OnOk result (IsRowSmall kept.now) }
-{
-    match kept {
-        Some(kept) => forms.add(form_of_state(alloc, opening, who, kept)?),
-        None => Ok(()),
-    }
-}
-
-/// The forms of what is kept, by transactor.
-fn forms_of_states(
-    alloc: Global,
-    opening: &Opening,
-    states: &[Option<Kept>],
-) -> Result<Forms, AllocError>
-    requires names { AreNames opening.now.names }
-    requires few { length states.now < 2 ^ 32 }
-    ensures { IfOk result (AreStateRows opening.now states.now (length states.now)) }
-{
-    let mut forms = Forms::new(alloc);
-    for (who, state) in states.iter().enumerate() {
-        add_state(alloc, &mut forms, opening, who as u32, state)?;
-    }
-    Ok(forms)
-}
-
 /// The text of the greatest consistent set of Checkpoints of a trace (docs/formats.md, "Cuts"), one form a line: the mark of each
 /// Checkpoint, by place, and then for each transactor that is a start or has a Checkpoint marked In the state that is kept of it, by
 /// number. The error is want of memory.
@@ -196,11 +136,8 @@ pub fn cut_text(alloc: Global, program: &Program, trace: &Trace) -> Result<Vec<u
     ensures { IfOk result (λ v. IsCutText program.now trace.now.run v.items) }
 {
     let cut = greatest(alloc, trace)?;
-    let marks = kept_places(alloc, trace, &cut)?;
-    let kept = states_kept(alloc, &program.starts, trace, &marks)?;
-    let states = forms_of_states(alloc, trace.opening(), &kept)?;
+    let states = states_with(alloc, program, trace, &cut)?;
     let mut text = lines_of_marks(alloc, trace.opening(), &cut)?;
-    let lines = print_forms(alloc, &states)?;
-    text.extend_from_slice(&lines)?;
+    put_states(&mut text, trace, &states)?;
     Ok(text)
 }

@@ -1,5 +1,5 @@
 -- The texts that are put of saved states and counts.
-use Rattle.std.proofs.Common.{◌≡◌, ℕ, suc, ◌^◌, ◌<◌, List, [], ◌∷◌, ◌++◌, length, append-nil, append_assoc, All, Some, refl, sym, ap, ◌∙◌, arith}
+use Rattle.std.proofs.Common.{◌≡◌, ℕ, suc, ◌^◌, ◌<◌, List, [], ◌∷◌, ◌++◌, length, append-nil, append_assoc, All, Some, refl, sym, ap, ◌∙◌, subst, arith}
 use Rattle.std.specs.Prelude.{slice_get, codes}
 use Rattle.std.specs.Fmt.{decimal}
 use Rattle.std.proofs.lemmas.List.Elements.{All-nil, All-cons, All-append}
@@ -16,12 +16,13 @@ use Rattle.tau_trace.specs.Run.{Run}
 use Rattle.tau_trace.specs.Known.{WellFormed}
 use Rattle.tau_states.specs.declared.state_record.StateRecord.{StateRecord}
 use Rattle.tau_states.specs.Opening.{opening_states}
+use Rattle.tau_states.specs.Table.{Holds}
 use Rattle.tau_report.specs.declared.counts.Counts.{Counts}
-use Rattle.tau_report.specs.Report.{count_of, PutsReport}
+use Rattle.tau_report.specs.Report.{count_of, SavedForms, PutsSaved, PutsReport}
 use Rattle.tau_report.specs.Inner.Counted.{IsSurvey}
 use Rattle.tau_report.specs.Inner.Rows.{saved_row, IsRowWritten, counts_tree, PutsRows}
 use Rattle.tau_report.proofs.Counting.{counts_fit}
-use Rattle.tau_report.proofs.SavedRows.{rows_none, rows_more, report_is}
+use Rattle.tau_report.proofs.SavedRows.{rows_none, rows_more, opening_bounded, report_is}
 
 -- no rows
 pub puts_none : (o : Opening) (rs : List StateRecord) (old : List ℕ) → PutsRows o rs 0 old old
@@ -40,6 +41,13 @@ puts_more o rs t r old now new e text bytes written before = record {
   text = text_more before.forms (saved_row o t r) old now new before.text text;
   bytes = All-append HasBytes before.forms (saved_row o t r) before.bytes bytes;
 }
+
+-- the rows of all transactors are the text of the saved states
+pub puts_saved : (P : Program) (T : Run) (o : Opening) (rs records : List StateRecord) (c : Counts) (old new : List ℕ) → Sound P → WellFormed T → IsSurvey T (opening_states P.starts) rs c → o ≡ T.opening → records ≡ rs → PutsRows o records (length records) old new → PutsSaved P T old new
+puts_saved P T o rs records c old new sound w x opening_is records_are rows =
+    let h : Holds T (opening_states P.starts) records = subst (Holds T (opening_states P.starts)) (sym records_are) x.holds in
+    let Q : ℕ → Type 0 = λ n. SavedForms P T n rows.forms in
+    record { saved = rows.forms; saved_are = subst Q h.count (rows.rows P T w (sym opening_is) (opening_bounded P sound) h).0; text = rows.text }
 
 -- a count with its word is of word bytes, and so are the counts
 count_bytes : (name : List ℕ) (n : ℕ) → All IsWordByte name → n < 2 ^ 64 → HasBytes (count_of name n)

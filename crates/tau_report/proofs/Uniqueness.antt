@@ -17,7 +17,7 @@ form_once P T t f g a b =
     let value : a.value ≡ b.value = saved_once T (opening_states P.starts) t a.before a.value b.value a.saved (subst Q same b.saved) in
     a.form_is ∙ (λ i. saved_form T.opening t (suc (sym same i)) (value i)) ∙ sym b.form_is
 
-saved_forms_once : (P : Program) (T : Run) (n : ℕ) (fs gs : List Tree) → SavedForms P T n fs → SavedForms P T n gs → fs ≡ gs
+pub saved_forms_once : (P : Program) (T : Run) (n : ℕ) (fs gs : List Tree) → SavedForms P T n fs → SavedForms P T n gs → fs ≡ gs
 saved_forms_once P T n fs gs none none = refl
 saved_forms_once P T n fs gs (without not a) (without nor b) = saved_forms_once P T _ _ _ a b
 saved_forms_once P T n fs gs (without not a) (with_one one b) = absurd (not one.has)

@@ -96,6 +96,12 @@ pub record IsReportText (P : Program) (T : Run) (bytes : List ℕ) : Type 0 wher
   pub report : IsReport P T forms
   pub text : bytes ≡ printed forms
 
+-- the new text is the old one and that of the printed forms of the saved states
+pub record PutsSaved (P : Program) (T : Run) (old new : List ℕ) : Type 0 where
+  pub saved : List Tree
+  pub saved_are : SavedForms P T (born T (len T)) saved
+  pub text : new ≡ old ++ printed saved
+
 -- the new text is the old one and that of the printed forms of the report, which it spells
 pub record PutsReport (P : Program) (T : Run) (old new : List ℕ) : Type 0 where
   pub forms : List Tree

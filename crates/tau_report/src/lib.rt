@@ -10,4 +10,4 @@ mod writing;
 
 pub use counts::Counts;
 pub use survey::counts_in;
-pub use writing::{counts_form, put_report, report};
+pub use writing::{counts_form, put_report, put_saved, report};

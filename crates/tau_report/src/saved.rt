@@ -44,7 +44,7 @@ fn put_row(
     if is_unlisted(saved) {
         return Ok(());
     }
-    put_saved(out, opening, who, saved)
+    put_state(out, opening, who, saved)
 }
 
 /// Whether a transactor has ended or is at interval 0.
@@ -56,7 +56,7 @@ fn is_unlisted(saved: &StateRecord) -> bool
 
 /// Adds the line of a transactor's saved state.
 #[tactic(auto, using(tau_sexpr::proofs::Literals::word_literal), unfolding(tau_sexpr::specs::Bytes::is_word_byte, tau_sexpr::specs::Bytes::is_letter_or_digit, tau_sexpr::specs::Bytes::is_word_sign))]
-fn put_saved(
+fn put_state(
     out: &mut Vec<u8>,
     opening: &Opening,
     who: u32,

@@ -4,7 +4,7 @@ ghost use Rattle.tau_sexpr.specs.Form.{tree_of};
 ghost use Rattle.tau_sexpr.specs.Tree.{HasWords};
 ghost use Rattle.tau_tree.specs.Sound.{Sound};
 ghost use Rattle.tau_script.specs.Openings.{program_opening};
-ghost use Rattle.tau_report.specs.Report.{counts_form as form_of_run, IsReportText, PutsReport};
+ghost use Rattle.tau_report.specs.Report.{counts_form as form_of_run, IsReportText, PutsReport, PutsSaved};
 ghost use Rattle.tau_report.specs.Inner.Rows.{counts_tree};
 
 use crate::counts::Counts;
@@ -46,6 +46,22 @@ pub fn put_report(
     put_rows(out, trace.opening(), survey.states.records())?;
     let counts = form_of_counts(alloc, survey.counts)?;
     put_form_line(out, &counts)
+}
+
+/// Adds the lines of the saved states alone to the end of `out` (docs/formats.md, "Report"), by transactor. It passes over the
+/// trace once. The error is want of memory, and a part of the lines may then be added.
+pub fn put_saved(
+    alloc: Global,
+    out: &mut Vec<u8>,
+    program: &Program,
+    trace: &Trace,
+) -> Result<(), AllocError>
+    requires opening { trace.now.run.opening ≡ program_opening program.now }
+    requires sound { Sound program.now }
+    ensures { OnOk result (PutsSaved program.now trace.now.run out.old.items out.new.items) }
+{
+    let survey = survey_of(alloc, &program.starts, trace)?;
+    put_rows(out, trace.opening(), survey.states.records())
 }
 
 /// The form of the counts of a trace, the last one of its report (docs/formats.md, "Report"). The error is want of memory.

@@ -1,11 +1,8 @@
 -- The states that are kept, transactor by transactor, as one pass over the steps finds them.
-use Rattle.std.specs.Prelude.{◌≡◌, ◌↔◌, ℕ, suc, ◌<◌, ◌≤◌, ◌^◌, Bool, true, false, List, [], ◌∷◌, Option, Some, None, slice_get, set, length, All, Contains, codes}
-use Rattle.tau_sexpr.specs.Tree.{Tree, word, depths, HasWords, headed}
+use Rattle.std.specs.Prelude.{◌≡◌, ℕ, suc, ◌<◌, ◌≤◌, Bool, true, false, List, [], ◌∷◌, Option, Some, None, slice_get, set, length, codes}
+use Rattle.tau_sexpr.specs.Tree.{Tree, word, headed}
 use Rattle.tau_value.specs.declared.shared.Value.{Value}
-use Rattle.tau_value.specs.Value.{val_of}
-use Rattle.tau_value.specs.Sizes.{IsInBounds}
-use Rattle.tau_value.specs.Written.{count_form, IsWritten}
-use Rattle.tau_tree.specs.declared.programs.Program.{Program}
+use Rattle.tau_value.specs.Written.{count_form}
 use Rattle.tau_trace.specs.declared.opening.Opening.{Opening}
 use Rattle.tau_trace.specs.declared.step.Step.{Step}
 use Rattle.tau_trace.specs.declared.step.Step.TheVariants.{Checkpoint}
@@ -13,16 +10,13 @@ use Rattle.tau_trace.specs.Run.{Run, len, starts}
 use Rattle.tau_trace.specs.Numbering.{born}
 use Rattle.tau_trace.specs.Histories.{Closes}
 use Rattle.tau_trace.specs.Points.{point_at}
-use Rattle.tau_trace.specs.Known.{WellFormed}
 use Rattle.tau_steps.specs.StepForms.{who_form, value_form}
 use Rattle.tau_past.specs.States.{SavedWith}
 use Rattle.tau_states.specs.declared.state_record.StateRecord.{StateRecord}
-use Rattle.tau_states.specs.Opening.{opening_states}
 use Rattle.tau_chains.specs.declared.chained.Chained.{Chained}
 use Rattle.tau_explain.specs.Texts.{chain_forms}
 use Rattle.tau_links.specs.Marks.{IsMarked}
-use Rattle.tau_cut.specs.declared.kept_states.Kept.{Kept}
-use Rattle.tau_cut.specs.KeptStates.{StateForms}
+use Rattle.tau_cut.specs.declared.states.Kept.{Kept}
 
 -- what a record tells of the interval before its own
 abbrev pub kept_of : StateRecord → Kept
@@ -85,24 +79,3 @@ state_form o t kept = headed (codes "state") (who_form o t ∷ count_form kept.i
 abbrev pub state_row : Opening → ℕ → Option Kept → List Tree
 state_row o t None = []
 state_row o t (Some kept) = state_form o t kept ∷ []
-
--- the value, if there is one, is read back as it is
-abbrev pub IsRowWritten : Opening → Option Kept → Type 0
-IsRowWritten o None = Unit {0}
-IsRowWritten o (Some kept) = IsWritten o.names (val_of kept.value)
-
--- its interval, if anything is kept, fits u32
-abbrev pub IsRowSmall : Option Kept → Type 0
-IsRowSmall None = Unit {0}
-IsRowSmall (Some kept) = kept.interval < 2 ^ 32
-
--- forms that can be printed: at most 65 lists deep, and no word is empty
-pub record ArePrintable (forms : List Tree) : Type 0 where
-  pub depth : depths forms ≤ 65
-  pub words : All HasWords forms
-
--- whatever program, run and marks the kept states are of, the forms are those of the first n transactors, and can be printed
-abbrev pub AreStateRows : Opening → List (Option Kept) → ℕ → List Tree → Type 0
-AreStateRows o kept n forms =
-    (P : Program) (T : Run) (marks : List Bool) (steps : List ℕ) → WellFormed T → T.opening ≡ o → All (λ v. IsInBounds (val_of v)) (opening_states P.starts)
-    → AreKept T (opening_states P.starts) marks (len T) kept → ((k : ℕ) → Contains steps k ↔ IsMarked marks k) → StateForms P T steps n forms × ArePrintable forms

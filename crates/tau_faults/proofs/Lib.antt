@@ -1,0 +1,17 @@
+pub mod Apart
+pub mod Coming
+pub mod EndRuns
+pub mod Growing
+pub mod HereLemmas
+pub mod Inserted
+pub mod Left
+pub mod Listed
+pub mod Merging
+pub mod Once
+pub mod Ordered
+pub mod PlacingLemmas
+pub mod Programs
+pub mod Runs
+pub mod SeenLemmas
+pub mod Telling
+pub mod WalkLemmas

@@ -1,0 +1,11 @@
+pub mod Simplest
+pub mod Tables
+pub mod Sorting
+pub mod LineLemmas
+pub mod OneOutcome
+pub mod Ending
+pub mod RowLemmas
+pub mod Visiting
+pub mod OneStorm
+pub mod ClaimLemmas
+pub mod StormLemmas

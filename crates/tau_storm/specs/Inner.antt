@@ -1,0 +1,4 @@
+-- What contracts of inner functions say; no clause of a public call rests on these.
+pub mod Counting
+pub mod Ordered
+pub mod Claiming

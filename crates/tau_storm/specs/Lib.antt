@@ -1,0 +1,9 @@
+pub mod Outcomes
+pub mod Order
+pub mod Lines
+pub mod Tables
+pub mod Laws
+pub mod Seeds
+pub mod Claims
+pub mod Storms
+pub mod Inner

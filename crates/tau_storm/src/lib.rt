@@ -1,0 +1,24 @@
+//! A storm: how the runs of a program end wherever nodes fail and messages are lost, which outcomes there are, and whether a
+//! claim holds at each of them (docs/rules.md, "Storm").
+#![tactic(auto)]
+
+mod claims;
+mod laws;
+mod lines;
+mod order;
+mod outcomes;
+mod rows;
+mod storms;
+mod table;
+mod told;
+mod totals;
+mod trials;
+mod writing;
+
+pub use laws::{lines_are_unique, outcomes_are_unique};
+pub use lines::lines_of;
+pub use outcomes::{Lines, Outcome, Outcomes};
+pub use storms::{Told, Tried, storm, try_claim};
+pub use table::Table;
+pub use totals::Totals;
+pub use writing::{storm_text, totals_text};
