@@ -1,6 +1,6 @@
 -- How what crashes may leave goes on over a run of calls of a disk.
-use Rattle.std.proofs.Common.{inl, inr, ⊎_elim, ℕ, List, arith}
-use Rattle.tau_disk.specs.Moments.{Elapses, LeavesOnly}
+use Rattle.std.proofs.Common.{◌≡◌, inl, inr, ⊎_elim, ℕ, ◌≤◌, List, Option, refl, ◌∙◌, arith}
+use Rattle.tau_disk.specs.Moments.{Elapses, LeavesOnly, IsUntouched}
 
 module _ {D : Type 0} (moment : D → ℕ) (left_since : D → ℕ → List ℕ → Type 0) where
   -- before the first call
@@ -30,4 +30,23 @@ module _ {D : Type 0} (moment : D → ℕ) (left_since : D → ℕ → List ℕ 
     later = omega (arith, one.later, two.later);
     each = λ c left. ⊎_elim (one.each c) (λ p. p) (two.before (moment old) c one.later left);
     before = λ t c le left. ⊎_elim (one.before t c le) (λ p. inr p) (two.before t c (omega (arith, le, one.later)) left);
+  }
+
+-- nothing is written
+module _ {D : Type 0} (bytes : D → Option (List ℕ)) (images : D → List ℕ → Type 0) (moment : D → ℕ) (left_since : D → ℕ → List ℕ → Type 0) (only_now : (d : D) (c : List ℕ) → left_since d (moment d) c → images d c) where
+  -- before the first call
+  pub untouched : (d : D) → IsUntouched bytes images moment left_since d d
+  untouched d = record { same = refl; leaves = started moment left_since d (images d) (only_now d) }
+
+  -- by a call that adds no image
+  pub untouched_by : (old new : D) → bytes new ≡ bytes old → ((c : List ℕ) → images new c → images old c) → Elapses (moment old) (moment new) (left_since old) (left_since new) (images new) → IsUntouched bytes images moment left_since old new
+  untouched_by old new same crash time = record { same = same; leaves = goes_on moment left_since old old new (images old) (images new) (started moment left_since old (images old) (only_now old)) time crash }
+
+  -- by one run of calls after another
+  pub untouched_then : ((d : D) (t : ℕ) (c : List ℕ) → t ≤ moment d → images d c → left_since d t c) → (old mid new : D)
+      → IsUntouched bytes images moment left_since old mid → IsUntouched bytes images moment left_since mid new → IsUntouched bytes images moment left_since old new
+  untouched_then counts_now old mid new one two = record {
+    same = two.same ∙ one.same;
+    leaves = joined moment left_since old mid new (images old) one.leaves
+        (weaker moment left_since mid new (images mid) (images old) (λ c now. one.leaves.each c (counts_now mid (moment old) c one.leaves.later now)) two.leaves);
   }

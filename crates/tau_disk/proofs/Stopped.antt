@@ -61,7 +61,7 @@ within_at b (Tore at bytes ∷ cs) (suc k) x within stands = within_at b cs k x 
 within_at b (Synced ∷ cs) (suc k) x within stands = within_at b cs k x within stands
 
 -- a tear of fewer bytes is one of more
-torn_wider : (at n m : ℕ) (b c : List ℕ) → n ≤ m → Torn at n b c → Torn at m b c
+pub torn_wider : (at n m : ℕ) (b c : List ℕ) → n ≤ m → Torn at n b c → Torn at m b c
 torn_wider at n m b c le torn = record {
   before = torn.before;
   after = behind c ∙ ap (drop (m - n)) torn.after ∙ sym (behind b);

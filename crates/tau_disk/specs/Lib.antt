@@ -1,7 +1,9 @@
 pub mod Bytes
 pub mod Calls
+pub mod Files
 pub mod Inner
 pub mod Memory
 pub mod Moments
 pub mod Noted
 pub mod Stops
+pub mod Torn

@@ -3,6 +3,7 @@
 
 mod disks;
 mod file_disk;
+pub mod laws;
 mod memory_disk;
 
 pub use disks::{Disk, DiskError};

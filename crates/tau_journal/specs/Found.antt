@@ -35,3 +35,10 @@ IsBlankOrHas r file = IsBlank file ⊎ AreRecords (r ∷ []) file
 abbrev pub IsCreateFault : ℕ → List ℕ → ℕ → ℕ → Type 0
 IsCreateFault need file fault at = ((fault ≡ 7) × (at ≡ 0) × (¬ IsBlank file))
     ⊎ ((fault ≡ 8) × IsBlank file × (too_large (length file) need ≡ Some at))
+
+-- the numbers of the faults of making a journal, and of looking for one, on every disk
+abbrev pub IsCreateNumber : ℕ → Type 0
+IsCreateNumber fault = (fault ≡ 7) ⊎ (fault ≡ 8)
+
+abbrev pub IsFindNumber : ℕ → Type 0
+IsFindNumber fault = (fault ≡ 1) ⊎ ((fault ≡ 2) ⊎ (fault ≡ 8))

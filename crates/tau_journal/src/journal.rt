@@ -1,12 +1,12 @@
 //! A journal that is gone on with.
-ghost use Rattle.std.specs.Prelude.{◌≡◌, ◌+◌, ◌≤◌, [], ◌∷◌, ◌++◌, ℕ, List, None, IfOk, IfErr, IfSome, IsErrOf, OnOk, length};
+ghost use Rattle.std.specs.Prelude.{◌≡◌, ◌+◌, ◌≤◌, [], ◌∷◌, ◌++◌, ℕ, List, Some, None, IfOk, IfErr, IfSome, IsErrOf, OnOk, length};
 ghost use Rattle.std.specs.Int.{w32, to_le_bytes};
 ghost use Rattle.tau_io.specs.Faults.{HasRisen};
-ghost use Rattle.tau_disk.specs.Moments.{LeavesOnly};
+ghost use Rattle.tau_disk.specs.Moments.{LeavesOnly, IsUntouched};
 ghost use Rattle.tau_journal.specs.Records.{HasRecords, IsAtRest, TellsRecords, IsBeforeOrAfter, going_on};
-ghost use Rattle.tau_journal.specs.Found.{IsBlank, IsBlankOrHas, IsFault, IsCreateFault};
+ghost use Rattle.tau_journal.specs.Found.{IsBlank, IsBlankOrHas, IsFault, IsCreateFault, IsCreateNumber, IsFindNumber};
 ghost use Rattle.tau_disk.specs.Bytes.{Only};
-ghost use Rattle.tau_journal.specs.Room.{most_bytes, IsTooLarge, IsUnlessSmall, IsFailure, IsFaultOrFailure};
+ghost use Rattle.tau_journal.specs.Room.{most_bytes, too_large, IsTooLarge, IsUnlessSmall, IsFailure, IsFaultOrFailure};
 
 use crate::creating::{blank_size, close_first};
 use crate::errors::JournalError;
@@ -64,7 +64,12 @@ impl Journal {
 
         ensures fault { IfErr result (IsTooLarge (D.bytes disk.old) (gate_of self + 5 + length entry.now + 1)) }
         ensures faulty { IsUnlessSmall (D.bytes disk.old) (gate_of self + 5 + length entry.now + 1) result }
-        ensures unwritten { (fault at : ℕ) → IsErrOf result (JournalError.Fault fault at) → D.bytes disk.new ≡ D.bytes disk.old }
+
+        // After a fault, and whatever is answered where there is no room, nothing was written.
+        ensures unwritten { (fault at : ℕ) → IsErrOf result (JournalError.Fault fault at)
+            → IsUntouched D.bytes D.images D.moment D.left_since disk.old disk.new }
+        ensures full { IfSome (D.bytes disk.old) (λ file. (at : ℕ) → too_large (length file) (gate_of self + 5 + length entry.now + 1) ≡ Some at
+            → IsUntouched D.bytes D.images D.moment D.left_since disk.old disk.new) }
         ensures disk_fault { IsErrOf result JournalError.DiskFault → HasRisen (D.faults disk.old) (D.faults disk.new) }
         ensures never_falls { D.faults disk.old ≤ D.faults disk.new }
     {
@@ -96,7 +101,13 @@ impl Journal {
             → IfSome (D.bytes disk.old) (λ file. IsCreateFault (6 + length entry.now) file fault at) }
         ensures faulty { IfSome (D.bytes disk.old) (λ file. (fault at : ℕ) → IsCreateFault (6 + length entry.now) file fault at
             → IsFaultOrFailure fault at result) }
-        ensures unwritten { (fault at : ℕ) → IsErrOf result (JournalError.Fault fault at) → D.bytes disk.new ≡ D.bytes disk.old }
+        ensures among { (fault at : ℕ) → IsErrOf result (JournalError.Fault fault at) → IsCreateNumber fault }
+
+        // After a fault, and whatever is answered where the disk isn't blank, nothing was written.
+        ensures unwritten { (fault at : ℕ) → IsErrOf result (JournalError.Fault fault at)
+            → IsUntouched D.bytes D.images D.moment D.left_since disk.old disk.new }
+        ensures held { IfSome (D.bytes disk.old) (λ file. (¬ IsBlank file)
+            → IsUntouched D.bytes D.images D.moment D.left_since disk.old disk.new) }
         ensures disk_fault { IsErrOf result JournalError.DiskFault → HasRisen (D.faults disk.old) (D.faults disk.new) }
         ensures never_falls { D.faults disk.old ≤ D.faults disk.new }
     {
@@ -117,7 +128,12 @@ impl Journal {
             → LeavesOnly D.moment D.left_since disk.old disk.new (IsBeforeOrAfter rs going_on) }
         ensures fault { IfErr result (IsTooLarge (D.bytes disk.old) (gate_of self + 5 + length going_on + 1)) }
         ensures faulty { IsUnlessSmall (D.bytes disk.old) (gate_of self + 5 + length going_on + 1) result }
-        ensures unwritten { (fault at : ℕ) → IsErrOf result (JournalError.Fault fault at) → D.bytes disk.new ≡ D.bytes disk.old }
+
+        // After a fault, and whatever is answered where there is no room, nothing was written.
+        ensures unwritten { (fault at : ℕ) → IsErrOf result (JournalError.Fault fault at)
+            → IsUntouched D.bytes D.images D.moment D.left_since disk.old disk.new }
+        ensures full { IfSome (D.bytes disk.old) (λ file. (at : ℕ) → too_large (length file) (gate_of self + 5 + length going_on + 1) ≡ Some at
+            → IsUntouched D.bytes D.images D.moment D.left_since disk.old disk.new) }
         ensures disk_fault { IsErrOf result JournalError.DiskFault → HasRisen (D.faults disk.old) (D.faults disk.new) }
         ensures never_falls { D.faults disk.old ≤ D.faults disk.new }
     {
@@ -136,6 +152,7 @@ impl Journal {
 
         ensures fault { (fault at : ℕ) → IsErrOf result (JournalError.Fault fault at) → IfSome (D.bytes disk.old) (λ file. IsFault file fault at) }
         ensures faulty { IfSome (D.bytes disk.old) (λ file. (fault at : ℕ) → IsFault file fault at → IsFaultOrFailure fault at result) }
+        ensures among { (fault at : ℕ) → IsErrOf result (JournalError.Fault fault at) → IsFindNumber fault }
         ensures same { D.bytes disk.new ≡ D.bytes disk.old }
         ensures untouched { LeavesOnly D.moment D.left_since disk.old disk.new (D.images disk.old) }
         ensures disk_fault { IsErrOf result JournalError.DiskFault → HasRisen (D.faults disk.old) (D.faults disk.new) }

@@ -5,7 +5,7 @@ use Rattle.std.specs.Int.{w32, to_le_bytes}
 use Rattle.tau_tree.specs.declared.programs.Program.{Program}
 use Rattle.tau_trace.specs.Run.{Run}
 use Rattle.tau_journal.specs.Records.{written, HasRecords}
-use Rattle.tau_journal.specs.Found.{IsBlank, IsFault}
+use Rattle.tau_journal.specs.Found.{IsBlank, IsFault, IsFindNumber as IsFirstNumber}
 use Rattle.tau_journal.specs.Room.{most_bytes, IsFailure, IsFaultOrFailure}
 use Rattle.tau_journal.specs.declared.errors.JournalError.{JournalError}
 use Rattle.tau_journal.specs.declared.errors.JournalError.TheVariants.{Fault, DiskFault, NoMemory}
@@ -14,7 +14,7 @@ use Rattle.tau_journal.proofs.Reading as reading
 use Rattle.tau_keeping.specs.declared.faults.RecordFault.{RecordFault}
 use Rattle.tau_keeping.specs.declared.faults.RecordFault.TheVariants.{Item, ScriptFull}
 use Rattle.tau_keeping.specs.Standing.{StandsFor, Stands, StandsAt}
-use Rattle.tau_keeping.specs.Reading.{HasNoProgram, IsReadAs, error_of, IsRecordsFault, in_first, in_later, IsFindFault}
+use Rattle.tau_keeping.specs.Reading.{HasNoProgram, IsReadAs, error_of, IsRecordsFault, in_first, in_later, IsFindFault, IsFindNumber}
 use Rattle.tau_keeping.proofs.Unique.{some_stand}
 use Rattle.tau_keeping.proofs.Once.{one_fault, no_fault, no_program}
 
@@ -166,3 +166,13 @@ error_is {X = X} d e f is same = sym is ∙ same_error {X = X} d f same
 pub no_disk_error : (e : RecordFault) → error_of e ≡ DiskFault → ⊥
 no_disk_error (Item k) same = cc
 no_disk_error (ScriptFull n) same = cc
+
+-- which faults are told
+pub first_number : (fault : ℕ) → IsFirstNumber fault → IsFindNumber fault
+first_number fault (inl one) = inl (omega (arith, one), omega (arith, one))
+first_number fault (inr (inl two)) = inl (omega (arith, two), omega (arith, two))
+first_number fault (inr (inr eight)) = inr (inr eight)
+
+pub later_number : (e : RecordFault) (fault at : ℕ) → error_of e ≡ Fault fault at → IsFindNumber fault
+later_number (Item k) fault at same = let four : 4 ≡ fault = cc in inl (omega (arith, four), omega (arith, four))
+later_number (ScriptFull n) fault at same = let six : 6 ≡ fault = cc in inr (inl (sym six))

@@ -49,3 +49,7 @@ pub data IsRecordsFault (rs : List (List ℕ)) (fault at : ℕ) : Type 0 where
 abbrev pub IsFindFault : List ℕ → ℕ → ℕ → Type 0
 IsFindFault file fault at = IsFault file fault at
     ⊎ ((rs : List (List ℕ)) × (length file ≤ most_bytes) × AreRecords rs file × IsRecordsFault rs fault at)
+
+-- the number of a fault that is told of a disk, on every disk
+abbrev pub IsFindNumber : ℕ → Type 0
+IsFindNumber fault = ((1 ≤ fault) × (fault ≤ 4)) ⊎ ((fault ≡ 6) ⊎ (fault ≡ 8))

@@ -9,7 +9,7 @@ ghost use Rattle.tau_journal.specs.Room.{most_bytes, IsFailure, IsFaultOrFailure
 ghost use Rattle.tau_journal.specs.Gates.{gate_of};
 ghost use Rattle.tau_keeping.specs.Laws.{IsRunOf};
 ghost use Rattle.tau_keeping.specs.Standing.{Stands, StandsAt};
-ghost use Rattle.tau_keeping.specs.Reading.{IsFindFault};
+ghost use Rattle.tau_keeping.specs.Reading.{IsFindFault, IsFindNumber};
 
 use crate::read_records;
 use std::alloc::Global;
@@ -43,6 +43,7 @@ pub fn find<D: Disk>(alloc: Global, disk: &mut D) -> Result<Found, JournalError>
 
     ensures fault { (fault at : ℕ) → IsErrOf result (JournalError.Fault fault at) → IfSome (D.bytes disk.old) (λ file. IsFindFault file fault at) }
     ensures faulty { IfSome (D.bytes disk.old) (λ file. (fault at : ℕ) → IsFindFault file fault at → IsFaultOrFailure fault at result) }
+    ensures among { (fault at : ℕ) → IsErrOf result (JournalError.Fault fault at) → IsFindNumber fault }
     ensures same { D.bytes disk.new ≡ D.bytes disk.old }
     ensures untouched { LeavesOnly D.moment D.left_since disk.old disk.new (D.images disk.old) }
     ensures disk_fault { IsErrOf result JournalError.DiskFault → HasRisen (D.faults disk.old) (D.faults disk.new) }

@@ -1,12 +1,12 @@
 //! Keeping a run: the records of its steps, and of going on after a stop.
-ghost use Rattle.std.specs.Prelude.{◌≡◌, ◌+◌, ◌<◌, ◌≤◌, ℕ, List, IfOk, IfErr, IfSome, IsErrOf, OnOk, length};
+ghost use Rattle.std.specs.Prelude.{◌≡◌, ◌+◌, ◌<◌, ◌≤◌, ℕ, List, Some, IfOk, IfErr, IfSome, IsErrOf, OnOk, length};
 ghost use Rattle.tau_io.specs.Faults.{HasRisen};
 ghost use Rattle.tau_tree.specs.declared.programs.Program.{Program};
 ghost use Rattle.tau_trace.specs.declared.step.Step.{Step};
 ghost use Rattle.tau_trace.specs.Run.{Run, len, appended};
-ghost use Rattle.tau_disk.specs.Moments.{LeavesOnly};
+ghost use Rattle.tau_disk.specs.Moments.{LeavesOnly, IsUntouched};
 ghost use Rattle.tau_journal.specs.Records.{IsAtRest, going_on};
-ghost use Rattle.tau_journal.specs.Room.{most_bytes, IsTooLarge, IsUnlessSmall};
+ghost use Rattle.tau_journal.specs.Room.{most_bytes, too_large, IsTooLarge, IsUnlessSmall};
 ghost use Rattle.tau_journal.specs.Gates.{gate_of};
 ghost use Rattle.tau_revival.specs.Revival.{IsRevival};
 ghost use Rattle.tau_keeping.specs.Standing.{IsStepText, HasStepText, StandsAt, StandsForEither};
@@ -49,7 +49,10 @@ pub fn keep_step<D: Disk>(
         → IsTooLarge (D.bytes disk.old) (gate_of journal + 5 + length r + 1) (JournalError.Fault fault at) }
     ensures faulty { (T : Run) (s : Step) (r : List ℕ) → trace.now.run ≡ appended T s → IsStepText T s r
         → IsUnlessSmall (D.bytes disk.old) (gate_of journal + 5 + length r + 1) result }
-    ensures unwritten { (fault at : ℕ) → IsErrOf result (JournalError.Fault fault at) → D.bytes disk.new ≡ D.bytes disk.old }
+
+    // After a fault nothing was written.
+    ensures unwritten { (fault at : ℕ) → IsErrOf result (JournalError.Fault fault at)
+        → IsUntouched D.bytes D.images D.moment D.left_since disk.old disk.new }
     ensures disk_fault { IsErrOf result JournalError.DiskFault → HasRisen (D.faults disk.old) (D.faults disk.new) }
     ensures never_falls { D.faults disk.old ≤ D.faults disk.new }
 {
@@ -72,7 +75,12 @@ pub fn keep_mark<D: Disk>(
         → LeavesOnly D.moment D.left_since disk.old disk.new (StandsForEither P T Q T) }
     ensures fault { IfErr result (IsTooLarge (D.bytes disk.old) (gate_of journal + 5 + length going_on + 1)) }
     ensures faulty { IsUnlessSmall (D.bytes disk.old) (gate_of journal + 5 + length going_on + 1) result }
-    ensures unwritten { (fault at : ℕ) → IsErrOf result (JournalError.Fault fault at) → D.bytes disk.new ≡ D.bytes disk.old }
+
+    // After a fault, and whatever is answered where there is no room, nothing was written.
+    ensures unwritten { (fault at : ℕ) → IsErrOf result (JournalError.Fault fault at)
+        → IsUntouched D.bytes D.images D.moment D.left_since disk.old disk.new }
+    ensures full { IfSome (D.bytes disk.old) (λ file. (at : ℕ) → too_large (length file) (gate_of journal + 5 + length going_on + 1) ≡ Some at
+        → IsUntouched D.bytes D.images D.moment D.left_since disk.old disk.new) }
     ensures disk_fault { IsErrOf result JournalError.DiskFault → HasRisen (D.faults disk.old) (D.faults disk.new) }
     ensures never_falls { D.faults disk.old ≤ D.faults disk.new }
 {

@@ -5,9 +5,9 @@ ghost use Rattle.tau_sexpr.specs.Printing.{printed};
 ghost use Rattle.tau_tree.specs.Sound.{Sound};
 ghost use Rattle.tau_forms.specs.Printed as forms;
 ghost use Rattle.tau_disk.specs.Bytes.{Only};
-ghost use Rattle.tau_disk.specs.Moments.{LeavesOnly};
+ghost use Rattle.tau_disk.specs.Moments.{LeavesOnly, IsUntouched};
 ghost use Rattle.tau_journal.specs.Records.{IsAtRest, TellsRecords};
-ghost use Rattle.tau_journal.specs.Found.{IsBlank, IsCreateFault};
+ghost use Rattle.tau_journal.specs.Found.{IsBlank, IsCreateFault, IsCreateNumber};
 ghost use Rattle.tau_journal.specs.Room.{most_bytes, IsFaultOrFailure};
 ghost use Rattle.tau_journal.specs.Gates.{gate_of};
 ghost use Rattle.tau_keeping.specs.Standing.{opened, StandsAt, IsBlankOrBegins};
@@ -43,7 +43,13 @@ pub fn create<D: Disk>(
         → IfSome (D.bytes disk.old) (λ file. IsCreateFault (6 + length (printed (forms.printed program.now))) file fault at) }
     ensures faulty { IfSome (D.bytes disk.old) (λ file. (fault at : ℕ) → IsCreateFault (6 + length (printed (forms.printed program.now))) file fault at
         → IsFaultOrFailure fault at result) }
-    ensures unwritten { (fault at : ℕ) → IsErrOf result (JournalError.Fault fault at) → D.bytes disk.new ≡ D.bytes disk.old }
+    ensures among { (fault at : ℕ) → IsErrOf result (JournalError.Fault fault at) → IsCreateNumber fault }
+
+    // After a fault, and whatever is answered where the disk isn't blank, nothing was written.
+    ensures unwritten { (fault at : ℕ) → IsErrOf result (JournalError.Fault fault at)
+        → IsUntouched D.bytes D.images D.moment D.left_since disk.old disk.new }
+    ensures held { IfSome (D.bytes disk.old) (λ file. (¬ IsBlank file)
+        → IsUntouched D.bytes D.images D.moment D.left_since disk.old disk.new) }
     ensures disk_fault { IsErrOf result JournalError.DiskFault → HasRisen (D.faults disk.old) (D.faults disk.new) }
     ensures never_falls { D.faults disk.old ≤ D.faults disk.new }
 {

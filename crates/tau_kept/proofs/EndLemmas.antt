@@ -13,7 +13,7 @@ use Rattle.tau_cli.specs.Status.{of_end, IsResult}
 use Rattle.tau_cli.specs.Output.{Writing}
 use Rattle.tau_cli.specs.Ends.{Effect, Asks, Tells, Ends}
 use Rattle.tau_cli.proofs.EndLemmas.{stopped}
-use Rattle.tau_kept.specs.Disks.{DiskEffect}
+use Rattle.tau_kept.specs.Disks.{DiskEffect, IsUnwritten}
 use Rattle.tau_kept.specs.Texts.{IsKeptText, IsResumedText, WritesText}
 use Rattle.tau_kept.specs.Ends.{IsTextStatus, IsKeepRefusal, IsUnlessFailed, KeepRefusals, ResumeRefusals, KeepEnds, ResumeEnds, EndsOverJournal, KeptEnds}
 use Rattle.tau_kept.specs.Inner.{Keeps, Resumes, Finishes}
@@ -96,28 +96,29 @@ module _ (jobs seed steps : ℕ) (source sink : Effect) (disk : DiskEffect) wher
       let runs = k.text.runs.runs in
       let both = told (IsKeptText jobs seed steps source.before disk) sink o k.text (λ s. IsTextStatus s × Refuses s)
       (text_status steps runs.program runs.run o.end runs.ends, k.refusals) (tt, keep_failed o k.refusals) (tt, keeping.no_memory jobs seed steps source disk) status t in
-      record { is_status = inr both.0.0; refusals = both.0.1; any_moment = k.any_moment; text = both.1 }
+      record { is_status = inr both.0.0; refusals = both.0.1; any_moment = k.any_moment; held = k.held; text = both.1 }
   keep_finished (Err s) status k t =
       subst (KeepEnds jobs seed steps source sink disk) (sym t.0) (record {
         is_status = inl k.is_status;
         refusals = k.refusals;
         any_moment = k.any_moment;
+        held = k.held;
         text = writes_nothing (IsKeptText jobs seed steps source.before disk) sink s k.is_status t.1;
       })
 
 -- ---- resume
 
 module _ (steps : ℕ) (sink : Effect) (disk : DiskEffect) where
-  resume_failed : (o : Output) → ResumeRefusals disk (of_end o.end) → ResumeRefusals disk WriteFault
-  resume_failed o refuses = resuming.quiet disk WriteFault tt
+  resume_failed : (o : Output) → ResumeRefusals steps disk (of_end o.end) → ResumeRefusals steps disk WriteFault
+  resume_failed o refuses = resuming.quiet disk steps WriteFault tt
       (λ file fault at told h. absurd (never_failed o.end fault at (refuses.faulty file fault at told h)))
       (λ file fault at told few h. absurd (never_failed o.end fault at (refuses.unrevived file fault at told few h)))
 
   pub resume_finished : (made : Result Output Status) (status : Status) → Resumes steps disk made → Finishes made sink status → ResumeEnds steps sink disk status
   resume_finished (Ok o) status k t =
       let runs = k.text.runs in
-      let both = told (IsResumedText steps disk) sink o k.text (λ s. IsTextStatus s × ResumeRefusals disk s)
-      (text_status _ runs.program runs.run o.end runs.ends, k.refusals) (tt, resume_failed o k.refusals) (tt, resuming.no_memory disk) status t in
+      let both = told (IsResumedText steps disk) sink o k.text (λ s. IsTextStatus s × ResumeRefusals steps disk s)
+      (text_status _ runs.program runs.run o.end runs.ends, k.refusals) (tt, resume_failed o k.refusals) (tt, resuming.no_memory disk steps) status t in
       record { is_status = inr both.0.0; refusals = both.0.1; stays = k.stays; any_moment = k.any_moment; text = both.1 }
   resume_finished (Err s) status k t =
       subst (ResumeEnds steps sink disk) (sym t.0) (record {
@@ -132,20 +133,21 @@ module _ (steps : ℕ) (sink : Effect) (disk : DiskEffect) where
 
 -- nothing was begun, since memory ran out
 module _ (W : Writing) (line : List (List ℕ)) (source sink : Effect) (disk : DiskEffect) (unread : source.Stayed) (unwritten : sink.Stayed) (untouched : disk.Stayed)
-    (left : keeping.LeavesKept 0 0 0 source disk) (stays : resuming.Stays disk) (left_resumed : resuming.LeavesResumed disk) where
+    (left : keeping.LeavesKept 0 0 0 source disk) (held : keeping.HeldStays 0 0 0 source disk) (nothing : IsUnwritten disk) (left_resumed : resuming.LeavesResumed disk) where
   not_begun : (command : JournalCommand) → EndsOverJournal command source sink disk NoMemory
   not_begun (Keep jobs seed steps) = record {
     is_status = inr tt;
     refusals = keeping.no_memory jobs seed steps source disk;
     any_moment = left;
+    held = held;
     text = writes_nothing (IsKeptText jobs seed steps source.before disk) sink NoMemory tt unwritten;
   }
   not_begun (Resume jobs seed steps) = (
     unread,
     record {
       is_status = inr tt;
-      refusals = resuming.no_memory disk;
-      stays = stays;
+      refusals = resuming.no_memory disk steps;
+      stays = record { faulty = λ file fault at told h. nothing; unrevived = λ file fault at told few h. nothing; complete = λ file P T told stands legal whole. nothing };
       any_moment = left_resumed;
       text = writes_nothing (IsResumedText steps disk) sink NoMemory tt unwritten;
     },

@@ -14,9 +14,9 @@ use Rattle.tau_text.specs.Faults.{IsProgramFault}
 use Rattle.tau_text.specs.Meaning.{IsProgram}
 use Rattle.tau_text.proofs.FaultLemmas.{program_unique}
 use Rattle.tau_disk.specs.Bytes.{Only}
-use Rattle.tau_disk.specs.Moments.{LeavesOnly}
+use Rattle.tau_disk.specs.Moments.{LeavesOnly, IsUntouched}
 use Rattle.tau_disk.proofs.Moments.{started, weaker}
-use Rattle.tau_journal.specs.Found.{IsBlank, IsCreateFault}
+use Rattle.tau_journal.specs.Found.{IsBlank, IsCreateFault, IsCreateNumber}
 use Rattle.tau_journal.specs.Room.{IsFaultOrFailure}
 use Rattle.tau_journal.specs.declared.errors.JournalError.{JournalError}
 use Rattle.tau_journal.specs.declared.errors.JournalError.TheVariants as journals
@@ -33,7 +33,7 @@ use Rattle.tau_cli.specs.Status.{of_end, of_read_error, of_input_error, of_journ
 use Rattle.tau_cli.specs.Output.{AreLeft, IsTooLong, IsUnlessUnread}
 use Rattle.tau_cli.specs.Ends.{Effect}
 use Rattle.tau_cli.proofs.OutputLemmas.{left_told}
-use Rattle.tau_kept.specs.Disks.{DiskEffect}
+use Rattle.tau_kept.specs.Disks.{DiskEffect, IsUnwritten}
 use Rattle.tau_kept.specs.Texts.{SpellsProgram, IsBlankOrOfInput, IsKeptText}
 use Rattle.tau_kept.specs.Ends.{IsTextStatus, IsKeepRefusal, IsFaultyProgram, IsUnkept, IsUnlessFailed, KeepRefusals}
 use Rattle.tau_kept.specs.Inner.{Keeps}
@@ -55,6 +55,10 @@ module _ (jobs seed steps : ℕ) (source : Effect) (disk : DiskEffect) where
   abbrev pub LeavesKept : Type 0
   LeavesKept = IfSome disk.before (λ file. IsBlank file → Only disk.before disk.images_before → disk.Leaves (IsBlankOrOfInput source.before))
 
+  -- a disk that isn't blank stays
+  abbrev pub HeldStays : Type 0
+  HeldStays = IfSome disk.before (λ file. (¬ IsBlank file) → IsUnwritten disk)
+
   -- a status of a text
   pub quiet : (s : Status) → IsTextStatus s → TellsFaulty s → TellsUnkept s → Refuses s
   quiet s is faulty unkept = record {
@@ -64,6 +68,7 @@ module _ (jobs seed steps : ℕ) (source : Effect) (disk : DiskEffect) where
     unread = λ e. absurd (another s ReadFault is (λ x. x) e);
     untouched = λ fault at e. absurd (another s (Input fault at) is (λ x. x) e);
     journal = λ fault at e. absurd (another s (Journal fault at) is (λ x. x) e);
+    among = λ fault at e. absurd (another s (Journal fault at) is (λ x. x) e);
     unkept = unkept;
     held = λ at e. absurd (another s (Journal 7 at) is (λ x. x) e);
     disk_fault = λ e. absurd (another s DiskFault is (λ x. x) e);
@@ -81,6 +86,7 @@ module _ (jobs seed steps : ℕ) (source : Effect) (disk : DiskEffect) where
     unread = λ e. absurd (cc);
     untouched = λ f a e. stayed;
     journal = λ f a e. absurd (cc);
+    among = λ f a e. absurd (cc);
     unkept = unkept;
     held = λ a e. absurd (cc);
     disk_fault = λ e. absurd (cc);
@@ -106,6 +112,7 @@ module _ (jobs seed steps : ℕ) (source : Effect) (disk : DiskEffect) where
     unread = λ e. stayed;
     untouched = λ fault at e. stayed;
     journal = λ fault at e. absurd (cc);
+    among = λ fault at e. absurd (cc);
     unkept = λ bytes file P fault at told few is before h. inl refl;
     held = λ at e. absurd (cc);
     disk_fault = λ e. absurd (cc);
@@ -169,10 +176,11 @@ module _ (jobs seed steps : ℕ) (source : Effect) (disk : DiskEffect) where
 
       -- no journal is made, or it has no room
       module _ (X : Type 0) (e : JournalError)
-          (fault_is : (fault at : ℕ) → e ≡ journals.Fault fault at → IfSome disk.before (λ file. IsKeepFault P file disk.after fault at))
+          (fault_is : (fault at : ℕ) → e ≡ journals.Fault fault at → IfSome disk.before (λ file. IsKeepFault P jobs seed steps file disk.after fault at))
           (faulty : IfSome disk.before (λ file. (fault at : ℕ) → IsCreateFault (first_size P) file fault at → IsFaultOrFailure {X = X} fault at (Err e)))
-          (unwritten : (at : ℕ) → e ≡ journals.Fault 7 at → disk.after ≡ disk.before) (failed : e ≡ journals.DiskFault → disk.Failed) where
-        unkept_so : (told : Option (List ℕ)) (fault at : ℕ) → IfSome told (λ file. IsKeepFault P file disk.after fault at) → IfSome told (λ file. IsUnkept source.before file disk.after fault at)
+          (among : (fault at : ℕ) → e ≡ journals.Fault fault at → IsCreateNumber fault)
+          (unwritten : (at : ℕ) → e ≡ journals.Fault 7 at → IsUnwritten disk) (failed : e ≡ journals.DiskFault → disk.Failed) where
+        unkept_so : (told : Option (List ℕ)) (fault at : ℕ) → IfSome told (λ file. IsKeepFault P jobs seed steps file disk.after fault at) → IfSome told (λ file. IsUnkept jobs seed steps source.before file disk.after fault at)
         unkept_so None fault at is = tt
         unkept_so (Some file) fault at is = (P, spells, is)
 
@@ -184,6 +192,7 @@ module _ (jobs seed steps : ℕ) (source : Effect) (disk : DiskEffect) where
           unread = λ is. absurd (journal_never e ReadFault (λ x. x) is);
           untouched = λ fault at is. absurd (journal_never e (Input fault at) (λ x. x) is);
           journal = λ fault at is. unkept_so disk.before fault at (fault_is fault at (fault_of_status e fault at is));
+          among = λ fault at is. among fault at (fault_of_status e fault at is);
           unkept = λ other file Q fault at told l means before h.
               inr (failure_told {X = X} e fault at (if_some_at disk.before (λ f. (n a : ℕ) → IsCreateFault (first_size P) f n a → IsFaultOrFailure {X = X} n a (Err e)) file before faulty fault at
               (subst (λ R. IsCreateFault (first_size R) file fault at) (same_program other Q told means) h)));
@@ -216,22 +225,23 @@ module _ (jobs seed steps : ℕ) (source : Effect) (disk : DiskEffect) where
               (subst (λ (U : Run). IfSome disk.before (λ file. IsBlank file → Only disk.before disk.images_before → disk.Leaves (IsBlankOrFrontOf P U))) (sym run_is) front);
         }
 
-        pub keeps : LeavesKept → Keeps jobs seed steps source disk (Ok o)
-        keeps left = record {
+        pub keeps : LeavesKept → HeldStays → Keeps jobs seed steps source disk (Ok o)
+        keeps left held = record {
           is_status = tt;
           refusals = quiet (of_end o.end) (text_status steps r.program r.run o.end r.ends) (never_faulty (of_end o.end))
               (λ other file Q fault at told l means before h.
               absurd (no_failure x fault at (if_some_at disk.before (λ f. (n a : ℕ) → IsCreateFault (first_size P) f n a → IsFaultOrFailure {X = X} n a (Ok x)) file before faulty fault at
               (subst (λ R. IsCreateFault (first_size R) file fault at) (same_program other Q told means) h))));
           any_moment = left;
+          held = held;
           text = kept_text;
         }
 
   -- no text came of it
-  pub keeps_not : (made : Result Output Status) (e : Status) → IsErrAnd made (λ s. s ≡ e) → IsKeepRefusal e → Refuses e → LeavesKept → Keeps jobs seed steps source disk made
-  keeps_not (Ok o) e h is refuses left = absurd h
-  keeps_not (Err s) e h is refuses left =
-      subst (λ x. Keeps jobs seed steps source disk (Err x)) (sym h) (record { is_status = is; refusals = refuses; any_moment = left; text = tt })
+  pub keeps_not : (made : Result Output Status) (e : Status) → IsErrAnd made (λ s. s ≡ e) → IsKeepRefusal e → Refuses e → LeavesKept → HeldStays → Keeps jobs seed steps source disk made
+  keeps_not (Ok o) e h is refuses left held = absurd h
+  keeps_not (Err s) e h is refuses left held =
+      subst (λ x. Keeps jobs seed steps source disk (Err x)) (sym h) (record { is_status = is; refusals = refuses; any_moment = left; held = held; text = tt })
 
 pub read_refuses : (e : ReadError) → IsKeepRefusal (of_read_error e)
 read_refuses reads.ReadFault = tt
@@ -248,3 +258,19 @@ pub blank_still : {D : Type 0} (images : D → List ℕ → Type 0) (moment : D 
 blank_still images moment left_since only_now d left None = tt
 blank_still images moment left_since only_now d left (Some file) =
     λ blank only. started moment left_since d (IsBlankOrOfInput left) (λ c now. inl (subst IsBlank (sym (only c (only_now d c now))) blank))
+
+pub held_still : {D : Type 0} (images : D → List ℕ → Type 0) (moment : D → ℕ) (left_since : D → ℕ → List ℕ → Type 0) → ((d : D) (c : List ℕ) → left_since d (moment d) c → images d c)
+    → (d : D) (told : Option (List ℕ)) → IfSome told (λ file. (¬ IsBlank file) → (told ≡ told) × LeavesOnly moment left_since d d (images d))
+held_still images moment left_since only_now d None = tt
+held_still images moment left_since only_now d (Some file) = λ held. (refl, started moment left_since d (images d) (only_now d))
+
+-- a disk to which nothing was written
+pub unwritten_so : {D : Type 0} (bytes : D → Option (List ℕ)) (images : D → List ℕ → Type 0) (moment : D → ℕ) (left_since : D → ℕ → List ℕ → Type 0) (old new : D)
+    → IsUntouched bytes images moment left_since old new → (bytes new ≡ bytes old) × LeavesOnly moment left_since old new (images old)
+unwritten_so bytes images moment left_since old new u = (u.same, u.leaves)
+
+pub held_so : {D : Type 0} (bytes : D → Option (List ℕ)) (images : D → List ℕ → Type 0) (moment : D → ℕ) (left_since : D → ℕ → List ℕ → Type 0) (old new : D) (told : Option (List ℕ))
+    → IfSome told (λ file. (¬ IsBlank file) → IsUntouched bytes images moment left_since old new)
+    → IfSome told (λ file. (¬ IsBlank file) → (bytes new ≡ bytes old) × LeavesOnly moment left_since old new (images old))
+held_so bytes images moment left_since old new None untouched = tt
+held_so bytes images moment left_since old new (Some file) untouched = λ held. unwritten_so bytes images moment left_since old new (untouched held)

@@ -1,5 +1,5 @@
 -- Why a run isn't gone on with, and what is written of one that was.
-use Rattle.std.proofs.Common.{◌≡◌, ◌≢◌, inl, inr, ℕ, ◌≤◌, max, List, length, Bool, Option, Some, IfSome, Result, Ok, Err, refl, sym, subst}
+use Rattle.std.proofs.Common.{◌≡◌, ◌≢◌, inl, inr, ℕ, ◌≤◌, max, List, length, Bool, Option, Some, None, IfSome, Result, Ok, Err, refl, sym, subst}
 use Rattle.std.specs.Result.{IsErrAnd}
 use Rattle.tau_sexpr.specs.Printing.{printed}
 use Rattle.tau_tree.specs.declared.programs.Program.{Program}
@@ -7,14 +7,14 @@ use Rattle.tau_forms.specs.Printed as forms
 use Rattle.tau_trace.specs.Run.{Run, len}
 use Rattle.tau_legal.specs.Traces.{Legal, Complete}
 use Rattle.tau_disk.specs.Bytes.{Only}
-use Rattle.tau_disk.specs.Moments.{LeavesOnly}
+use Rattle.tau_disk.specs.Moments.{LeavesOnly, IsUntouched}
 use Rattle.tau_disk.proofs.Moments.{started}
 use Rattle.tau_journal.specs.Room.{most_bytes, IsFaultOrFailure}
 use Rattle.tau_journal.specs.declared.errors.JournalError.{JournalError}
 use Rattle.tau_journal.specs.declared.errors.JournalError.TheVariants as journals
 use Rattle.tau_keeping.specs.Standing.{Stands}
 use Rattle.tau_keeping.proofs.Finds.{no_failure}
-use Rattle.tau_resuming.specs.Faults.{IsResumeFault}
+use Rattle.tau_resuming.specs.Faults.{IsResumeFault, IsResumeNumber}
 use Rattle.tau_recording.specs.Kept.{IsKeptOn}
 use Rattle.tau_recording.specs.Resumed.{IsResumed, StandsForResumed, StandsForFrontOf, IsUnrevived, IsResumeRunFault}
 use Rattle.tau_recording.proofs.Onward.{begins_itself}
@@ -23,8 +23,8 @@ use Rattle.tau_output.specs.Runs.{RunsAs}
 use Rattle.tau_cli.specs.declared.statuses.Status.{Status}
 use Rattle.tau_cli.specs.declared.statuses.Status.TheVariants.{NoMemory, Journal, DiskFault}
 use Rattle.tau_cli.specs.Status.{of_end, of_journal_error}
-use Rattle.tau_kept.specs.Disks.{DiskEffect}
-use Rattle.tau_kept.specs.Ends.{IsTextStatus, IsResumeRefusal, IsUnlessFailed, ResumeRefusals}
+use Rattle.tau_kept.specs.Disks.{DiskEffect, IsUnwritten}
+use Rattle.tau_kept.specs.Ends.{IsTextStatus, IsResumeRefusal, IsUnlessFailed, ResumeRefusals, ResumeStays}
 use Rattle.tau_kept.specs.Inner.{Resumes}
 use Rattle.tau_kept.proofs.StatusLemmas.{if_some_at, another, text_status, failure_told, fault_of_status, failure_of_status}
 
@@ -40,43 +40,49 @@ module _ (disk : DiskEffect) where
   abbrev pub TellsUnrevived : Status → Type 0
   TellsUnrevived s = (file : List ℕ) (fault at : ℕ) → disk.before ≡ Some file → length file ≤ most_bytes → IsUnrevived file fault at → IsUnlessFailed s (Journal fault at)
 
-  -- a complete run stays
-  abbrev pub Stays : Type 0
-  Stays = (file : List ℕ) (P : Program) (T : Run) → disk.before ≡ Some file → Stands file P T → Legal P T → Complete P T → disk.after ≡ disk.before
-
   -- what a crash leaves
   abbrev pub LeavesResumed : Type 0
   LeavesResumed = (file : List ℕ) (P : Program) (T : Run) → disk.before ≡ Some file → Only disk.before disk.images_before → Stands file P T → Legal P T → disk.Leaves (StandsForResumed P T)
 
-  pub told_stays : IfSome disk.before (λ file. (P : Program) (T : Run) → Stands file P T → Legal P T → Complete P T → disk.after ≡ disk.before) → Stays
-  told_stays stays file P T told stands legal complete =
-      told_each (λ f. (Q : Program) (U : Run) → Stands f Q U → Legal Q U → Complete Q U → disk.after ≡ disk.before) disk.before stays file told P T stands legal complete
+  -- where nothing is written
+  pub told_stays : IfSome disk.before (λ file. (fault at : ℕ) → IsResumeFault file fault at → IsUnwritten disk)
+      → IfSome disk.before (λ file. (fault at : ℕ) → length file ≤ most_bytes → IsUnrevived file fault at → IsUnwritten disk)
+      → IfSome disk.before (λ file. (P : Program) (T : Run) → Stands file P T → Legal P T → Complete P T → IsUnwritten disk) → ResumeStays disk
+  told_stays faulty unrevived complete = record {
+    faulty = λ file fault at told h. told_each (λ f. (n a : ℕ) → IsResumeFault f n a → IsUnwritten disk) disk.before faulty file told fault at h;
+    unrevived = λ file fault at told few h. told_each (λ f. (n a : ℕ) → length f ≤ most_bytes → IsUnrevived f n a → IsUnwritten disk) disk.before unrevived file told fault at few h;
+    complete = λ file P T told stands legal whole.
+        told_each (λ f. (Q : Program) (U : Run) → Stands f Q U → Legal Q U → Complete Q U → IsUnwritten disk) disk.before complete file told P T stands legal whole;
+  }
 
   pub told_leaves : IfSome disk.before (λ file. Only disk.before disk.images_before → (P : Program) (T : Run) → Stands file P T → Legal P T → disk.Leaves (StandsForResumed P T)) → LeavesResumed
   told_leaves left file P T told only stands legal =
       told_each (λ f. Only disk.before disk.images_before → (Q : Program) (U : Run) → Stands f Q U → Legal Q U → disk.Leaves (StandsForResumed Q U)) disk.before left file told only P T stands legal
 
   -- a status of a text
-  pub quiet : (s : Status) → IsTextStatus s → TellsFaulty s → TellsUnrevived s → ResumeRefusals disk s
-  quiet s is faulty unrevived = record {
+  pub quiet : (steps : ℕ) (s : Status) → IsTextStatus s → TellsFaulty s → TellsUnrevived s → ResumeRefusals steps disk s
+  quiet steps s is faulty unrevived = record {
     journal = λ fault at e. absurd (another s (Journal fault at) is (λ x. x) e);
+    among = λ fault at e. absurd (another s (Journal fault at) is (λ x. x) e);
     faulty = faulty;
     unrevived = unrevived;
     unwritten = λ fault at other e. absurd (another s (Journal fault at) is (λ x. x) e);
     disk_fault = λ e. absurd (another s DiskFault is (λ x. x) e);
   }
 
-  pub no_memory : ResumeRefusals disk NoMemory
-  no_memory = quiet NoMemory tt (λ file fault at told h. inr (inr refl)) (λ file fault at told few h. inr (inr refl))
+  pub no_memory : (steps : ℕ) → ResumeRefusals steps disk NoMemory
+  no_memory steps = quiet steps NoMemory tt (λ file fault at told h. inr (inr refl)) (λ file fault at told few h. inr (inr refl))
 
   -- of an error of the journal
-  pub refused : (X : Type 0) (e : JournalError)
-      → ((fault at : ℕ) → e ≡ journals.Fault fault at → IfSome disk.before (λ file. IsResumeRunFault file disk.after fault at))
+  pub refused : (steps : ℕ) (X : Type 0) (e : JournalError)
+      → ((fault at : ℕ) → e ≡ journals.Fault fault at → IfSome disk.before (λ file. IsResumeRunFault steps file disk.after fault at))
+      → ((fault at : ℕ) → e ≡ journals.Fault fault at → IsResumeNumber fault)
       → IfSome disk.before (λ file. (fault at : ℕ) → IsResumeFault file fault at → IsFaultOrFailure {X = X} fault at (Err e))
       → IfSome disk.before (λ file. (fault at : ℕ) → length file ≤ most_bytes → IsUnrevived file fault at → IsFaultOrFailure {X = X} fault at (Err e))
-      → ((fault at : ℕ) → fault ≢ 8 → e ≡ journals.Fault fault at → disk.after ≡ disk.before) → (e ≡ journals.DiskFault → disk.Failed) → ResumeRefusals disk (of_journal_error e)
-  refused X e fault_is faulty unrevived unwritten failed = record {
+      → ((fault at : ℕ) → fault ≢ 8 → e ≡ journals.Fault fault at → IsUnwritten disk) → (e ≡ journals.DiskFault → disk.Failed) → ResumeRefusals steps disk (of_journal_error e)
+  refused steps X e fault_is among faulty unrevived unwritten failed = record {
     journal = λ fault at is. fault_is fault at (fault_of_status e fault at is);
+    among = λ fault at is. among fault at (fault_of_status e fault at is);
     faulty = λ file fault at told h. failure_told {X = X} e fault at
         (told_each (λ f. (n a : ℕ) → IsResumeFault f n a → IsFaultOrFailure {X = X} n a (Err e)) disk.before faulty file told fault at h);
     unrevived = λ file fault at told few h. failure_told {X = X} e fault at
@@ -93,10 +99,10 @@ module _ (disk : DiskEffect) where
       (r : RunsAs (max steps (len resumed.run)) (printed (forms.printed Q)) o.end o.text.items) (program : r.program ≡ Q) (run_is : r.run ≡ U)
       (kept : IfSome disk.before (λ _. IsKeptOn disk.after disk.images_after Q U))
       (front : IfSome disk.before (λ _. Only disk.before disk.images_before → disk.Leaves (StandsForFrontOf U))) where
-    pub resumes : Stays → LeavesResumed → Resumes steps disk (Ok o)
+    pub resumes : ResumeStays disk → LeavesResumed → Resumes steps disk (Ok o)
     resumes stays left = record {
       is_status = tt;
-      refusals = quiet (of_end o.end) (text_status (max steps (len resumed.run)) r.program r.run o.end r.ends)
+      refusals = quiet steps (of_end o.end) (text_status (max steps (len resumed.run)) r.program r.run o.end r.ends)
           (λ file fault at told h. absurd (no_failure x fault at (told_each (λ f. (n a : ℕ) → IsResumeFault f n a → IsFaultOrFailure {X = X} n a (Ok x)) disk.before faulty file told fault at h)))
           (λ file fault at told few h. absurd (no_failure x fault at
           (told_each (λ f. (n a : ℕ) → length f ≤ most_bytes → IsUnrevived f n a → IsFaultOrFailure {X = X} n a (Ok x)) disk.before unrevived file told fault at few h)));
@@ -116,12 +122,38 @@ module _ (disk : DiskEffect) where
     }
 
   -- no text came of it
-  pub resumes_not : (steps : ℕ) (made : Result Output Status) (e : Status) → IsErrAnd made (λ s. s ≡ e) → IsResumeRefusal e → ResumeRefusals disk e → Stays → LeavesResumed → Resumes steps disk made
+  pub resumes_not : (steps : ℕ) (made : Result Output Status) (e : Status) → IsErrAnd made (λ s. s ≡ e) → IsResumeRefusal e → ResumeRefusals steps disk e → ResumeStays disk → LeavesResumed → Resumes steps disk made
   resumes_not steps (Ok o) e h is refuses stays left = absurd h
   resumes_not steps (Err s) e h is refuses stays left =
       subst (λ x. Resumes steps disk (Err x)) (sym h) (record { is_status = is; refusals = refuses; stays = stays; any_moment = left; text = tt })
 
+-- a disk to which nothing was written
+module _ {D : Type 0} (bytes : D → Option (List ℕ)) (images : D → List ℕ → Type 0) (moment : D → ℕ) (left_since : D → ℕ → List ℕ → Type 0) (old new : D) where
+  abbrev pub Unwritten : Type 0
+  Unwritten = (bytes new ≡ bytes old) × LeavesOnly moment left_since old new (images old)
+
+  abbrev pub Untouched : Type 0
+  Untouched = IsUntouched bytes images moment left_since old new
+
+  pub faulty_so : (told : Option (List ℕ)) → IfSome told (λ file. (fault at : ℕ) → IsResumeFault file fault at → Untouched) → IfSome told (λ file. (fault at : ℕ) → IsResumeFault file fault at → Unwritten)
+  faulty_so None stays = tt
+  faulty_so (Some file) stays = λ fault at h. let u = stays fault at h in (u.same, u.leaves)
+
+  pub unrevived_so : (told : Option (List ℕ)) → IfSome told (λ file. (fault at : ℕ) → length file ≤ most_bytes → IsUnrevived file fault at → Untouched)
+      → IfSome told (λ file. (fault at : ℕ) → length file ≤ most_bytes → IsUnrevived file fault at → Unwritten)
+  unrevived_so None stays = tt
+  unrevived_so (Some file) stays = λ fault at few h. let u = stays fault at few h in (u.same, u.leaves)
+
+  pub complete_so : (told : Option (List ℕ)) → IfSome told (λ file. (P : Program) (T : Run) → Stands file P T → Legal P T → Complete P T → Untouched)
+      → IfSome told (λ file. (P : Program) (T : Run) → Stands file P T → Legal P T → Complete P T → Unwritten)
+  complete_so None stays = tt
+  complete_so (Some file) stays = λ P T stands legal whole. let u = stays P T stands legal whole in (u.same, u.leaves)
+
 -- a disk that was not touched
+pub unwritten_still : {D : Type 0} (images : D → List ℕ → Type 0) (moment : D → ℕ) (left_since : D → ℕ → List ℕ → Type 0) → ((d : D) (c : List ℕ) → left_since d (moment d) c → images d c)
+    → (d : D) (told : Option (List ℕ)) → (told ≡ told) × LeavesOnly moment left_since d d (images d)
+unwritten_still images moment left_since only_now d told = (refl, started moment left_since d (images d) (only_now d))
+
 pub standing_still : {D : Type 0} (images : D → List ℕ → Type 0) (moment : D → ℕ) (left_since : D → ℕ → List ℕ → Type 0) → ((d : D) (c : List ℕ) → left_since d (moment d) c → images d c)
     → (d : D) (told : Option (List ℕ)) (file : List ℕ) (P : Program) (T : Run) → told ≡ Some file → Only told (images d) → Stands file P T → Legal P T → LeavesOnly moment left_since d d (StandsForResumed P T)
 standing_still images moment left_since only_now d told file P T same only stands legal =

@@ -25,3 +25,7 @@ disk_effect bytes images moment left_since faults old new = record {
   Stayed = new ≡ old;
   Failed = HasRisen (faults old) (faults new);
 }
+
+-- nothing was written: the bytes stay, and a crash at any moment of the call leaves what one before it might have left
+abbrev pub IsUnwritten : DiskEffect → Type 0
+IsUnwritten disk = (disk.after ≡ disk.before) × disk.Leaves disk.images_before

@@ -5,10 +5,10 @@ use Rattle.tau_trace.specs.Run.{Run}
 use Rattle.tau_legal.specs.Traces.{Legal, Complete}
 use Rattle.tau_text.specs.Meaning.{IsProgram}
 use Rattle.tau_disk.specs.Bytes.{Only}
-use Rattle.tau_journal.specs.Found.{IsBlank, IsCreateFault}
+use Rattle.tau_journal.specs.Found.{IsBlank, IsCreateFault, IsCreateNumber}
 use Rattle.tau_journal.specs.Room.{most_bytes}
 use Rattle.tau_keeping.specs.Standing.{Stands}
-use Rattle.tau_resuming.specs.Faults.{IsResumeFault}
+use Rattle.tau_resuming.specs.Faults.{IsResumeFault, IsResumeNumber}
 use Rattle.tau_recording.specs.Kept.{first_size, IsKeepFault}
 use Rattle.tau_recording.specs.Resumed.{StandsForResumed, IsUnrevived, IsResumeRunFault}
 use Rattle.tau_command.specs.declared.commands.Command.TheVariants.{Run as run}
@@ -22,7 +22,7 @@ use Rattle.tau_cli.specs.declared.statuses.Status.TheVariants.{Done, Stopped, In
 use Rattle.tau_cli.specs.Status.{number_of, of_words_error}
 use Rattle.tau_cli.specs.Output.{Writing, AreLeft, IsUnlessUnread}
 use Rattle.tau_cli.specs.Ends.{Effect, Ends}
-use Rattle.tau_kept.specs.Disks.{DiskEffect}
+use Rattle.tau_kept.specs.Disks.{DiskEffect, IsUnwritten}
 use Rattle.tau_kept.specs.Texts.{SpellsProgram, IsBlankOrOfInput, IsKeptText, IsResumedText, WritesText}
 
 -- ---- keep
@@ -57,9 +57,10 @@ pub record IsFaultyProgram (jobs seed steps : ℕ) (left : Option (List ℕ)) (f
   pub are_left : AreLeft left bytes
   pub has_fault : IsInputFault (run 1 jobs seed steps) bytes fault at
 
--- on a disk of these bytes, which has those after the call, the program that a source's bytes spell isn't kept, with this fault
-abbrev pub IsUnkept : Option (List ℕ) → List ℕ → Option (List ℕ) → ℕ → ℕ → Type 0
-IsUnkept left file after fault at = (P : Program) × SpellsProgram left P × IsKeepFault P file after fault at
+-- on a disk of these bytes, which has those after the call, the serial run of the program that a source's bytes spell isn't kept, with
+-- this fault
+abbrev pub IsUnkept : ℕ → ℕ → ℕ → Option (List ℕ) → List ℕ → Option (List ℕ) → ℕ → ℕ → Type 0
+IsUnkept jobs seed steps left file after fault at = (P : Program) × SpellsProgram left P × IsKeepFault P jobs seed steps file after fault at
 
 -- this status, or in its place a disk that failed, or want of memory
 abbrev pub IsUnlessFailed : Status → Status → Type 0
@@ -75,11 +76,12 @@ pub record KeepRefusals (jobs seed steps : ℕ) (source : Effect) (disk : DiskEf
   -- after these the disk is as it was
   pub unread : status ≡ ReadFault → disk.Stayed
   pub untouched : (fault at : ℕ) → status ≡ Input fault at → disk.Stayed
-  -- no journal is made of the program, or there is no room for the record of a step
-  pub journal : (fault at : ℕ) → status ≡ Journal fault at → IfSome disk.before (λ file. IsUnkept source.before file disk.after fault at)
+  -- no journal is made of the program, or there is no room for the record of the serial run's next step; on every disk it is 7 or 8
+  pub journal : (fault at : ℕ) → status ≡ Journal fault at → IfSome disk.before (λ file. IsUnkept jobs seed steps source.before file disk.after fault at)
+  pub among : (fault at : ℕ) → status ≡ Journal fault at → IsCreateNumber fault
   pub unkept : (bytes file : List ℕ) (P : Program) (fault at : ℕ) → source.before ≡ Some bytes → length bytes ≤ input_limit → IsProgram bytes P
       → disk.before ≡ Some file → IsCreateFault (first_size P) file fault at → (status ≡ ReadFault) ⊎ IsUnlessFailed status (Journal fault at)
-  pub held : (at : ℕ) → status ≡ Journal 7 at → disk.after ≡ disk.before
+  pub held : (at : ℕ) → status ≡ Journal 7 at → IsUnwritten disk
   pub disk_fault : status ≡ DiskFault → disk.Failed
 
 -- what `keep` did that ended with this status
@@ -89,27 +91,36 @@ pub record KeepEnds (jobs seed steps : ℕ) (source sink : Effect) (disk : DiskE
   -- on a blank disk on which nothing is pending, a crash at any moment of the call leaves it blank, or a journal of the input's
   -- program and a legal run, whatever the status
   pub any_moment : IfSome disk.before (λ file. IsBlank file → Only disk.before disk.images_before → disk.Leaves (IsBlankOrOfInput source.before))
+  -- on a disk that isn't blank nothing is written, whatever the status
+  pub held : IfSome disk.before (λ file. (¬ IsBlank file) → IsUnwritten disk)
   pub text : WritesText (IsKeptText jobs seed steps source.before disk) sink status
 
 -- ---- resume
 
--- why `resume` ended with a status before it wrote
-pub record ResumeRefusals (disk : DiskEffect) (status : Status) : Type 0 where
-  -- nothing is found to go on with, or it isn't gone on with
-  pub journal : (fault at : ℕ) → status ≡ Journal fault at → IfSome disk.before (λ file. IsResumeRunFault file disk.after fault at)
+-- why `resume` with so many steps ended with a status before it wrote
+pub record ResumeRefusals (steps : ℕ) (disk : DiskEffect) (status : Status) : Type 0 where
+  -- nothing is found to go on with, or it isn't gone on with; on every disk it is 1 to 6, or 8
+  pub journal : (fault at : ℕ) → status ≡ Journal fault at → IfSome disk.before (λ file. IsResumeRunFault steps file disk.after fault at)
+  pub among : (fault at : ℕ) → status ≡ Journal fault at → IsResumeNumber fault
   pub faulty : (file : List ℕ) (fault at : ℕ) → disk.before ≡ Some file → IsResumeFault file fault at → IsUnlessFailed status (Journal fault at)
   pub unrevived : (file : List ℕ) (fault at : ℕ) → disk.before ≡ Some file → length file ≤ most_bytes → IsUnrevived file fault at
       → IsUnlessFailed status (Journal fault at)
-  -- after each fault but 8 the bytes are those from before
-  pub unwritten : (fault at : ℕ) → fault ≢ 8 → status ≡ Journal fault at → disk.after ≡ disk.before
+  -- after each fault but 8 nothing was written
+  pub unwritten : (fault at : ℕ) → fault ≢ 8 → status ≡ Journal fault at → IsUnwritten disk
   pub disk_fault : status ≡ DiskFault → disk.Failed
+
+-- where `resume` writes nothing to the disk, whatever the status: nothing is found to go on with, as on damaged bytes; the program isn't
+-- revived; or the run that is found is complete
+pub record ResumeStays (disk : DiskEffect) : Type 0 where
+  pub faulty : (file : List ℕ) (fault at : ℕ) → disk.before ≡ Some file → IsResumeFault file fault at → IsUnwritten disk
+  pub unrevived : (file : List ℕ) (fault at : ℕ) → disk.before ≡ Some file → length file ≤ most_bytes → IsUnrevived file fault at → IsUnwritten disk
+  pub complete : (file : List ℕ) (P : Program) (T : Run) → disk.before ≡ Some file → Stands file P T → Legal P T → Complete P T → IsUnwritten disk
 
 -- what `resume` with so many steps did that ended with this status
 pub record ResumeEnds (steps : ℕ) (sink : Effect) (disk : DiskEffect) (status : Status) : Type 0 where
   pub is_status : IsResumeRefusal status ⊎ IsTextStatus status
-  pub refusals : ResumeRefusals disk status
-  -- a complete run stays as it is on the disk
-  pub stays : (file : List ℕ) (P : Program) (T : Run) → disk.before ≡ Some file → Stands file P T → Legal P T → Complete P T → disk.after ≡ disk.before
+  pub refusals : ResumeRefusals steps disk status
+  pub stays : ResumeStays disk
   -- on a disk on which nothing is pending, which stands for a program and a legal run, a crash at any moment of the call leaves it
   -- standing for the program, or for its revival, and a legal run that begins with that one, whatever the status
   pub any_moment : (file : List ℕ) (P : Program) (T : Run) → disk.before ≡ Some file → Only disk.before disk.images_before → Stands file P T → Legal P T

@@ -2,7 +2,7 @@
 use Rattle.std.specs.Prelude.{◌≡◌, ℕ, List, Some, Result, Ok, Err, IfOk, IfErr, IfSome}
 use Rattle.tau_tree.specs.declared.programs.Program.{Program}
 use Rattle.tau_trace.specs.Run.{Run}
-use Rattle.tau_legal.specs.Traces.{Legal, Complete}
+use Rattle.tau_legal.specs.Traces.{Legal}
 use Rattle.tau_disk.specs.Bytes.{Only}
 use Rattle.tau_journal.specs.Found.{IsBlank}
 use Rattle.tau_keeping.specs.Standing.{Stands}
@@ -11,9 +11,9 @@ use Rattle.tau_output.specs.declared.outputs.Output.{Output}
 use Rattle.tau_cli.specs.declared.statuses.Status.{Status}
 use Rattle.tau_cli.specs.Status.{of_end}
 use Rattle.tau_cli.specs.Ends.{Effect, Tells}
-use Rattle.tau_kept.specs.Disks.{DiskEffect}
+use Rattle.tau_kept.specs.Disks.{DiskEffect, IsUnwritten}
 use Rattle.tau_kept.specs.Texts.{IsBlankOrOfInput, IsKeptText, IsResumedText}
-use Rattle.tau_kept.specs.Ends.{IsKeepRefusal, IsResumeRefusal, KeepRefusals, ResumeRefusals}
+use Rattle.tau_kept.specs.Ends.{IsKeepRefusal, IsResumeRefusal, KeepRefusals, ResumeRefusals, ResumeStays}
 
 -- the status with which a command ends that has this output and writes it whole, or that has none for a reason
 abbrev pub status_of : Result Output Status → Status
@@ -25,13 +25,14 @@ pub record Keeps (jobs seed steps : ℕ) (source : Effect) (disk : DiskEffect) (
   pub is_status : IfErr made IsKeepRefusal
   pub refusals : KeepRefusals jobs seed steps source disk (status_of made)
   pub any_moment : IfSome disk.before (λ file. IsBlank file → Only disk.before disk.images_before → disk.Leaves (IsBlankOrOfInput source.before))
+  pub held : IfSome disk.before (λ file. (¬ IsBlank file) → IsUnwritten disk)
   pub text : IfOk made (λ o. IsKeptText jobs seed steps source.before disk o.end o.text.items)
 
 -- a run was gone on with and has this text, or wasn't for a reason
 pub record Resumes (steps : ℕ) (disk : DiskEffect) (made : Result Output Status) : Type 0 where
   pub is_status : IfErr made IsResumeRefusal
-  pub refusals : ResumeRefusals disk (status_of made)
-  pub stays : (file : List ℕ) (P : Program) (T : Run) → disk.before ≡ Some file → Stands file P T → Legal P T → Complete P T → disk.after ≡ disk.before
+  pub refusals : ResumeRefusals steps disk (status_of made)
+  pub stays : ResumeStays disk
   pub any_moment : (file : List ℕ) (P : Program) (T : Run) → disk.before ≡ Some file → Only disk.before disk.images_before → Stands file P T → Legal P T
       → disk.Leaves (StandsForResumed P T)
   pub text : IfOk made (λ o. IsResumedText steps disk o.end o.text.items)

@@ -1,7 +1,8 @@
 -- What stands on a disk on which a run is kept.
-use Rattle.std.proofs.Common.{◌≡◌, inl, inr, ℕ, List, [], ◌∷◌, Option, Some, None, IfSome, sym, subst}
+use Rattle.std.proofs.Common.{◌≡◌, inl, inr, ℕ, ◌≤◌, List, [], ◌∷◌, length, Option, Some, None, IfSome, refl, sym, subst}
+use Rattle.std.specs.Prelude.{Ok}
 use Rattle.tau_tree.specs.declared.programs.Program.{Program}
-use Rattle.tau_trace.specs.Run.{Run}
+use Rattle.tau_trace.specs.Run.{Run, len}
 use Rattle.tau_trace.proofs.Lists.{same_some}
 use Rattle.tau_legal.specs.Traces.{Legal}
 use Rattle.tau_legal.specs.Laws.{LegalityIsLocal}
@@ -10,13 +11,19 @@ use Rattle.tau_disk.specs.Moments.{LeavesOnly}
 use Rattle.tau_disk.proofs.Moments.{weaker, joined}
 use Rattle.tau_journal.specs.Records.{HasRecords, AreRecords, IsAtRest}
 use Rattle.tau_journal.specs.Found.{IsBlank, IsCreateFault}
+use Rattle.tau_journal.specs.Room.{most_bytes, IsFaultOrFailure}
+use Rattle.tau_journal.specs.declared.errors.JournalError.{JournalError}
 use Rattle.tau_book.specs.Books.{Booked, IsBook}
 use Rattle.tau_book.specs.Onward.{GoesOnFrom}
+use Rattle.tau_book.specs.Hands.{Held}
+use Rattle.tau_book.specs.Working.{IsAtWork}
+use Rattle.tau_book.specs.SerialRun.{ComesAbout}
 use Rattle.tau_keeping.specs.Standing.{IsProgramText, opened, begins, Stands, StandsAt, StandsForEither, IsBlankOrBegins}
 use Rattle.tau_keeping.specs.Laws.{IsRunOf, RecordsStandForRuns}
 use Rattle.tau_keeping.proofs.Kept.{leaves_at_first}
+use Rattle.tau_keeping.proofs.Finds.{no_failure}
 use Rattle.tau_recording.specs.Going.{StandsBetween, HasNoRoom}
-use Rattle.tau_recording.specs.Kept.{IsKeptOn, StandsForLonger, HasNoRoomFrom, IsBlankOrStands, IsBlankOrFrontOf, first_size, IsKeepFault}
+use Rattle.tau_recording.specs.Kept.{IsKeptOn, StandsForLonger, HasNoRoomFrom, HasNoRoomInSerial, IsBlankOrStands, IsBlankOrFrontOf, first_size, IsKeepFault}
 use Rattle.tau_recording.proofs.Onward.{begins_itself}
 use Rattle.tau_recording.proofs.Fronts.{begins_opened, legal_opened, legal_front}
 
@@ -28,12 +35,13 @@ stands_there file gate P T at = record {
   stand = at.stand;
 }
 
-pub kept_at : (bytes : Option (List ℕ)) (images : List ℕ → Type 0) (gate : ℕ) (P : Program) (T : Run) → IsAtRest bytes images gate → StandsAt bytes gate P T → IsKeptOn bytes images P T
-kept_at bytes images gate P T rest at = record {
+pub kept_at : (bytes : Option (List ℕ)) (images : List ℕ → Type 0) (gate : ℕ) (P : Program) (T : Run) → IsAtRest bytes images gate → IfSome bytes (λ file. length file ≤ most_bytes) → StandsAt bytes gate P T → IsKeptOn bytes images P T
+kept_at bytes images gate P T rest small at = record {
   file = at.told.file;
   told = at.told.told;
   stands = record { records = at.records; are = (gate, at.told.has); stand = at.stand };
   only = (subst (λ (o : Option (List ℕ)). IsAtRest o images gate) at.told.told rest).1;
+  few = subst (λ (o : Option (List ℕ)). IfSome o (λ file. length file ≤ most_bytes)) at.told.told small;
 }
 
 -- a book that goes on, whose run is legal then
@@ -44,8 +52,22 @@ module _ (old new : Booked) (goes : GoesOnFrom old new) (is : IsBook new) where
   legal_then : Legal P new.system.run
   legal_then = subst (λ Q. Legal Q new.system.run) goes.program is.legal
 
-  pub no_room_from : (bytes : Option (List ℕ)) (at : ℕ) → HasNoRoom P new.system.run bytes at → HasNoRoomFrom P old.system.run bytes at
-  no_room_from bytes at full = record { run = new.system.run; begins = goes.begins; legal = legal_then; no_room = full }
+  within_limit : len new.system.run ≤ old.limit
+  within_limit = subst (λ n. len new.system.run ≤ n) goes.limit is.limited
+
+  pub no_room_from : (bytes : Option (List ℕ)) (at : ℕ) → HasNoRoom P new.system.run bytes at → HasNoRoomFrom P old.system.run old.limit bytes at
+  no_room_from bytes at full = record { run = new.system.run; begins = goes.begins; legal = legal_then; within = within_limit; no_room = full }
+
+  -- by a hand that is at work on the serial run
+  pub no_room_serial : (seed : ℕ) (h k : Held) → k.size ≡ h.size → IsAtWork seed new k → (bytes : Option (List ℕ)) (at : ℕ) → HasNoRoom P new.system.run bytes at → HasNoRoomInSerial P h.size seed old.limit bytes at
+  no_room_serial seed h k size w bytes at full = record {
+    run = new.system.run;
+    generator = k.generator;
+    comes_about = subst (λ n. ComesAbout P n seed new.system.run k.generator) size (subst (λ Q. ComesAbout Q k.size seed new.system.run k.generator) goes.program w.comes_about);
+    legal = legal_then;
+    within = within_limit;
+    no_room = full;
+  }
 
   module _ (runs : RecordsStandForRuns) (local : LegalityIsLocal) where
     longer : (c : List ℕ) → StandsBetween P old.system.run new.system.run c → StandsForLonger P old.system.run c
@@ -115,14 +137,18 @@ module _ {D : Type 0} (images : D → List ℕ → Type 0) (moment : D → ℕ) 
           (weaker moment left_since mid new (StandsBetween P (opened P) U) (IsBlankOrFrontOf P U) (λ c x. inr (x.run, x.comes_to, x.stands)) (more at))
 
 -- a journal isn't made of the program, or its run isn't kept
-module _ (P : Program) (after : Option (List ℕ)) (fault at : ℕ) where
-  pub fault_making : (o : Option (List ℕ)) → IfSome o (λ file. IsCreateFault (first_size P) file fault at) → IfSome o (λ file. IsKeepFault P file after fault at)
+module _ (P : Program) (jobs seed limit : ℕ) (after : Option (List ℕ)) (fault at : ℕ) where
+  pub fault_making : (o : Option (List ℕ)) → IfSome o (λ file. IsCreateFault (first_size P) file fault at) → IfSome o (λ file. IsKeepFault P jobs seed limit file after fault at)
   fault_making None found = tt
   fault_making (Some file) found = inl found
 
-  pub fault_keeping : (o bytes : Option (List ℕ)) (gate : ℕ) → fault ≡ 8 → IfSome o (λ _. StandsAt bytes gate P (opened P)) → (StandsAt bytes gate P (opened P) → HasNoRoomFrom P (opened P) after at)
-      → IfSome o (λ file. IsKeepFault P file after fault at)
+  pub fault_keeping : (o bytes : Option (List ℕ)) (gate : ℕ) → fault ≡ 8 → IfSome o (λ _. StandsAt bytes gate P (opened P)) → (StandsAt bytes gate P (opened P) → HasNoRoomInSerial P jobs seed limit after at)
+      → IfSome o (λ file. IsKeepFault P jobs seed limit file after fault at)
   fault_keeping None bytes gate eight stands full = tt
-  fault_keeping (Some file) bytes gate eight stands full =
-      let full = full stands in
-      inr (eight, full.run, full.legal, full.no_room)
+  fault_keeping (Some file) bytes gate eight stands full = inr (eight, full stands)
+
+-- a journal isn't made on a disk that isn't blank
+pub never_held : {X : Type 0} (x : X) (A : Type 0) (P : Program) (o : Option (List ℕ)) → IfSome o (λ file. (fault at : ℕ) → IsCreateFault (first_size P) file fault at → IsFaultOrFailure {X = X} fault at (Ok x))
+    → IfSome o (λ file. (¬ IsBlank file) → A)
+never_held x A P None faulty = tt
+never_held x A P (Some file) faulty = λ held. absurd (no_failure x 7 0 (faulty 7 0 (inl (refl, refl, held))))

@@ -1,5 +1,5 @@
 -- What stands on a disk from which a run is gone on with.
-use Rattle.std.proofs.Common.{◌≡◌, ◌+◌, inl, inr, ℕ, ◌≤◌, List, length, Option, Some, None, IfSome, refl, sym, ap, ◌∙◌, subst, arith}
+use Rattle.std.proofs.Common.{◌≡◌, ◌+◌, ◌⊎◌, inl, inr, ⊎_elim, ℕ, ◌≤◌, ◌<◌, List, length, Option, Some, None, IfSome, refl, sym, ap, ◌∙◌, subst, arith}
 use Rattle.std.specs.Prelude.{◌↔◌, max, Bool, true, false, IsTrue, Result, Ok, Err, IfOk}
 use Rattle.tau_tree.specs.declared.programs.Program.{Program}
 use Rattle.tau_tree.specs.Sound.{Sound}
@@ -10,7 +10,7 @@ use Rattle.tau_legal.specs.Ends.{EndsAt}
 use Rattle.tau_disk.specs.Bytes.{Only}
 use Rattle.tau_disk.specs.Moments.{LeavesOnly}
 use Rattle.tau_disk.proofs.Moments.{weaker, joined}
-use Rattle.tau_journal.specs.Records.{written, HasRecords, going_on}
+use Rattle.tau_journal.specs.Records.{written, HasRecords, IsAtRest, going_on}
 use Rattle.tau_journal.specs.Laws.{RecordsAreUnique}
 use Rattle.tau_journal.specs.Room.{most_bytes, IsFailure, IsFaultOrFailure}
 use Rattle.tau_journal.specs.declared.errors.JournalError.{JournalError}
@@ -20,13 +20,14 @@ use Rattle.tau_revival.specs.Laws.{RevivalKeepsLegality}
 use Rattle.tau_book.specs.Onward.{BeginsWith}
 use Rattle.tau_keeping.specs.Standing.{Stands, StandsAt}
 use Rattle.tau_keeping.specs.Laws.{IsRunOf, BytesStandForOneRun}
-use Rattle.tau_resuming.specs.Faults.{IsResumeFault}
+use Rattle.tau_keeping.proofs.Finds.{no_failure}
+use Rattle.tau_resuming.specs.Faults.{IsResumeFault, IsResumeNumber}
 use Rattle.tau_resuming.specs.Reviving.{StandsForRevival, IsReviveFault}
 use Rattle.tau_recording.specs.Going.{StandsBetween}
 use Rattle.tau_recording.specs.Kept.{IsKeptOn, StandsForLonger}
 use Rattle.tau_recording.specs.Resumed.{IsResumed, StandsForResumed, StandsForFrontOf, IsGoneOnFault, IsUnfinished, IsUnrevived, IsResumeRunFault, in_finding, in_going}
 use Rattle.tau_recording.proofs.Onward.{begins_itself}
-use Rattle.tau_recording.proofs.KeptRuns.{stands_there}
+use Rattle.tau_recording.proofs.KeptRuns.{stands_there, kept_at}
 use Rattle.tau_recording.proofs.Faulted.{of_same}
 
 -- the disk stands for what it stood for
@@ -120,10 +121,10 @@ module _ (P : Program) (T : Run) (gate : ℕ) where
       let same = once file Q P U T stands (stands_there file gate P T at) in
       absurd (incomplete (of_same Complete Q P U T same.0 same.1 complete))
 
-  pub going_fault : Legal P T → (¬ Complete P T) → (o after : Option (List ℕ)) (fault at : ℕ) → IfSome o (λ _. StandsAt o gate P T) → (StandsAt o gate P T → IsGoneOnFault P T gate o after fault at)
-      → IfSome o (λ file. IsResumeRunFault file after fault at)
-  going_fault legal incomplete None after fault at stands found = tt
-  going_fault legal incomplete (Some file) after fault at stands found = in_going P T gate (record { stands = stands; legal = legal; incomplete = incomplete }) (found stands)
+  pub going_fault : (steps : ℕ) → Legal P T → (¬ Complete P T) → (o after : Option (List ℕ)) (fault at : ℕ) → IfSome o (λ _. StandsAt o gate P T) → (StandsAt o gate P T → IsGoneOnFault P T steps gate o after fault at)
+      → IfSome o (λ file. IsResumeRunFault steps file after fault at)
+  going_fault steps legal incomplete None after fault at stands found = tt
+  going_fault steps legal incomplete (Some file) after fault at stands found = in_going P T gate (record { stands = stands; legal = legal; incomplete = incomplete }) (found stands)
 
   -- the gate is that of each list of records
   same_gate : RecordsAreUnique → (file : List ℕ) (Q : Program) (U : Run) (by : ℕ) → StandsAt (Some file) gate P T → StandsAt (Some file) by Q U → by ≡ gate
@@ -144,6 +145,18 @@ module _ (P : Program) (T : Run) (gate : ℕ) where
       (subst (λ (n : ℕ). IsReviveFault P (Some file) (n + 5 + length going_on + 1) fault at) (same_gate unique file u.program u.run u.gate stands there)
       (subst (λ (X : Program). IsReviveFault X (Some file) (u.gate + 5 + length going_on + 1) fault at) same.0 u.unrevived))
 
+  -- and the disk stays
+  pub stays_unrevived : BytesStandForOneRun → RecordsAreUnique → (A : Type 0) (o : Option (List ℕ)) → IfSome o (λ _. StandsAt o gate P T)
+      → ((fault at : ℕ) → StandsAt o gate P T → IsReviveFault P o (gate + 5 + length going_on + 1) fault at → A)
+      → IfSome o (λ file. (fault at : ℕ) → length file ≤ most_bytes → IsUnrevived file fault at → A)
+  stays_unrevived once unique A None at stays = tt
+  stays_unrevived once unique A (Some file) stands stays = λ fault at fits u.
+      let there = u.unfinished.stands in
+      let same = once file u.program P u.run T (stands_there file u.gate u.program u.run there) (stands_there file gate P T stands) in
+      stays fault at stands
+      (subst (λ (n : ℕ). IsReviveFault P (Some file) (n + 5 + length going_on + 1) fault at) (same_gate unique file u.program u.run u.gate stands there)
+      (subst (λ (X : Program). IsReviveFault X (Some file) (u.gate + 5 + length going_on + 1) fault at) same.0 u.unrevived))
+
   -- a complete run that was found isn't revived
   pub complete_unrevived : BytesStandForOneRun → Complete P T → {X : Type 0} (r : Result X JournalError) (o : Option (List ℕ)) → IfSome o (λ _. StandsAt o gate P T)
       → IfSome o (λ file. (fault at : ℕ) → length file ≤ most_bytes → IsUnrevived file fault at → IsFaultOrFailure fault at r)
@@ -152,10 +165,50 @@ module _ (P : Program) (T : Run) (gate : ℕ) where
       let same = once file P u.program T u.run (stands_there file gate P T stands) (stands_there file u.gate u.program u.run u.unfinished.stands) in
       absurd (u.unfinished.incomplete (of_same Complete P u.program T u.run same.0 same.1 complete))
 
+-- what was found is within the most bytes, and a complete run that was found is kept as it is
+small_or_not : (n : ℕ) → (n ≤ most_bytes) ⊎ (most_bytes < n)
+small_or_not n = grind arith
+
+module _ {X : Type 0} (x : X) where
+  abbrev NoneTold : Option (List ℕ) → Type 0
+  NoneTold o = IfSome o (λ file. (fault at : ℕ) → IsResumeFault file fault at → IsFaultOrFailure {X = X} fault at (Ok x))
+
+  small_found : (o : Option (List ℕ)) → NoneTold o → IfSome o (λ file. length file ≤ most_bytes)
+  small_found None faulty = tt
+  small_found (Some file) faulty = ⊎_elim (λ le. le) (λ l. absurd (no_failure x 8 (length file) (faulty 8 (length file) (inl (inl (refl, refl, l)))))) (small_or_not (length file))
+
+  pub kept_whole : (o now : Option (List ℕ)) (images : List ℕ → Type 0) (gate : ℕ) (P : Program) (T : Run) → now ≡ o → NoneTold o → IsAtRest now images gate → IfSome o (λ _. StandsAt o gate P T) → IfSome o (λ _. IsKeptOn now images P T)
+  kept_whole None now images gate P T same faulty rest at = tt
+  kept_whole (Some file) now images gate P T same faulty rest at =
+      subst (λ (o : Option (List ℕ)). IsKeptOn o images P T) (sym same) (kept_at (Some file) images gate P T (subst (λ (o : Option (List ℕ)). IsAtRest o images gate) same rest) (small_found (Some file) faulty) at)
+
+  -- where no fault was told, nothing is claimed of a disk with one
+  pub never_faulty : (A : Type 0) (o : Option (List ℕ)) → NoneTold o → IfSome o (λ file. (fault at : ℕ) → IsResumeFault file fault at → A)
+  never_faulty A None faulty = tt
+  never_faulty A (Some file) faulty = λ fault at found. absurd (no_failure x fault at (faulty fault at found))
+
+-- nothing was written, whatever the disk has
+pub whatever_faulty : (A : Type 0) → A → (o : Option (List ℕ)) → IfSome o (λ file. (fault at : ℕ) → IsResumeFault file fault at → A)
+whatever_faulty A a None = tt
+whatever_faulty A a (Some file) = λ fault at found. a
+
+pub whatever_unrevived : (A : Type 0) → A → (o : Option (List ℕ)) → IfSome o (λ file. (fault at : ℕ) → length file ≤ most_bytes → IsUnrevived file fault at → A)
+whatever_unrevived A a None = tt
+whatever_unrevived A a (Some file) = λ fault at few found. a
+
+pub whatever_complete : (A : Type 0) → A → (o : Option (List ℕ)) → IfSome o (λ file. (P : Program) (T : Run) → Stands file P T → Legal P T → Complete P T → A)
+whatever_complete A a None = tt
+whatever_complete A a (Some file) = λ P T stands legal complete. a
+
+-- which faults come behind what was found
+pub resume_number : (fault : ℕ) → (fault ≡ 6) ⊎ (fault ≡ 8) → IsResumeNumber fault
+resume_number fault (inl six) = inl (omega (arith, six), omega (arith, six))
+resume_number fault (inr eight) = inr eight
+
 -- nothing was found
-pub finding_fault : (o after : Option (List ℕ)) (fault at : ℕ) → IfSome o (λ file. IsResumeFault file fault at) → IfSome o (λ file. IsResumeRunFault file after fault at)
-finding_fault None after fault at found = tt
-finding_fault (Some file) after fault at found = in_finding found
+pub finding_fault : (steps : ℕ) (o after : Option (List ℕ)) (fault at : ℕ) → IfSome o (λ file. IsResumeFault file fault at) → IfSome o (λ file. IsResumeRunFault steps file after fault at)
+finding_fault steps None after fault at found = tt
+finding_fault steps (Some file) after fault at found = in_finding found
 
 failed : {X : Type 0} (e : JournalError) (fault at : ℕ) → IsFailure e → IsFaultOrFailure {X = X} fault at (Err e)
 failed (Fault f a) fault at fails = absurd fails

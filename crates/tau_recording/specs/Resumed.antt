@@ -41,10 +41,10 @@ abbrev pub StandsForFrontOf : Run → List ℕ → Type 0
 StandsForFrontOf U file = (Q : Program) × (T : Run) × BeginsWith T U × Stands file Q T
 
 -- why a run isn't gone on with for which a disk stands, with records up to the gate: the program isn't revived, or there is no room
--- for the record of a step of its revival
-abbrev pub IsGoneOnFault : Program → Run → ℕ → Option (List ℕ) → Option (List ℕ) → ℕ → ℕ → Type 0
-IsGoneOnFault P T gate told after fault at = IsReviveFault P told (gate + 5 + length going_on + 1) fault at
-    ⊎ ((fault ≡ 8) × (Q : Program) × IsRevival P T Q × HasNoRoomFrom Q T after at)
+-- for the record of the next step of its revival, which has no more steps than these or than were found
+abbrev pub IsGoneOnFault : Program → Run → ℕ → ℕ → Option (List ℕ) → Option (List ℕ) → ℕ → ℕ → Type 0
+IsGoneOnFault P T steps gate told after fault at = IsReviveFault P told (gate + 5 + length going_on + 1) fault at
+    ⊎ ((fault ≡ 8) × (Q : Program) × IsRevival P T Q × HasNoRoomFrom Q T (max steps (len T)) after at)
 
 -- a disk of these bytes stands, with records up to the gate, for the program and a legal run of it that isn't complete
 pub record IsUnfinished (file : List ℕ) (gate : ℕ) (P : Program) (T : Run) : Type 0 where
@@ -62,6 +62,6 @@ pub record IsUnrevived (file : List ℕ) (fault at : ℕ) : Type 0 where
 
 -- the fault of going on from a disk of these bytes, which has those after the call: nothing is found to go on with, or a run that
 -- isn't complete isn't gone on with
-pub data IsResumeRunFault (file : List ℕ) (after : Option (List ℕ)) (fault at : ℕ) : Type 0 where
-  in_finding : IsResumeFault file fault at → IsResumeRunFault file after fault at
-  in_going : (P : Program) (T : Run) (gate : ℕ) → IsUnfinished file gate P T → IsGoneOnFault P T gate (Some file) after fault at → IsResumeRunFault file after fault at
+pub data IsResumeRunFault (steps : ℕ) (file : List ℕ) (after : Option (List ℕ)) (fault at : ℕ) : Type 0 where
+  in_finding : IsResumeFault file fault at → IsResumeRunFault steps file after fault at
+  in_going : (P : Program) (T : Run) (gate : ℕ) → IsUnfinished file gate P T → IsGoneOnFault P T steps gate (Some file) after fault at → IsResumeRunFault steps file after fault at

@@ -53,7 +53,10 @@ pub fn go_on<'p, G: Gate, D: Disk>(
     ensures any_moment { StandsAt (D.bytes disk.old) (gate_of journal) book.old.system.program book.old.system.run
         → LeavesOnly D.moment D.left_since disk.old disk.new (StandsBetween book.old.system.program book.old.system.run book.new.system.run) }
 
+    // Where the disk has no room for the last step, that is the next one of the run.
     ensures fault { (fault at : ℕ) → IsErrOf result (JournalError.Fault fault at) → fault ≡ 8 }
+    ensures unkept { (fault at : ℕ) → IsErrOf result (JournalError.Fault fault at) → (seed : ℕ)
+        → IsAtWork seed book.old hand.old → IsAtWork seed book.new hand.new }
     ensures full { (fault at : ℕ) → IsErrOf result (JournalError.Fault fault at)
         → StandsAt (D.bytes disk.old) (gate_of journal) book.old.system.program book.old.system.run
         → HasNoRoom book.old.system.program book.new.system.run (D.bytes disk.new) at }
@@ -99,6 +102,8 @@ fn keep_next<'p, G: Gate, D: Disk>(
     ensures any_moment { StandsAt (D.bytes disk.old) (gate_of journal) book.old.system.program book.old.system.run
         → LeavesOnly D.moment D.left_since disk.old disk.new (StandsBetween book.old.system.program book.old.system.run book.new.system.run) }
     ensures fault { (fault at : ℕ) → IsErrOf result (JournalError.Fault fault at) → fault ≡ 8 }
+    ensures unkept { (fault at : ℕ) → IsErrOf result (JournalError.Fault fault at) → (seed : ℕ)
+        → IsAtWork seed book.old hand.old → IsAtWork seed book.new hand.new }
     ensures full { (fault at : ℕ) → IsErrOf result (JournalError.Fault fault at)
         → StandsAt (D.bytes disk.old) (gate_of journal) book.old.system.program book.old.system.run
         → HasNoRoom book.old.system.program book.new.system.run (D.bytes disk.new) at }

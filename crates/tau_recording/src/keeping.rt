@@ -5,8 +5,8 @@ ghost use Rattle.tau_io.specs.Faults.{HasRisen};
 ghost use Rattle.tau_tree.specs.Sound.{Sound};
 ghost use Rattle.tau_legal.specs.Ends.{EndsAt};
 ghost use Rattle.tau_disk.specs.Bytes.{Only};
-ghost use Rattle.tau_disk.specs.Moments.{LeavesOnly};
-ghost use Rattle.tau_journal.specs.Found.{IsBlank, IsCreateFault};
+ghost use Rattle.tau_disk.specs.Moments.{LeavesOnly, IsUntouched};
+ghost use Rattle.tau_journal.specs.Found.{IsBlank, IsCreateFault, IsCreateNumber};
 ghost use Rattle.tau_journal.specs.Room.{IsFaultOrFailure};
 ghost use Rattle.tau_book.specs.declared.limits.TheConstants.{JOB_LIMIT};
 ghost use Rattle.tau_book.specs.SerialRun.{IsSerialRun};
@@ -26,7 +26,7 @@ use tau_tree::Program;
 /// made (docs/journal.md, "Going on").
 ///
 /// Fault 7 comes where the disk isn't blank, otherwise 8 where it has no room for the program, and both before anything is
-/// written; 8 also where it has none for the record of the step that was made last. DiskFault comes only where the disk's count of
+/// written; 8 also where it has none for the record of the run's next step. DiskFault comes only where the disk's count of
 /// faults rose.
 pub fn keep_run<G: Gate, D: Disk>(
     alloc: Global,
@@ -55,10 +55,16 @@ pub fn keep_run<G: Gate, D: Disk>(
         → LeavesOnly D.moment D.left_since disk.old disk.new (IsBlankOrFrontOf program.now r.trace.run))) }
 
     ensures fault { (fault at : ℕ) → IsErrOf result (JournalError.Fault fault at)
-        → IfSome (D.bytes disk.old) (λ file. IsKeepFault program.now file (D.bytes disk.new) fault at) }
+        → IfSome (D.bytes disk.old) (λ file. IsKeepFault program.now jobs seed limit file (D.bytes disk.new) fault at) }
     ensures faulty { IfSome (D.bytes disk.old) (λ file. (fault at : ℕ) → IsCreateFault (first_size program.now) file fault at
         → IsFaultOrFailure fault at result) }
-    ensures unwritten { (at : ℕ) → IsErrOf result (JournalError.Fault 7 at) → D.bytes disk.new ≡ D.bytes disk.old }
+    ensures among { (fault at : ℕ) → IsErrOf result (JournalError.Fault fault at) → IsCreateNumber fault }
+
+    // After fault 7, and whatever is answered where the disk isn't blank, nothing was written.
+    ensures unwritten { (at : ℕ) → IsErrOf result (JournalError.Fault 7 at)
+        → IsUntouched D.bytes D.images D.moment D.left_since disk.old disk.new }
+    ensures held { IfSome (D.bytes disk.old) (λ file. (¬ IsBlank file)
+        → IsUntouched D.bytes D.images D.moment D.left_since disk.old disk.new) }
     ensures disk_fault { IsErrOf result JournalError.DiskFault → HasRisen (D.faults disk.old) (D.faults disk.new) }
     ensures never_falls { D.faults disk.old ≤ D.faults disk.new }
 {

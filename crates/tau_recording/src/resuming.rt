@@ -6,11 +6,11 @@ ghost use Rattle.tau_tree.specs.declared.programs.Program.{Program};
 ghost use Rattle.tau_trace.specs.Run.{Run};
 ghost use Rattle.tau_legal.specs.Traces.{Legal, Complete};
 ghost use Rattle.tau_disk.specs.Bytes.{Only};
-ghost use Rattle.tau_disk.specs.Moments.{LeavesOnly};
+ghost use Rattle.tau_disk.specs.Moments.{LeavesOnly, IsUntouched};
 ghost use Rattle.tau_journal.specs.Room.{most_bytes, IsFaultOrFailure};
 ghost use Rattle.tau_book.specs.declared.limits.TheConstants.{JOB_LIMIT};
 ghost use Rattle.tau_keeping.specs.Standing.{Stands};
-ghost use Rattle.tau_resuming.specs.Faults.{IsResumeFault};
+ghost use Rattle.tau_resuming.specs.Faults.{IsResumeFault, IsResumeNumber};
 ghost use Rattle.tau_recording.specs.Kept.{IsKeptOn};
 ghost use Rattle.tau_recording.specs.Resumed.{IsResumed, StandsForResumed, StandsForFrontOf, IsUnrevived, IsResumeRunFault};
 
@@ -37,7 +37,7 @@ pub struct Resumed {
 /// the number that were found.
 ///
 /// Faults 8 and 1 to 5 come as of `find_legal`, then 6 and 8 as of `revive`, and all of these before anything is written; 8 also
-/// where the disk has no room for the record of the step that was made last. DiskFault comes only where the disk's count of faults
+/// where the disk has no room for the record of the run's next step. DiskFault comes only where the disk's count of faults
 /// rose.
 pub fn resume_run<G: Gate, D: Disk>(
     alloc: Global,
@@ -52,11 +52,11 @@ pub fn resume_run<G: Gate, D: Disk>(
     requires limit { steps ≤ STEP_LIMIT }
     ensures resumed { IfOk result (λ r. IsResumed (D.bytes disk.old) steps r.program r.ran.trace.run r.ran.is_complete) }
 
-    // The disk then stands for the program and the run, whatever crash comes. Where the run that it stood for was complete, it is as it
-    // was.
+    // The disk then stands for the program and the run, whatever crash comes. Where the run that it stood for was complete, nothing was
+    // written, whatever is answered.
     ensures kept { IfOk result (λ r. IfSome (D.bytes disk.old) (λ _. IsKeptOn (D.bytes disk.new) (D.images disk.new) r.program r.ran.trace.run)) }
     ensures stays { IfSome (D.bytes disk.old) (λ file. (P : Program) (T : Run) → Stands file P T → Legal P T → Complete P T
-        → D.bytes disk.new ≡ D.bytes disk.old) }
+        → IsUntouched D.bytes D.images D.moment D.left_since disk.old disk.new) }
 
     // Where nothing is pending, a crash at any moment leaves it standing for the program, or for its revival, and a legal run that begins
     // with the one that it stood for, whatever is answered; and where the run was gone on with, a front of that.
@@ -67,11 +67,20 @@ pub fn resume_run<G: Gate, D: Disk>(
         → LeavesOnly D.moment D.left_since disk.old disk.new (StandsForFrontOf r.ran.trace.run))) }
 
     ensures fault { (fault at : ℕ) → IsErrOf result (JournalError.Fault fault at)
-        → IfSome (D.bytes disk.old) (λ file. IsResumeRunFault file (D.bytes disk.new) fault at) }
+        → IfSome (D.bytes disk.old) (λ file. IsResumeRunFault steps file (D.bytes disk.new) fault at) }
     ensures faulty { IfSome (D.bytes disk.old) (λ file. (fault at : ℕ) → IsResumeFault file fault at → IsFaultOrFailure fault at result) }
     ensures unrevived { IfSome (D.bytes disk.old) (λ file. (fault at : ℕ) → length file ≤ most_bytes → IsUnrevived file fault at
         → IsFaultOrFailure fault at result) }
-    ensures unwritten { (fault at : ℕ) → fault ≢ 8 → IsErrOf result (JournalError.Fault fault at) → D.bytes disk.new ≡ D.bytes disk.old }
+    ensures among { (fault at : ℕ) → IsErrOf result (JournalError.Fault fault at) → IsResumeNumber fault }
+
+    // After each fault but 8, and whatever is answered where nothing is found to go on with or the program isn't revived, nothing was
+    // written.
+    ensures unwritten { (fault at : ℕ) → fault ≢ 8 → IsErrOf result (JournalError.Fault fault at)
+        → IsUntouched D.bytes D.images D.moment D.left_since disk.old disk.new }
+    ensures stays_faulty { IfSome (D.bytes disk.old) (λ file. (fault at : ℕ) → IsResumeFault file fault at
+        → IsUntouched D.bytes D.images D.moment D.left_since disk.old disk.new) }
+    ensures stays_unrevived { IfSome (D.bytes disk.old) (λ file. (fault at : ℕ) → length file ≤ most_bytes → IsUnrevived file fault at
+        → IsUntouched D.bytes D.images D.moment D.left_since disk.old disk.new) }
     ensures disk_fault { IsErrOf result JournalError.DiskFault → HasRisen (D.faults disk.old) (D.faults disk.new) }
     ensures never_falls { D.faults disk.old ≤ D.faults disk.new }
 {

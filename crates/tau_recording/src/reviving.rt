@@ -1,14 +1,14 @@
 //! Reviving a program, and going on with its run.
-ghost use Rattle.std.specs.Prelude.{◌≡◌, ◌≢◌, ◌≤◌, ◌+◌, max, ℕ, IfOk, IsErrOf, length};
+ghost use Rattle.std.specs.Prelude.{◌≡◌, ◌≢◌, ◌≤◌, ◌+◌, ◌⊎◌, max, ℕ, IfOk, IfSome, IsErrOf, length};
 ghost use Rattle.tau_value.specs.declared.limits.TheConstants.{STEP_LIMIT};
 ghost use Rattle.tau_io.specs.Faults.{HasRisen};
 ghost use Rattle.tau_tree.specs.Sound.{Sound};
 ghost use Rattle.tau_trace.specs.Run.{len};
 ghost use Rattle.tau_legal.specs.Traces.{Legal};
 ghost use Rattle.tau_legal.specs.Ends.{EndsAt};
-ghost use Rattle.tau_disk.specs.Moments.{LeavesOnly};
+ghost use Rattle.tau_disk.specs.Moments.{LeavesOnly, IsUntouched};
 ghost use Rattle.tau_journal.specs.Records.{IsAtRest, going_on};
-ghost use Rattle.tau_journal.specs.Room.{IsFaultOrFailure};
+ghost use Rattle.tau_journal.specs.Room.{most_bytes, IsFaultOrFailure};
 ghost use Rattle.tau_journal.specs.Gates.{gate_of};
 ghost use Rattle.tau_revival.specs.Revival.{IsRevival};
 ghost use Rattle.tau_book.specs.declared.limits.TheConstants.{JOB_LIMIT};
@@ -60,10 +60,15 @@ pub(crate) fn run_on_revived<G: Gate, D: Disk>(
         → LeavesOnly D.moment D.left_since disk.old disk.new (StandsForFrontOf r.ran.trace.run)) }
     ensures fault { (fault at : ℕ) → IsErrOf result (JournalError.Fault fault at)
         → StandsAt (D.bytes disk.old) (gate_of found.journal) found.program found.trace.run
-        → IsGoneOnFault found.program found.trace.run (gate_of found.journal) (D.bytes disk.old) (D.bytes disk.new) fault at }
+        → IsGoneOnFault found.program found.trace.run steps (gate_of found.journal) (D.bytes disk.old) (D.bytes disk.new) fault at }
     ensures faulty { (fault at : ℕ) → StandsAt (D.bytes disk.old) (gate_of found.journal) found.program found.trace.run
         → IsReviveFault found.program (D.bytes disk.old) (gate_of found.journal + 5 + length going_on + 1) fault at → IsFaultOrFailure fault at result }
-    ensures unwritten { (fault at : ℕ) → fault ≢ 8 → IsErrOf result (JournalError.Fault fault at) → D.bytes disk.new ≡ D.bytes disk.old }
+    ensures among { (fault at : ℕ) → IsErrOf result (JournalError.Fault fault at) → (fault ≡ 6) ⊎ (fault ≡ 8) }
+    ensures unwritten { (fault at : ℕ) → fault ≢ 8 → IsErrOf result (JournalError.Fault fault at)
+        → IsUntouched D.bytes D.images D.moment D.left_since disk.old disk.new }
+    ensures stays { (fault at : ℕ) → StandsAt (D.bytes disk.old) (gate_of found.journal) found.program found.trace.run
+        → IsReviveFault found.program (D.bytes disk.old) (gate_of found.journal + 5 + length going_on + 1) fault at
+        → IsUntouched D.bytes D.images D.moment D.left_since disk.old disk.new }
     ensures disk_fault { IsErrOf result JournalError.DiskFault → HasRisen (D.faults disk.old) (D.faults disk.new) }
     ensures never_falls { D.faults disk.old ≤ D.faults disk.new }
 {
@@ -109,6 +114,7 @@ fn run_on_trace<G: Gate, D: Disk>(
     ensures begins { IfOk result (λ r. BeginsWith trace.now.run r.trace.run) }
     ensures ends { IfOk result (λ r. EndsAt limit program.now r.trace.run r.is_complete) }
     ensures kept { IfOk result (λ r. StandsAt (D.bytes disk.old) (gate_of journal) program.now trace.now.run
+        → IfSome (D.bytes disk.old) (λ file. length file ≤ most_bytes)
         → IsKeptOn (D.bytes disk.new) (D.images disk.new) program.now r.trace.run) }
     ensures any_moment { StandsAt (D.bytes disk.old) (gate_of journal) program.now trace.now.run
         → LeavesOnly D.moment D.left_since disk.old disk.new (StandsForLonger program.now trace.now.run) }
@@ -117,7 +123,7 @@ fn run_on_trace<G: Gate, D: Disk>(
     ensures fault { (fault at : ℕ) → IsErrOf result (JournalError.Fault fault at) → fault ≡ 8 }
     ensures full { (fault at : ℕ) → IsErrOf result (JournalError.Fault fault at)
         → StandsAt (D.bytes disk.old) (gate_of journal) program.now trace.now.run
-        → HasNoRoomFrom program.now trace.now.run (D.bytes disk.new) at }
+        → HasNoRoomFrom program.now trace.now.run limit (D.bytes disk.new) at }
     ensures disk_fault { IsErrOf result JournalError.DiskFault → HasRisen (D.faults disk.old) (D.faults disk.new) }
     ensures never_falls { D.faults disk.old ≤ D.faults disk.new }
 {

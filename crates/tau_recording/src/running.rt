@@ -1,16 +1,17 @@
 //! Running a book to its end, each step of which is kept.
-ghost use Rattle.std.specs.Prelude.{◌≡◌, ◌≤◌, ℕ, IfOk, IsErrOf};
+ghost use Rattle.std.specs.Prelude.{◌≡◌, ◌≤◌, ℕ, IfOk, IfSome, IsErrOf, length};
 ghost use Rattle.tau_io.specs.Faults.{HasRisen};
 ghost use Rattle.tau_legal.specs.Ends.{EndsAt};
 ghost use Rattle.tau_disk.specs.Moments.{LeavesOnly};
 ghost use Rattle.tau_journal.specs.Records.{IsAtRest};
 ghost use Rattle.tau_journal.specs.Gates.{gate_of};
+ghost use Rattle.tau_journal.specs.Room.{most_bytes};
 ghost use Rattle.tau_keeping.specs.Standing.{StandsAt};
 ghost use Rattle.tau_book.specs.Onward.{BeginsWith};
 ghost use Rattle.tau_book.specs.Working.{HasAllJobs, IsAtWork};
 ghost use Rattle.tau_book.specs.SerialRun.{IsSerialRun};
 ghost use Rattle.tau_recording.specs.Going.{StandsBetween};
-ghost use Rattle.tau_recording.specs.Kept.{IsKeptOn, StandsForLonger, HasNoRoomFrom};
+ghost use Rattle.tau_recording.specs.Kept.{IsKeptOn, StandsForLonger, HasNoRoomFrom, HasNoRoomInSerial};
 
 use crate::go_on;
 use std::alloc::Global;
@@ -37,6 +38,7 @@ pub(crate) fn run_on<'p, G: Gate, D: Disk>(
     ensures serial { IfOk result (λ r. (seed : ℕ) → IsAtWork seed book.entry hand.entry
         → IsSerialRun book.entry.system.program hand.entry.size seed book.entry.limit r.trace.run) }
     ensures kept { IfOk result (λ r. StandsAt (D.bytes disk.old) (gate_of journal) book.entry.system.program book.entry.system.run
+        → IfSome (D.bytes disk.old) (λ file. length file ≤ most_bytes)
         → IsKeptOn (D.bytes disk.new) (D.images disk.new) book.entry.system.program r.trace.run) }
     ensures any_moment { StandsAt (D.bytes disk.old) (gate_of journal) book.entry.system.program book.entry.system.run
         → LeavesOnly D.moment D.left_since disk.old disk.new (StandsForLonger book.entry.system.program book.entry.system.run) }
@@ -45,7 +47,11 @@ pub(crate) fn run_on<'p, G: Gate, D: Disk>(
     ensures fault { (fault at : ℕ) → IsErrOf result (JournalError.Fault fault at) → fault ≡ 8 }
     ensures full { (fault at : ℕ) → IsErrOf result (JournalError.Fault fault at)
         → StandsAt (D.bytes disk.old) (gate_of journal) book.entry.system.program book.entry.system.run
-        → HasNoRoomFrom book.entry.system.program book.entry.system.run (D.bytes disk.new) at }
+        → HasNoRoomFrom book.entry.system.program book.entry.system.run book.entry.limit (D.bytes disk.new) at }
+    ensures full_serial { (fault at : ℕ) → IsErrOf result (JournalError.Fault fault at)
+        → StandsAt (D.bytes disk.old) (gate_of journal) book.entry.system.program book.entry.system.run
+        → (seed : ℕ) → IsAtWork seed book.entry hand.entry
+        → HasNoRoomInSerial book.entry.system.program hand.entry.size seed book.entry.limit (D.bytes disk.new) at }
     ensures disk_fault { IsErrOf result JournalError.DiskFault → HasRisen (D.faults disk.old) (D.faults disk.new) }
     ensures never_falls { D.faults disk.old ≤ D.faults disk.new }
 {

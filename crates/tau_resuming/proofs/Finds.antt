@@ -5,18 +5,20 @@ use Rattle.tau_tree.specs.declared.programs.Program.{Program}
 use Rattle.tau_trace.specs.Run.{Run}
 use Rattle.tau_legal.specs.Traces.{Legal}
 use Rattle.tau_journal.specs.Records.{HasRecords}
-use Rattle.tau_journal.specs.Found.{IsFault}
+use Rattle.tau_journal.specs.Found.{IsFault, IsFindNumber}
 use Rattle.tau_journal.specs.Room.{most_bytes, IsFailure, IsFaultOrFailure}
 use Rattle.tau_journal.specs.declared.errors.JournalError.{JournalError}
 use Rattle.tau_journal.specs.declared.errors.JournalError.TheVariants.{Fault, DiskFault, NoMemory}
 use Rattle.tau_journal.proofs.Unique.{one_list}
 use Rattle.tau_revival.specs.Laws.{RevivalKeepsSteps}
+use Rattle.tau_keeping.specs.declared.faults.RecordFault.{RecordFault}
 use Rattle.tau_keeping.specs.declared.faults.RecordFault.TheVariants.{Item, ScriptFull}
 use Rattle.tau_keeping.specs.Standing.{StandsFor, Stands}
+use Rattle.tau_keeping.specs.Reading.{error_of}
 use Rattle.tau_keeping.proofs.Unique.{some_stand}
 use Rattle.tau_keeping.proofs.Once.{no_fault, no_program}
 use Rattle.tau_keeping.proofs.Finds.{no_bytes_fault, failed_or, recast}
-use Rattle.tau_resuming.specs.Faults.{IsRunFault, in_first, in_later, in_step, IsResumeFault}
+use Rattle.tau_resuming.specs.Faults.{IsRunFault, in_first, in_later, in_step, IsResumeFault, IsResumeNumber}
 use Rattle.tau_resuming.proofs.Illegal.{none_first, first_read}
 
 -- records that stand for a program and a legal run have no fault
@@ -85,3 +87,18 @@ module _ {X : Type 0} (r : Result X JournalError) where
       → IfSome told (λ file. (fault at : ℕ) → IsResumeFault file fault at → IsFaultOrFailure fault at r)
   records_faulty None rs gate has small some faulty = tt
   records_faulty (Some file) rs gate has small some faulty = told_faulty file rs gate has small some faulty
+
+-- which faults are told
+pub bytes_number : (fault : ℕ) → IsFindNumber fault → IsResumeNumber fault
+bytes_number fault (inl one) = inl (omega (arith, one), omega (arith, one))
+bytes_number fault (inr (inl two)) = inl (omega (arith, two), omega (arith, two))
+bytes_number fault (inr (inr eight)) = inr eight
+
+later_number : (e : RecordFault) (fault at : ℕ) → error_of e ≡ Fault fault at → IsResumeNumber fault
+later_number (Item k) fault at same = let four : 4 ≡ fault = cc in inl (omega (arith, four), omega (arith, four))
+later_number (ScriptFull n) fault at same = let six : 6 ≡ fault = cc in inl (omega (arith, six), omega (arith, six))
+
+pub run_number : (rs : List (List ℕ)) (fault at : ℕ) → IsRunFault rs fault at → IsResumeNumber fault
+run_number rs fault at (in_first three zero lacks) = inl (omega (arith, three), omega (arith, three))
+run_number rs fault at (in_later P T e same legal one) = later_number e fault at same
+run_number rs fault at (in_step P T five place h) = inl (omega (arith, five), omega (arith, five))

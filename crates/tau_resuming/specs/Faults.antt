@@ -33,3 +33,7 @@ pub data IsRunFault (rs : List (List ℕ)) (fault at : ℕ) : Type 0 where
 abbrev pub IsResumeFault : List ℕ → ℕ → ℕ → Type 0
 IsResumeFault file fault at = IsFault file fault at
     ⊎ ((rs : List (List ℕ)) × (length file ≤ most_bytes) × AreRecords rs file × IsRunFault rs fault at)
+
+-- the number of a fault that is told of such a disk, on every disk
+abbrev pub IsResumeNumber : ℕ → Type 0
+IsResumeNumber fault = ((1 ≤ fault) × (fault ≤ 6)) ⊎ (fault ≡ 8)

@@ -10,7 +10,7 @@ ghost use Rattle.tau_journal.specs.Room.{most_bytes, IsFailure, IsFaultOrFailure
 ghost use Rattle.tau_journal.specs.Gates.{gate_of};
 ghost use Rattle.tau_keeping.specs.Laws.{IsRunOf};
 ghost use Rattle.tau_keeping.specs.Standing.{Stands, StandsAt};
-ghost use Rattle.tau_resuming.specs.Faults.{IsResumeFault};
+ghost use Rattle.tau_resuming.specs.Faults.{IsResumeFault, IsResumeNumber};
 
 use crate::reading::{FoundRun, legal_run};
 use std::alloc::Global;
@@ -37,6 +37,7 @@ pub fn find_legal<D: Disk>(alloc: Global, disk: &mut D) -> Result<FoundRun, Jour
 
     ensures fault { (fault at : ℕ) → IsErrOf result (JournalError.Fault fault at) → IfSome (D.bytes disk.old) (λ file. IsResumeFault file fault at) }
     ensures faulty { IfSome (D.bytes disk.old) (λ file. (fault at : ℕ) → IsResumeFault file fault at → IsFaultOrFailure fault at result) }
+    ensures among { (fault at : ℕ) → IsErrOf result (JournalError.Fault fault at) → IsResumeNumber fault }
     ensures same { D.bytes disk.new ≡ D.bytes disk.old }
     ensures untouched { LeavesOnly D.moment D.left_since disk.old disk.new (D.images disk.old) }
     ensures disk_fault { IsErrOf result JournalError.DiskFault → HasRisen (D.faults disk.old) (D.faults disk.new) }

@@ -1,11 +1,11 @@
 //! Reviving a program, and the mark that says so on a disk.
-ghost use Rattle.std.specs.Prelude.{◌≡◌, ◌+◌, ◌≤◌, ◌↔◌, ℕ, Err, IfOk, IfSome, IsErrOf, OnOk, length};
+ghost use Rattle.std.specs.Prelude.{◌≡◌, ◌+◌, ◌≤◌, ◌↔◌, ℕ, Some, Err, IfOk, IfSome, IsErrOf, OnOk, length};
 ghost use Rattle.tau_io.specs.Faults.{HasRisen};
 ghost use Rattle.tau_tree.specs.Sound.{Sound};
 ghost use Rattle.tau_legal.specs.Traces.{Legal};
-ghost use Rattle.tau_disk.specs.Moments.{LeavesOnly};
+ghost use Rattle.tau_disk.specs.Moments.{LeavesOnly, IsUntouched};
 ghost use Rattle.tau_journal.specs.Records.{IsAtRest, going_on};
-ghost use Rattle.tau_journal.specs.Room.{most_bytes, IsUnlessSmall};
+ghost use Rattle.tau_journal.specs.Room.{most_bytes, too_large, IsUnlessSmall};
 ghost use Rattle.tau_journal.specs.Gates.{gate_of};
 ghost use Rattle.tau_revival.specs.Revival.{IsRevival, IsScriptFull};
 ghost use Rattle.tau_keeping.specs.Standing.{StandsAt};
@@ -62,7 +62,12 @@ pub fn revive<D: Disk>(
         → IsReviveFault program.now (D.bytes disk.old) (gate_of journal + 5 + length going_on + 1) fault at }
     ensures full { (n : ℕ) → IsScriptFull program.now n → result ≡ Err (JournalError.Fault 6 n) }
     ensures faulty { ((n : ℕ) → ¬ IsScriptFull program.now n) → IsUnlessSmall (D.bytes disk.old) (gate_of journal + 5 + length going_on + 1) result }
-    ensures unwritten { (fault at : ℕ) → IsErrOf result (JournalError.Fault fault at) → D.bytes disk.new ≡ D.bytes disk.old }
+
+    // After a fault, and whatever is answered where there is no room, nothing was written.
+    ensures unwritten { (fault at : ℕ) → IsErrOf result (JournalError.Fault fault at)
+        → IsUntouched D.bytes D.images D.moment D.left_since disk.old disk.new }
+    ensures no_room { IfSome (D.bytes disk.old) (λ file. (at : ℕ) → too_large (length file) (gate_of journal + 5 + length going_on + 1) ≡ Some at
+        → IsUntouched D.bytes D.images D.moment D.left_since disk.old disk.new) }
     ensures disk_fault { IsErrOf result JournalError.DiskFault → HasRisen (D.faults disk.old) (D.faults disk.new) }
     ensures never_falls { D.faults disk.old ≤ D.faults disk.new }
 {

@@ -1,8 +1,8 @@
-use Rattle.std.proofs.Common.{ℕ, ap, rules}
+use Rattle.std.proofs.Common.{inl, ℕ, ap, arith, rules}
 use Rattle.std.specs.Prelude.{Err}
 use Rattle.tau_journal.specs.Gates.{gate_of}
 use Rattle.tau_keeping.specs.Reading.{in_first, in_later}
-use Rattle.tau_keeping.proofs.Finds.{stands_told, small_told, bytes_found, bytes_faulty, bytes_fault, nothing_told, records_fault, records_faulty, records_found, first_faulty, first_found, all_faulty, some_faulty_read, none_stand, all_read, some_read, error_is, no_disk_error}
+use Rattle.tau_keeping.proofs.Finds.{stands_told, small_told, bytes_found, bytes_faulty, bytes_fault, nothing_told, records_fault, records_faulty, records_found, first_faulty, first_found, all_faulty, some_faulty_read, none_stand, all_read, some_read, error_is, no_disk_error, first_number, later_number}
 use Rattle.tau_keeping.proofs.finding.find.Goals as goal
 
 pub returns-in_err-journal-clause-found : goal.returns-in_err-journal-clause-found
@@ -70,3 +70,12 @@ returns-clause-faulty g c =
 
 pub returns-clause-disk_fault : goal.returns-clause-disk_fault
 returns-clause-disk_fault g c is = absurd (no_disk_error c.in-Some.fault (error_is c.error.result c.in-Some.fault _ c.error.ensures is))
+
+pub returns-in_err-journal-clause-among : goal.returns-in_err-journal-clause-among
+returns-in_err-journal-clause-among g c fault at is = first_number fault (c.in_err-journal.ensures.among fault at (search rules))
+
+pub returns-in_err-standing-clause-among : goal.returns-in_err-standing-clause-among
+returns-in_err-standing-clause-among g c fault at is = let none = c.in_err-standing.ensures.fault fault at (search rules) in inl (omega (arith, none.0), omega (arith, none.0))
+
+pub returns-clause-among : goal.returns-clause-among
+returns-clause-among g c fault at is = later_number c.in-Some.fault fault at (error_is c.error.result c.in-Some.fault _ c.error.ensures is)

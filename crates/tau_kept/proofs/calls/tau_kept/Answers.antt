@@ -3,8 +3,8 @@ use Rattle.tau_command.specs.Commands.{journal_command_of}
 use Rattle.tau_output.specs.Writing.{Writes}
 use Rattle.tau_cli.specs.Ends.{effect_on}
 use Rattle.tau_kept.specs.Disks.{disk_effect}
-use Rattle.tau_kept.proofs.KeepLemmas.{blank_still}
-use Rattle.tau_kept.proofs.ResumeLemmas.{standing_still}
+use Rattle.tau_kept.proofs.KeepLemmas.{blank_still, held_still}
+use Rattle.tau_kept.proofs.ResumeLemmas.{standing_still, unwritten_still}
 use Rattle.tau_kept.proofs.EndLemmas.{none_begun, same_value, over_journal, without_disk}
 use Rattle.tau_kept.proofs.calls.tau_kept.Goals as goal
 
@@ -28,5 +28,6 @@ returns-in-Err g c =
     none_begun Writes c.args.words.now source (effect_on g.O.Sink.held g.O.Sink.faults c.args.output.now c.args.output.now)
     (disk_effect g.D.Disk.bytes g.D.Disk.images g.D.Disk.moment g.D.Disk.left_since g.D.Disk.faults disk disk) refl refl refl
     (blank_still g.D.Disk.images g.D.Disk.moment g.D.Disk.left_since g.met.D.Disk.only_now disk source.before (g.D.Disk.bytes disk))
-    (λ file P T told stands legal complete. refl)
+    (held_still g.D.Disk.images g.D.Disk.moment g.D.Disk.left_since g.met.D.Disk.only_now disk (g.D.Disk.bytes disk))
+    (unwritten_still g.D.Disk.images g.D.Disk.moment g.D.Disk.left_since g.met.D.Disk.only_now disk (g.D.Disk.bytes disk))
     (standing_still g.D.Disk.images g.D.Disk.moment g.D.Disk.left_since g.met.D.Disk.only_now disk (g.D.Disk.bytes disk))

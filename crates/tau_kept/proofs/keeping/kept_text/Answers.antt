@@ -9,7 +9,7 @@ use Rattle.tau_cli.specs.Ends.{effect_on}
 use Rattle.tau_cli.specs.declared.statuses.Status.TheVariants.{NoMemory}
 use Rattle.tau_kept.specs.Disks.{disk_effect}
 use Rattle.tau_kept.proofs.StatusLemmas.{journal_refuses, resume_keeps}
-use Rattle.tau_kept.proofs.KeepLemmas.{unread, misspelled, weaker_leaves, unkept, keeps, keeps_not, no_memory, read_refuses, program_refuses, blank_still}
+use Rattle.tau_kept.proofs.KeepLemmas.{unread, misspelled, weaker_leaves, unkept, keeps, keeps_not, no_memory, read_refuses, program_refuses, blank_still, held_still, held_so, unwritten_so}
 use Rattle.tau_kept.proofs.keeping.kept_text.Goals as goal
 
 pub write_run-requires-clause-opening : goal.write_run-requires-clause-opening
@@ -24,6 +24,7 @@ returns-in_err-bytes g c =
     keeps_not c.args.jobs c.args.seed c.args.steps source disk c.from_residual.result (of_read_error e) c.from_residual.ensures.1 (read_refuses e)
     (unread c.args.jobs c.args.seed c.args.steps source disk e (λ is. c.in_err-bytes.ensures.fault (ap Err is)) (λ is. c.in_err-bytes.ensures.too_long (ap Err is)) (λ is. c.in_err-bytes.ensures.longer (ap Err is)) refl)
     (blank_still g.D.Disk.images g.D.Disk.moment g.D.Disk.left_since g.met.D.Disk.only_now still source.before (g.D.Disk.bytes still))
+    (held_still g.D.Disk.images g.D.Disk.moment g.D.Disk.left_since g.met.D.Disk.only_now still (g.D.Disk.bytes still))
 
 pub returns-in_err-program : goal.returns-in_err-program
 returns-in_err-program g c =
@@ -37,6 +38,7 @@ returns-in_err-program g c =
     (misspelled c.args.jobs c.args.seed c.args.steps source disk bytes (c.in_ok-bytes.ensures.all refl) few e
     (subst (λ b. TellsInputFault (IsProgramFault b) e) c.deref.ensures.value c.in_err-program.ensures.fault) refl)
     (blank_still g.D.Disk.images g.D.Disk.moment g.D.Disk.left_since g.met.D.Disk.only_now still source.before (g.D.Disk.bytes still))
+    (held_still g.D.Disk.images g.D.Disk.moment g.D.Disk.left_since g.met.D.Disk.only_now still (g.D.Disk.bytes still))
 
 pub returns-in_err-ran : goal.returns-in_err-ran
 returns-in_err-ran g c =
@@ -51,9 +53,11 @@ returns-in_err-ran g c =
     let spelled = subst (λ b. IsProgram b P) c.deref.ensures.value c.in_ok-program.ensures.program in
     keeps_not c.args.jobs c.args.seed c.args.steps source disk c.from_residual-in_err-ran.result (of_journal_error e) c.from_residual-in_err-ran.ensures.1 (resume_keeps (of_journal_error e) (journal_refuses e))
     (unkept c.args.jobs c.args.seed c.args.steps source disk bytes (c.in_ok-bytes.ensures.all refl) few P spelled _ e
-    (λ fault at is. c.in_err-ran.ensures.fault fault at (ap Err is)) c.in_err-ran.ensures.faulty (λ at is. c.in_err-ran.ensures.unwritten at (ap Err is)) (λ is. c.in_err-ran.ensures.disk_fault (ap Err is)))
+    (λ fault at is. c.in_err-ran.ensures.fault fault at (ap Err is)) c.in_err-ran.ensures.faulty (λ fault at is. c.in_err-ran.ensures.among fault at (ap Err is))
+    (λ at is. unwritten_so g.D.Disk.bytes g.D.Disk.images g.D.Disk.moment g.D.Disk.left_since old new (c.in_err-ran.ensures.unwritten at (ap Err is))) (λ is. c.in_err-ran.ensures.disk_fault (ap Err is)))
     (weaker_leaves c.args.jobs c.args.seed c.args.steps source disk bytes (c.in_ok-bytes.ensures.all refl) few P spelled
     g.D.Disk.images g.D.Disk.moment g.D.Disk.left_since old new (g.D.Disk.bytes old) c.keep_run.ensures.any_moment)
+    (held_so g.D.Disk.bytes g.D.Disk.images g.D.Disk.moment g.D.Disk.left_since old new (g.D.Disk.bytes old) c.keep_run.ensures.held)
 
 pub returns-in_err-write_run : goal.returns-in_err-write_run
 returns-in_err-write_run g c =
@@ -69,6 +73,7 @@ returns-in_err-write_run g c =
     (no_memory c.args.jobs c.args.seed c.args.steps source disk)
     (weaker_leaves c.args.jobs c.args.seed c.args.steps source disk bytes (c.in_ok-bytes.ensures.all refl) few P spelled
     g.D.Disk.images g.D.Disk.moment g.D.Disk.left_since old new (g.D.Disk.bytes old) c.keep_run.ensures.any_moment)
+    (held_so g.D.Disk.bytes g.D.Disk.images g.D.Disk.moment g.D.Disk.left_since old new (g.D.Disk.bytes old) c.keep_run.ensures.held)
 
 pub returns : goal.returns
 returns g c =
@@ -86,3 +91,4 @@ returns g c =
     _ ran ran.trace.run c.in_ok-write_run.field-0 c.in_ok-ran.ensures.faulty c.in_ok-ran.ensures.serial told.0 told.1 told.2 c.in_ok-ran.ensures.kept c.in_ok-ran.ensures.front
     (weaker_leaves c.args.jobs c.args.seed c.args.steps source disk bytes (c.in_ok-bytes.ensures.all refl) few P spelled
     g.D.Disk.images g.D.Disk.moment g.D.Disk.left_since old new (g.D.Disk.bytes old) c.keep_run.ensures.any_moment)
+    (held_so g.D.Disk.bytes g.D.Disk.images g.D.Disk.moment g.D.Disk.left_since old new (g.D.Disk.bytes old) c.keep_run.ensures.held)

@@ -51,6 +51,9 @@ returns-in_err-kept-clause-full g c fault at is =
     no_room_more first.system.program before.system.program so_far.grows.program first.system.run before.system.run after.system.run
     (g.D.Disk.bytes c.args.disk.now) (g.D.Disk.bytes c.loop.disk) (g.D.Disk.bytes c.keep_next.new.disk) (gate_of c.args.journal) (gate_of c.loop.journal) at so_far.stands (c.in_err-kept.ensures.full fault at (search rules))
 
+pub returns-in_err-kept-clause-unkept : goal.returns-in_err-kept-clause-unkept
+returns-in_err-kept-clause-unkept g c fault at is seed w = c.in_err-kept.ensures.unkept fault at (search rules) seed (c.loop.invariant.serial seed w)
+
 pub returns-in_err-kept-clause-disk_fault : goal.returns-in_err-kept-clause-disk_fault
 returns-in_err-kept-clause-disk_fault g c is = risen_later _ _ _ c.loop.invariant.never_falls (c.in_err-kept.ensures.disk_fault (search rules))
 

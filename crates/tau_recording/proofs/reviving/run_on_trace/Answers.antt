@@ -1,15 +1,16 @@
-use Rattle.std.proofs.Common.{◌≡◌, ℕ, ap, ◌∙◌, subst, arith}
-use Rattle.std.specs.Prelude.{IfOk, IsErrOf}
+use Rattle.std.proofs.Common.{◌≡◌, ◌≤◌, ℕ, length, ap, ◌∙◌, subst, arith}
+use Rattle.std.specs.Prelude.{IfOk, IfSome, IsErrOf}
 use Rattle.tau_trace.specs.Run.{Run}
 use Rattle.tau_disk.specs.Moments.{LeavesOnly}
 use Rattle.tau_journal.specs.Gates.{gate_of}
+use Rattle.tau_journal.specs.Room.{most_bytes}
 use Rattle.tau_journal.specs.declared.errors.JournalError.TheVariants.{Fault}
 use Rattle.tau_book.specs.Onward.{BeginsWith}
 use Rattle.tau_keeping.specs.Standing.{StandsAt}
 use Rattle.tau_recording.specs.Going.{StandsBetween}
 use Rattle.tau_recording.specs.Kept.{IsKeptOn, HasNoRoomFrom}
 use Rattle.tau_recording.proofs.Faulted.{of_same}
-use Rattle.tau_recording.proofs.Ended.{adopted_program, adopted_run}
+use Rattle.tau_recording.proofs.Ended.{adopted_program, adopted_run, adopted_limit}
 use Rattle.tau_recording.proofs.reviving.run_on_trace.Goals as goal
 
 pub run_on-requires-clause-jobs : goal.run_on-requires-clause-jobs
@@ -26,7 +27,8 @@ pub returns-clause-kept : goal.returns-clause-kept
 returns-clause-kept g c =
     let program = adopted_program c.in_ok-book.book c.adopt.new.self c.in_ok-adopt.field-0 c.in_ok-adopt.ensures.ok ∙ c.in_ok-book.ensures.program in
     let run = adopted_run c.in_ok-book.book c.adopt.new.self c.in_ok-adopt.field-0 c.in_ok-adopt.ensures.ok ∙ c.in_ok-book.ensures.run in
-    of_same (λ P T. IfOk c.run_on.result (λ r. StandsAt (g.D.Disk.bytes c.args.disk.now) (gate_of c.args.journal) P T → IsKeptOn (g.D.Disk.bytes c.run_on.new.disk) (g.D.Disk.images c.run_on.new.disk) P r.trace.run))
+    of_same (λ P T. IfOk c.run_on.result (λ r. StandsAt (g.D.Disk.bytes c.args.disk.now) (gate_of c.args.journal) P T
+    → IfSome (g.D.Disk.bytes c.args.disk.now) (λ file. length file ≤ most_bytes) → IsKeptOn (g.D.Disk.bytes c.run_on.new.disk) (g.D.Disk.images c.run_on.new.disk) P r.trace.run))
     _ _ _ _ program run c.run_on.ensures.kept
 
 pub returns-clause-front : goal.returns-clause-front
@@ -41,5 +43,8 @@ pub returns-clause-full : goal.returns-clause-full
 returns-clause-full g c =
     let program = adopted_program c.in_ok-book.book c.adopt.new.self c.in_ok-adopt.field-0 c.in_ok-adopt.ensures.ok ∙ c.in_ok-book.ensures.program in
     let run = adopted_run c.in_ok-book.book c.adopt.new.self c.in_ok-adopt.field-0 c.in_ok-adopt.ensures.ok ∙ c.in_ok-book.ensures.run in
-    of_same (λ P T. (fault at : ℕ) → IsErrOf c.run_on.result (Fault fault at) → StandsAt (g.D.Disk.bytes c.args.disk.now) (gate_of c.args.journal) P T → HasNoRoomFrom P T (g.D.Disk.bytes c.run_on.new.disk) at)
-    _ _ _ _ program run c.run_on.ensures.full
+    let most = adopted_limit c.in_ok-book.book c.adopt.new.self c.in_ok-adopt.field-0 c.in_ok-adopt.ensures.ok ∙ c.in_ok-book.ensures.limit in
+    let after = g.D.Disk.bytes c.run_on.new.disk in
+    subst (λ (n : ℕ). (fault at : ℕ) → IsErrOf c.run_on.result (Fault fault at) → StandsAt (g.D.Disk.bytes c.args.disk.now) (gate_of c.args.journal) c.args.program.now c.args.trace.now.run → HasNoRoomFrom c.args.program.now c.args.trace.now.run n after at) most
+    (of_same (λ P T. (fault at : ℕ) → IsErrOf c.run_on.result (Fault fault at) → StandsAt (g.D.Disk.bytes c.args.disk.now) (gate_of c.args.journal) P T → HasNoRoomFrom P T c.adopt.new.self.limit after at)
+    _ _ _ _ program run c.run_on.ensures.full)

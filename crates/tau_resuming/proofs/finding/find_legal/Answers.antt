@@ -5,7 +5,7 @@ use Rattle.tau_journal.specs.Records.{IsAtRest}
 use Rattle.tau_keeping.specs.Standing.{StandsAt}
 use Rattle.tau_keeping.proofs.Answered.{if_ok_then, if_ok_both}
 use Rattle.tau_keeping.proofs.Finds.{stands_told, small_told}
-use Rattle.tau_resuming.proofs.Finds.{found_told, bytes_fault, records_fault, bytes_faulty, records_faulty}
+use Rattle.tau_resuming.proofs.Finds.{found_told, bytes_fault, records_fault, bytes_faulty, records_faulty, bytes_number, run_number}
 use Rattle.tau_resuming.proofs.finding.find_legal.Goals as goal
 
 pub returns-in_err-journal-clause-found : goal.returns-in_err-journal-clause-found
@@ -50,3 +50,9 @@ returns-clause-faulty g c =
 
 pub returns-clause-disk_fault : goal.returns-clause-disk_fault
 returns-clause-disk_fault g c is = absurd (c.legal_run.ensures.no_disk is)
+
+pub returns-in_err-journal-clause-among : goal.returns-in_err-journal-clause-among
+returns-in_err-journal-clause-among g c fault at is = bytes_number fault (c.in_err-journal.ensures.among fault at (search rules))
+
+pub returns-clause-among : goal.returns-clause-among
+returns-clause-among g c fault at is = run_number c.in_ok-journal.records fault at (c.legal_run.ensures.fault fault at is)

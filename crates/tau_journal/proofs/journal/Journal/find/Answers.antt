@@ -1,4 +1,4 @@
-use Rattle.std.proofs.Common.{rules}
+use Rattle.std.proofs.Common.{inl, inr, rules}
 use Rattle.tau_journal.specs.Found.{IsBlank}
 use Rattle.tau_journal.proofs.Reading.{full_fault, faulty_full, faulty_damaged, faulty_none, begins_open}
 use Rattle.tau_journal.proofs.journal.Journal.find.Goals as goal
@@ -20,3 +20,9 @@ pub returns-clause-faulty : goal.returns-clause-faulty
 returns-clause-faulty g c =
     let begins : ¬ IsBlank c.in_ok-bytes.bytes.items = begins_open c.in_ok-bytes.bytes.items c.index.result.now (search rules) c.index.ensures (search rules) in
     faulty_none _ (g.D.Disk.bytes c.args.disk.now) c.in_ok-bytes.bytes.items c.in_ok-bytes.ensures.read c.in_ok-bytes.ensures.small begins c.in_ok-records.records c.in_ok-records.gate c.in_ok-records.ensures.records
+
+pub returns-in_err-bytes-clause-among : goal.returns-in_err-bytes-clause-among
+returns-in_err-bytes-clause-among g c fault at is = inr (inr (c.in_err-bytes.ensures.full fault at (search rules)).0)
+
+pub returns-in_err-records-clause-among : goal.returns-in_err-records-clause-among
+returns-in_err-records-clause-among g c fault at is = inr (inl (c.in_err-records.ensures.damaged fault at (search rules)).0)
