@@ -1,17 +1,15 @@
 -- The boxes of states.
 use Rattle.std.proofs.Common.{◌≡◌, ℕ, ◌+◌, ◌-◌, ◌/◌, ◌≤◌, ◌<◌, List, [], ◌∷◌, Option, Some, None, Bool, true, false, length, get_or, refl, sym, ap, ◌∙◌, arith, leb, ltb, cond}
 use Rattle.std.specs.Prelude.{codes}
-use Rattle.std.specs.List.{flat_map}
 use Rattle.std.proofs.lemmas.Bool.{lt-ltb}
-use Rattle.std.proofs.Math.Nat.{mul-le-mul_left}
 use Rattle.tau_markup.specs.Lines.{Line, empty, with_line, with_lines}
 use Rattle.tau_trace.specs.Run.{Run}
 use Rattle.tau_shapes.specs.declared.window.Window.{Window}
 use Rattle.tau_shapes.specs.Windows.{count, row_of}
 use Rattle.tau_shapes.specs.Grids.{row_height, first_row}
+use Rattle.tau_shapes.proofs.GridLemmas.{rows_grow}
 use Rattle.tau_shapes.specs.Shapes.{rect_of}
-use Rattle.tau_shapes.specs.Each.{EachPlace, Writes}
-use Rattle.tau_shapes.proofs.Writing.{these}
+use Rattle.tau_shapes.specs.Each.{EachPlace, EachItem, Writes}
 use Rattle.tau_layout.specs.declared.columns.Column.{Column}
 use Rattle.tau_layout.specs.Plans.{Plan, grid, row_y}
 use Rattle.tau_layout.specs.Inner.Laying.{lane_of, lanes_of, IsColumnOf}
@@ -20,33 +18,31 @@ use Rattle.tau_looks.specs.declared.looks.Seen.{Seen}
 use Rattle.tau_looks.specs.declared.looks.Looks.{Looks}
 use Rattle.tau_lanes.proofs.ColumnLanes.{lane_at, next}
 use Rattle.tau_bands.specs.Names.{state_class, seen_at}
-use Rattle.tau_bands.specs.StateLines.{state_top, end_foot, state_foot, stable_top, stable_from, state_lines, AreStatesAt}
+use Rattle.tau_bands.specs.StateLines.{state_top, end_foot, state_foot, stable_top, stable_from, IsStateAt, AreStatesAt}
 
 -- the states of one more lane
 pub states_next : (T : Run) (plan : Plan) (looks : Looks) (cs : List Column) (k : ℕ) (d : Column) (out old new : List ℕ) → lanes_of cs ≡ plan.lanes → IsColumnOf plan cs → k < length cs
-    → Writes (EachPlace (AreStatesAt T plan looks) 0 k) out old → new ≡ with_lines old (flat_map (state_lines plan T.opening.names (get_or cs k d).x) (seen_at looks k)) → Writes (EachPlace (AreStatesAt T plan looks) 0 (k + 1)) out new
+    → Writes (EachPlace (AreStatesAt T plan looks) 0 k) out old → Writes (EachItem (IsStateAt T plan (get_or cs k d).x) (seen_at looks k)) old new → Writes (EachPlace (AreStatesAt T plan looks) 0 (k + 1)) out new
 states_next T plan looks cs k d out old new are each lt w one =
-    let lines = flat_map (state_lines plan T.opening.names (get_or cs k d).x) (seen_at looks k) in
-    next plan cs are each k d lt (AreStatesAt T plan looks) (λ x lane ls. ls ≡ flat_map (state_lines plan T.opening.names x) (seen_at looks k)) out old new
-    (λ ls told. record { lane = lane_of (get_or cs k d); at_rank = lane_at plan cs are each k d lt; are = told }) w
-    (these (λ ls. ls ≡ flat_map (state_lines plan T.opening.names (get_or cs k d).x) (seen_at looks k)) old new lines refl one)
+    next plan cs are each k d lt (AreStatesAt T plan looks) (λ x lane ls. EachItem (IsStateAt T plan x) (seen_at looks k) ls) out old new
+    (λ ls told. record { lane = lane_of (get_or cs k d); at_rank = lane_at plan cs are each k d lt; are = told }) w one
 
 -- rows go down with places
 
 row_least : (rows : ℕ) → 14 ≤ row_height rows
 row_least rows = grind arith
 
-rows_grow : (v : Window) (j k : ℕ) → j ≤ k → row_of v j ≤ row_of v k
-rows_grow v j k le = omega (arith, le)
+row_grows : (v : Window) (j k : ℕ) → j ≤ k → row_of v j ≤ row_of v k
+row_grows v j k le = omega (arith, le)
 
 row_most : (v : Window) (k : ℕ) → row_of v k ≤ count v
 row_most v k = omega arith
 
 y_grows : (plan : Plan) (j k : ℕ) → j ≤ k → row_y plan j ≤ row_y plan k
-y_grows plan j k le = omega (arith, mul-le-mul_left (grid plan).row (rows_grow plan.window j k le))
+y_grows plan j k le = omega (arith, rows_grow (grid plan).row (grid plan).names (row_of plan.window j) (row_of plan.window k) (row_grows plan.window j k le))
 
 y_most : (plan : Plan) (k : ℕ) → row_y plan k ≤ (grid plan).foot
-y_most plan k = omega (arith, mul-le-mul_left (grid plan).row (row_most plan.window k))
+y_most plan k = omega (arith, rows_grow (grid plan).row (grid plan).names (row_of plan.window k) (count plan.window) (row_most plan.window k))
 
 -- the box of a state begins at the row where the state begins, or above it
 top_most : (y top half : ℕ) (b : Bool) → 124 ≤ top → top ≤ y → 1 ≤ half → cond b (top - 12) (y - half + 1) ≤ y

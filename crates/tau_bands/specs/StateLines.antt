@@ -1,12 +1,13 @@
 -- The states of lanes (docs/formats.md, "Pictures").
-use Rattle.std.specs.Prelude.{◌≡◌, ℕ, ◌+◌, ◌-◌, ◌/◌, List, [], ◌∷◌, ◌++◌, Option, Some, None, length, slice_get, nat_lt, nat_le, if◌then◌else◌, codes}
-use Rattle.std.specs.List.{flat_map}
+use Rattle.std.specs.Prelude.{◌≡◌, ◌↔◌, ℕ, ◌+◌, ◌-◌, ◌/◌, ◌<◌, Bool, List, [], ◌∷◌, ◌++◌, Option, Some, None, IsTrue, length, slice_get, nat_lt, nat_le, if◌then◌else◌, codes}
 use Rattle.tau_markup.specs.Lines.{plain, number, said, Line, empty, titled}
 use Rattle.tau_trace.specs.Run.{Run}
-use Rattle.tau_shapes.specs.Each.{EachPlace}
+use Rattle.tau_shapes.specs.Each.{EachPlace, EachItem}
 use Rattle.tau_shapes.specs.Shapes.{rect, rect_of, rounded, text_at}
 use Rattle.tau_layout.specs.declared.lanes.Lane.{Lane}
+use Rattle.tau_layout.specs.Lanes.{StandsIn}
 use Rattle.tau_layout.specs.Plans.{Plan, grid, lane_x, row_y}
+use Rattle.tau_spots.specs.Senders.{met_by, ComesFromRight}
 use Rattle.tau_courses.specs.declared.states.State.{State}
 use Rattle.tau_words.specs.Texts.{state_title}
 use Rattle.tau_looks.specs.declared.looks.Seen.{Seen}
@@ -31,11 +32,28 @@ box_line plan names x s =
     rect (state_class s.look) (x - 5) top 10 (state_foot plan s.state - top) (rounded 3)
     (titled (said (state_title names s.state.point s.state.begin s.state.end (state_words s.look)) ∷ []))
 
--- its interval and its incarnation, where the lanes are wide
-abbrev pub point_lines : Plan → ℕ → State → List Line
-point_lines plan x s =
+-- the step at place k stands in the lane of t, and receives or loses message m
+pub record MeetsIn (T : Run) (t k m : ℕ) : Type 0 where
+  pub stands : StandsIn T k t
+  pub meets : met_by stands.step ≡ Some m
+
+-- a message line comes from the right to the step where a state begins, which is drawn, and not the first that is
+pub record IsCrowded (T : Run) (plan : Plan) (s : State) : Type 0 where
+  pub later : plan.window.from < s.begin
+  pub drawn : s.begin < plan.window.to
+  pub message : ℕ
+  pub meets : MeetsIn T s.point.who s.begin message
+  pub right : ComesFromRight T plan message s.point.who
+
+-- its interval and its incarnation, where the lanes are wide: above the middle of its first row, and above the head of a line that
+-- comes from the right
+abbrev pub point_y : Plan → State → Bool → ℕ
+point_y plan s crowded = if crowded then state_top plan s + 2 else state_top plan s + (grid plan).row / 2 - 3
+
+abbrev pub point_lines : Plan → ℕ → State → Bool → List Line
+point_lines plan x s crowded =
     if (grid plan).is_wide
-    then text_at (codes "pt") (x + 11) (state_top plan s + 6) (number s.point.interval ∷ plain (codes " ") ∷ number s.point.incarnation ∷ []) ∷ []
+    then text_at (codes "pt") (x + 11) (point_y plan s crowded) (number s.point.interval ∷ plain (codes " ") ∷ number s.point.incarnation ∷ []) ∷ []
     else []
 
 -- where the part begins in which a state is stable, from its Stabilize at place k on
@@ -50,15 +68,20 @@ stable_from plan x s (Some k) =
     then rect_of (state_class s.look) (codes "-s") (x - 2) (stable_top plan s.state k) 4 (state_foot plan s.state - stable_top plan s.state k) empty ∷ []
     else []
 
--- the lines of a state
-abbrev pub state_lines : Plan → List (List ℕ) → ℕ → Seen → List Line
-state_lines plan names x s = box_line plan names x s ∷ (point_lines plan x s.state ++ stable_from plan x s s.state.stable)
+-- the lines of a state in the lane with this middle
+abbrev pub state_lines : Plan → List (List ℕ) → ℕ → Seen → Bool → List Line
+state_lines plan names x s crowded = box_line plan names x s ∷ (point_lines plan x s.state crowded ++ stable_from plan x s s.state.stable)
+
+pub record IsStateAt (T : Run) (plan : Plan) (x : ℕ) (s : Seen) (lines : List Line) : Type 0 where
+  pub crowded : Bool
+  pub crowded_is : IsTrue crowded ↔ IsCrowded T plan s.state
+  pub are : lines ≡ state_lines plan T.opening.names x s crowded
 
 -- the lines of the states that are seen of the lane with so many lanes before it
 pub record AreStatesAt (T : Run) (plan : Plan) (looks : Looks) (rank : ℕ) (lines : List Line) : Type 0 where
   pub lane : Lane
   pub at_rank : slice_get plan.lanes rank ≡ Some lane
-  pub are : lines ≡ flat_map (state_lines plan T.opening.names (lane_x plan rank lane)) (seen_at looks rank)
+  pub are : EachItem (IsStateAt T plan (lane_x plan rank lane)) (seen_at looks rank) lines
 
 -- for each lane, by rank, the lines of its states
 abbrev pub AreStateLines : Run → Plan → Looks → List Line → Type 0

@@ -1,7 +1,7 @@
 -- The strip: the whole window in a small picture, above the rows (docs/formats.md, "Pictures").
 use Rattle.std.specs.Prelude.{◌≡◌, ℕ, ◌+◌, ◌-◌, ◌*◌, ◌<◌, List, [], ◌∷◌, ◌++◌, Option, Some, None, length, slice_get, nat_lt, if◌then◌else◌, option_and_then, codes}
 use Rattle.std.specs.List.{flat_map}
-use Rattle.tau_markup.specs.Texts.{cut}
+use Rattle.tau_markup.specs.Texts.{cut, cut_inside}
 use Rattle.tau_markup.specs.Lines.{plain, number, said, Line, empty, titled}
 use Rattle.tau_trace.specs.Run.{Run}
 use Rattle.tau_shapes.specs.Each.{EachPlace}
@@ -18,9 +18,9 @@ use Rattle.tau_bands.specs.Names.{state_class, tick_class, seen_at}
 abbrev pub frame_line : Plan → Line
 frame_line plan = rect (codes "node") 52 76 ((grid plan).width - 74) (8 * length plan.lanes + 5) (rounded 2) empty
 
--- the name of a lane
+-- the name of a lane; a longer one is cut in the middle
 abbrev pub label_line : ℕ → List ℕ → Line
-label_line rank name = text_at (codes "tiny") 48 (85 + 8 * rank) (said (cut name 9) ∷ [])
+label_line rank name = text_at (codes "tiny") 48 (85 + 8 * rank) (said (cut_inside name 9) ∷ [])
 
 -- where a state ends in the strip: behind the step that ends it, or at the end of the window
 abbrev pub strip_end : Plan → Option ℕ → ℕ

@@ -1,21 +1,23 @@
 //! The states of lanes.
-ghost use Rattle.std.specs.Prelude.{◌≡◌, ◌<◌, ◌≤◌, ◌+◌, ◌^◌, ℕ, Some, OnOk, IfOk};
-ghost use Rattle.std.specs.List.{flat_map};
+ghost use Rattle.std.specs.Prelude.{◌≡◌, ◌↔◌, ◌<◌, ◌≤◌, ◌+◌, ◌^◌, ℕ, Some, IsTrue, OnOk, IfOk};
 ghost use Rattle.tau_markup.specs.Lines.{with_line, with_lines};
-ghost use Rattle.tau_shapes.specs.Each.{Writes};
-ghost use Rattle.tau_layout.specs.Plans.{grid};
+ghost use Rattle.tau_trace.specs.Known.{WellFormed};
+ghost use Rattle.tau_shapes.specs.Each.{EachItem, Writes};
+ghost use Rattle.tau_layout.specs.Plans.{IsPlan, grid};
 ghost use Rattle.tau_words.specs.Texts as texts;
 ghost use Rattle.tau_bands.specs.Names as names_specs;
 ghost use Rattle.tau_bands.specs.StateLines as specs;
-ghost use Rattle.tau_bands.specs.StateLines.{AreStateLines};
+ghost use Rattle.tau_bands.specs.StateLines.{IsCrowded, IsStateAt, AreStateLines};
+ghost use Rattle.tau_bands.specs.Inner.Meetings.{IsMetIn};
 
 use crate::kinds::{seen_at, state_class, state_words};
 use std::alloc::{AllocError, Global};
 use tau_courses::State;
-use tau_layout::Layout;
+use tau_layout::{Layout, lane_at};
 use tau_looks::{Looks, Seen};
 use tau_markup::{close, end, number, plain, put_number, said, title, title_close};
 use tau_shapes::{rect, rect_of, text_at};
+use tau_spots::{comes_from_right, met};
 use tau_trace::Trace;
 use tau_value::Names;
 use tau_words::put_state_title;
@@ -90,15 +92,71 @@ fn put_box(
     title_close(out, b"rect")
 }
 
+/// Whether a transactor, if there is one, is this one.
+fn is_who(lane: Option<u32>, who: u32) -> bool
+    ensures { IsTrue result ↔ (lane ≡ Some who) }
+{
+    lane == Some(who)
+}
+
+/// The message that the step at a place receives or loses, where it stands in the lane of this transactor.
+fn met_in(trace: &Trace, who: u32, place: u32) -> Option<u32>
+    ensures { IsMetIn trace.now.run who place result }
+{
+    if !is_who(lane_at(trace, place), who) {
+        return None;
+    }
+    match trace.step(place) {
+        Some(step) => met(step),
+        None => None,
+    }
+}
+
+/// Whether a message line comes from the right to the step where a state begins, which is drawn, and not the first that is.
+fn is_crowded(trace: &Trace, layout: &Layout, state: State) -> bool
+    requires plan { IsPlan trace.now.run layout.now.window layout.now }
+    requires well_formed { WellFormed trace.now.run }
+    ensures { IsTrue result ↔ IsCrowded trace.now.run layout.now state }
+{
+    let window = layout.window();
+    if state.begin <= window.from || window.to <= state.begin {
+        return false;
+    }
+    let who = state.point.who;
+    let Some(message) = met_in(trace, who, state.begin) else {
+        return false;
+    };
+    comes_from_right(trace, layout, message, who)
+}
+
+/// How high the interval and the incarnation of a state stand.
+fn point_y(layout: &Layout, state: State, crowded: bool) -> u64
+    ensures { result ≡ specs.point_y layout.now state crowded }
+{
+    let grid = layout.grid();
+    let top = state_top(layout, state);
+    if crowded {
+        top + 2
+    } else {
+        top + grid.row / 2 - 3
+    }
+}
+
 /// Writes the interval and the incarnation of a state, where the lanes are wide.
-fn put_point(out: &mut Vec<u8>, layout: &Layout, x: u64, state: State) -> Result<(), AllocError>
+fn put_point(
+    out: &mut Vec<u8>,
+    layout: &Layout,
+    x: u64,
+    state: State,
+    crowded: bool,
+) -> Result<(), AllocError>
     requires { x < 2 ^ 50 }
-    ensures { OnOk result (out.new.items ≡ with_lines out.old.items (specs.point_lines layout.now x state)) }
+    ensures { OnOk result (out.new.items ≡ with_lines out.old.items (specs.point_lines layout.now x state crowded)) }
 {
     if !layout.grid().is_wide {
         return Ok(());
     }
-    text_at(out, b"pt", x + 11, state_top(layout, state) + 6)?;
+    text_at(out, b"pt", x + 11, point_y(layout, state, crowded))?;
     number(out, u64::from(state.point.interval))?;
     plain(out, b" ")?;
     number(out, u64::from(state.point.incarnation))?;
@@ -132,39 +190,62 @@ fn put_stable(out: &mut Vec<u8>, layout: &Layout, x: u64, seen: Seen) -> Result<
     end(out)
 }
 
-/// Writes a state in the lane with this middle.
-fn put_state(
+/// Writes the lines of a state in the lane with this middle.
+fn put_lines(
     alloc: Global,
     out: &mut Vec<u8>,
     names: &Names,
     layout: &Layout,
     x: u64,
     seen: Seen,
+    crowded: bool,
 ) -> Result<(), AllocError>
     requires left { 386 ≤ x }
     requires right { x < 2 ^ 50 }
-    ensures { OnOk result (out.new.items ≡ with_lines out.old.items (specs.state_lines layout.now names.now x seen)) }
+    ensures { OnOk result (out.new.items ≡ with_lines out.old.items (specs.state_lines layout.now names.now x seen crowded)) }
 {
     put_box(alloc, out, names, layout, x, seen)?;
-    put_point(out, layout, x, seen.state)?;
+    put_point(out, layout, x, seen.state, crowded)?;
     put_stable(out, layout, x, seen)
+}
+
+/// Writes a state in the lane with this middle.
+fn put_state(
+    alloc: Global,
+    out: &mut Vec<u8>,
+    trace: &Trace,
+    layout: &Layout,
+    x: u64,
+    seen: Seen,
+) -> Result<(), AllocError>
+    requires plan { IsPlan trace.now.run layout.now.window layout.now }
+    requires well_formed { WellFormed trace.now.run }
+    requires left { 386 ≤ x }
+    requires right { x < 2 ^ 50 }
+    ensures { OnOk result (Writes (IsStateAt trace.now.run layout.now x seen) out.old.items out.new.items) }
+{
+    let crowded = is_crowded(trace, layout, seen.state);
+    put_lines(alloc, out, &trace.opening().names, layout, x, seen, crowded)?;
+    Ok(())
 }
 
 /// Writes states in the lane with this middle.
 fn put_all(
     alloc: Global,
     out: &mut Vec<u8>,
-    names: &Names,
+    trace: &Trace,
     layout: &Layout,
     x: u64,
     all: &[Seen],
 ) -> Result<(), AllocError>
+    requires plan { IsPlan trace.now.run layout.now.window layout.now }
+    requires well_formed { WellFormed trace.now.run }
     requires left { 386 ≤ x }
     requires right { x < 2 ^ 50 }
-    ensures { OnOk result (out.new.items ≡ with_lines out.old.items (flat_map (specs.state_lines layout.now names.now x) all.now)) }
+    ensures { OnOk result (Writes (EachItem (IsStateAt trace.now.run layout.now x) all.now) out.old.items out.new.items) }
 {
     for seen in all {
-        put_state(alloc, out, names, layout, x, *seen)?;
+        put_state(alloc, out, trace, layout, x, *seen)?;
     }
     Ok(())
 }
@@ -178,12 +259,13 @@ pub fn put_states(
     layout: &Layout,
     looks: &Looks,
 ) -> Result<(), AllocError>
+    requires plan { IsPlan trace.now.run layout.now.window layout.now }
+    requires well_formed { WellFormed trace.now.run }
     ensures { OnOk result (Writes (AreStateLines trace.now.run layout.now looks.now) out.old.items out.new.items) }
 {
-    let names = &trace.opening().names;
     let columns = layout.columns();
     for (rank, column) in columns.iter().enumerate() {
-        put_all(alloc, out, names, layout, column.x, seen_at(looks, rank))?;
+        put_all(alloc, out, trace, layout, column.x, seen_at(looks, rank))?;
     }
     Ok(())
 }

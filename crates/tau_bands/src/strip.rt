@@ -13,7 +13,7 @@ use crate::ticks::put_ticks;
 use std::alloc::{AllocError, Global};
 use tau_layout::Layout;
 use tau_looks::{Looks, Seen};
-use tau_markup::{close, cut, end, number, said};
+use tau_markup::{close, cut_inside, end, number, said};
 use tau_shapes::{rect, rect_of, rounded, text_at};
 use tau_trace::Trace;
 use tau_value::Names;
@@ -30,14 +30,13 @@ fn put_frame(out: &mut Vec<u8>, layout: &Layout) -> Result<(), AllocError>
     rounded(out, 2)
 }
 
-/// The name of a transactor, cut.
+/// The name of a transactor, cut in the middle where it is longer.
 fn label_of(alloc: Global, names: &Names, who: u32) -> Result<Vec<u8>, AllocError>
-    ensures { IfOk result (λ v. v.items ≡ cuts.cut (who_text names.now who) 9) }
+    ensures { IfOk result (λ v. v.items ≡ cuts.cut_inside (who_text names.now who) 9) }
 {
-    let mut label = Vec::new(alloc);
-    put_who(&mut label, names, who)?;
-    cut(&mut label, 9)?;
-    Ok(label)
+    let mut name = Vec::new(alloc);
+    put_who(&mut name, names, who)?;
+    cut_inside(alloc, &name, 9)
 }
 
 /// Writes the name of a lane beside the strip.

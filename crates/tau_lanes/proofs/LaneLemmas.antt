@@ -11,16 +11,16 @@ use Rattle.tau_layout.specs.declared.columns.Column.{Column}
 use Rattle.tau_layout.specs.declared.lanes.Lane.{Lane}
 use Rattle.tau_layout.specs.Plans.{Plan, grid}
 use Rattle.tau_layout.specs.Inner.Laying.{lane_of, lanes_of, IsColumnOf}
-use Rattle.tau_lanes.specs.LaneLines.{name_line, axis_line, axis_top, axis_foot, AreLinesAt, IsLane}
+use Rattle.tau_lanes.specs.LaneLines.{top_name, axis_line, axis_top, axis_foot, AreLinesAt, IsLane}
 use Rattle.tau_lanes.proofs.ColumnLanes.{lane_at, next}
 
 pub lane_told : (T : Run) (plan : Plan) (x : ℕ) (lane : Lane) (birth end : Option ℕ) (name out named new : List ℕ) → IsBirth T lane.who birth → IsFirst (EndsAt T lane.who) (len T) end → name ≡ name_written T.opening.names lane.who
-    → named ≡ with_line out (name_line (grid plan) x name) → new ≡ with_line named (axis_line x (axis_top plan birth) (axis_foot plan end) name lane.node) → Writes (AreLinesAt T plan x lane) out new
+    → named ≡ with_line out (top_name (grid plan) x name) → new ≡ with_line named (axis_line x (axis_top plan birth) (axis_foot plan end) name lane.node) → Writes (AreLinesAt T plan x lane) out new
 lane_told T plan x lane birth end name out named new b e n first second =
     let axis = axis_line x (axis_top plan birth) (axis_foot plan end) name lane.node in
     record {
-      lines = name_line (grid plan) x name ∷ axis ∷ [];
-      told = record { birth = birth; birth_is = b; end = end; end_is = e; are = ap (λ (s : List ℕ). name_line (grid plan) x s ∷ axis_line x (axis_top plan birth) (axis_foot plan end) s lane.node ∷ []) n };
+      lines = top_name (grid plan) x name ∷ axis ∷ [];
+      told = record { birth = birth; birth_is = b; end = end; end_is = e; are = ap (λ (s : List ℕ). top_name (grid plan) x s ∷ axis_line x (axis_top plan birth) (axis_foot plan end) s lane.node ∷ []) n };
       are = second ∙ ap (λ w. with_line w axis) first;
     }
 

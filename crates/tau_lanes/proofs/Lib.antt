@@ -1,3 +1,4 @@
 pub mod BandLemmas
 pub mod ColumnLanes
 pub mod LaneLemmas
+pub mod NameLemmas

@@ -1,6 +1,6 @@
 -- The names and the axes of lanes (docs/formats.md, "Pictures").
 use Rattle.std.specs.Prelude.{◌≡◌, ℕ, ◌+◌, ◌-◌, List, [], ◌∷◌, ◌++◌, Option, Some, None, length, slice_get, nat_lt, if◌then◌else◌, codes}
-use Rattle.tau_markup.specs.Texts.{cut}
+use Rattle.tau_markup.specs.Texts.{cut_inside}
 use Rattle.tau_markup.specs.Lines.{Piece, plain, number, said, Attribute, text, titled, Line}
 use Rattle.tau_value.specs.Written.{name_written}
 use Rattle.tau_trace.specs.Run.{Run, len}
@@ -17,15 +17,19 @@ use Rattle.tau_layout.specs.Plans.{Plan, grid, lane_x, row_y}
 abbrev pub turned : ℕ → ℕ → Attribute
 turned x y = record { name = codes "transform"; value = plain (codes "translate(") ∷ number x ∷ plain (codes " ") ∷ number y ∷ plain (codes ")rotate(-90)") ∷ [] }
 
--- the name of a lane: above it where the lanes are wide, and else upright
+-- the name of a lane above this height, where the lanes are wide, and else upright; a longer name is cut in the middle
 abbrev pub wide_line : ℕ → ℕ → List ℕ → Line
 wide_line x y label = text_at (codes "lane") x y (said label ∷ [])
 
 abbrev pub tall_line : ℕ → ℕ → List ℕ → Line
 tall_line x y label = line (codes "text") (class (codes "tall") ∷ turned x y ∷ []) (text (said label ∷ []))
 
-abbrev pub name_line : Grid → ℕ → List ℕ → Line
-name_line g x name = if g.is_wide then wide_line x (g.top - 20) (cut name 15) else tall_line (x + 4) (g.top - 18) (cut name 12)
+abbrev pub name_line : Grid → ℕ → ℕ → List ℕ → Line
+name_line g x foot name = if g.is_wide then wide_line x (foot - 8) (cut_inside name 15) else tall_line (x + 4) (foot - 6) (cut_inside name 12)
+
+-- at the top the names stand above the lanes
+abbrev pub top_name : Grid → ℕ → List ℕ → Line
+top_name g x name = name_line g x (g.top - 12) name
 
 -- where an axis begins: at the New of its transactor, and above the rows for a start and where the New isn't drawn
 abbrev pub axis_top : Plan → Option ℕ → ℕ
@@ -51,7 +55,7 @@ pub record AreLinesAt (T : Run) (plan : Plan) (x : ℕ) (lane : Lane) (lines : L
   pub end : Option ℕ
   pub end_is : IsFirst (EndsAt T lane.who) (len T) end
   pub are : lines ≡ (let name = name_written T.opening.names lane.who in
-      name_line (grid plan) x name ∷ axis_line x (axis_top plan birth) (axis_foot plan end) name lane.node ∷ [])
+      top_name (grid plan) x name ∷ axis_line x (axis_top plan birth) (axis_foot plan end) name lane.node ∷ [])
 
 -- the lines of the lane with so many lanes before it
 pub record IsLane (T : Run) (plan : Plan) (rank : ℕ) (lines : List Line) : Type 0 where

@@ -14,7 +14,7 @@ ghost use Rattle.tau_lanes.specs.LaneLines.{AreLinesAt, AreLaneLines};
 use std::alloc::{AllocError, Global};
 use tau_layout::{Column, Layout};
 use tau_markup::{
-    begin, close, cut, name, number, plain, put_word, quote, said, text, title, title_close,
+    begin, close, cut_inside, name, number, plain, put_word, quote, said, text, title, title_close,
 };
 use tau_past::Index;
 use tau_shapes::{Grid, put, put_pair, text_at};
@@ -23,7 +23,7 @@ use tau_value::Names;
 use tau_words::put_who;
 
 /// The name of a transactor.
-fn name_of(alloc: Global, names: &Names, who: u32) -> Result<Vec<u8>, AllocError>
+pub(crate) fn name_of(alloc: Global, names: &Names, who: u32) -> Result<Vec<u8>, AllocError>
     ensures { IfOk result (λ v. v.items ≡ name_written names.now who) }
 {
     let mut name = Vec::new(alloc);
@@ -65,25 +65,23 @@ fn put_tall(out: &mut Vec<u8>, x: u64, y: u64, label: &[u8]) -> Result<(), Alloc
     close(out, b"text")
 }
 
-/// Writes the name of a lane.
-fn put_name(
+/// Writes the name of a lane above this height.
+pub(crate) fn put_name(
     alloc: Global,
     out: &mut Vec<u8>,
     grid: Grid,
     x: u64,
+    foot: u64,
     name: &[u8],
 ) -> Result<(), AllocError>
-    requires top { 124 ≤ grid.top }
+    requires foot { 8 ≤ foot }
     requires x { x < 2 ^ 50 }
-    ensures { OnOk result (out.new.items ≡ with_line out.old.items (specs.name_line grid x name.now)) }
+    ensures { OnOk result (out.new.items ≡ with_line out.old.items (specs.name_line grid x foot name.now)) }
 {
-    let mut label = Vec::from_slice(alloc, name)?;
     if grid.is_wide {
-        cut(&mut label, 15)?;
-        return put_wide(out, x, grid.top - 20, &label);
+        return put_wide(out, x, foot - 8, &cut_inside(alloc, name, 15)?);
     }
-    cut(&mut label, 12)?;
-    put_tall(out, x + 4, grid.top - 18, &label)
+    put_tall(out, x + 4, foot - 6, &cut_inside(alloc, name, 12)?)
 }
 
 /// Where an axis begins.
@@ -151,7 +149,8 @@ fn put_lane(
     ensures { OnOk result (Writes (AreLinesAt trace.now.run layout.now column.x (lane_of column)) out.old.items out.new.items) }
 {
     let name = name_of(alloc, &trace.opening().names, column.who)?;
-    put_name(alloc, out, layout.grid(), column.x, &name)?;
+    let grid = layout.grid();
+    put_name(alloc, out, grid, column.x, grid.top - 12, &name)?;
     let top = axis_top(layout, index.birth_of(column.who));
     let foot = axis_foot(layout, trace.end_of(column.who));
     put_axis(out, column, top, foot, &name)?;

@@ -2,7 +2,9 @@
 #![tactic(auto)]
 
 mod lanes;
+mod names;
 mod nodes;
 
 pub use lanes::put_lanes;
+pub use names::put_names;
 pub use nodes::put_nodes;

@@ -106,6 +106,8 @@ impl Layout {
         ensures grid { result ≡ plans.grid self.now }
         ensures lane { 28 ≤ result.lane }
         ensures row { result.row ≤ 18 }
+        ensures names_least { 14 ≤ result.names }
+        ensures names { result.names ≤ 98 }
         ensures top { 124 ≤ result.top }
         ensures foot { result.top ≤ result.foot }
         ensures key { result.key < 2 ^ 50 }

@@ -9,4 +9,4 @@ pub use elements::{
     begin, close, constant, end, line_break, name, number, plain, put_number, put_word, quote,
     said, text, title, title_close,
 };
-pub use texts::{cut, escape};
+pub use texts::{cut, cut_inside, escape};

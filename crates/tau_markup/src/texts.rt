@@ -1,8 +1,8 @@
 //! Texts within markup.
-ghost use Rattle.std.specs.Prelude.{◌≡◌, ◌≤◌, ◌++◌, OnOk};
+ghost use Rattle.std.specs.Prelude.{◌≡◌, ◌≤◌, ◌++◌, IfOk, OnOk};
 ghost use Rattle.tau_markup.specs.Texts as texts;
 
-use std::alloc::AllocError;
+use std::alloc::{AllocError, Global};
 
 /// Adds a byte of a text: `&`, `<` and `>` as entities.
 #[tactic(auto, unfolding(crate::specs::Texts::escaped_byte))]
@@ -42,4 +42,19 @@ pub fn cut(text: &mut Vec<u8>, most: usize) -> Result<(), AllocError>
     }
     text.truncate(most - 2);
     text.extend_from_slice(b"..")
+}
+
+/// A text that is cut in the middle where it has more than so many bytes: its begin and its end stay, with two full stops between
+/// them, as many bytes in all. So texts differ that have one long begin and different ends. The error is want of memory.
+pub fn cut_inside(alloc: Global, text: &[u8], most: usize) -> Result<Vec<u8>, AllocError>
+    requires { 2 ≤ most }
+    ensures { IfOk result (λ v. v.items ≡ texts.cut_inside text.now most) }
+{
+    if text.len() <= most {
+        return Vec::from_slice(alloc, text);
+    }
+    let mut short = Vec::from_slice(alloc, &text[..(most - 2) / 2])?;
+    short.extend_from_slice(b"..")?;
+    short.extend_from_slice(&text[text.len() - (most - 1) / 2..])?;
+    Ok(short)
 }

@@ -6,9 +6,11 @@ use Rattle.tau_markup.specs.Texts.{cut}
 use Rattle.tau_markup.specs.Lines.{plain, number, said, titled, Line}
 use Rattle.tau_trace.specs.Run.{Run}
 use Rattle.tau_trace.proofs.Lists.{same_some}
+use Rattle.tau_shapes.specs.Each.{EachItem}
 use Rattle.tau_shapes.specs.Shapes.{line, symbol_at, text_at}
 use Rattle.tau_layout.specs.Plans.{Plan, lane_x}
 use Rattle.tau_words.specs.Texts.{who_text, step_text, bare_text}
+use Rattle.tau_looks.specs.declared.looks.Seen.{Seen}
 use Rattle.tau_looks.specs.declared.looks.StepLook.{StepLook}
 use Rattle.tau_looks.specs.declared.looks.Ending.{Ending}
 use Rattle.tau_looks.specs.declared.looks.Looks.{Looks}
@@ -17,7 +19,7 @@ use Rattle.tau_marks.specs.Marks.{symbol_word, undone_class, mark_line, IsMark, 
 use Rattle.tau_marks.specs.Rows.{row_word, place_line, row_line, IsRow, AreRows}
 use Rattle.tau_bands.specs.Names.{tick_class, seen_at}
 use Rattle.tau_bands.specs.StripLines.{label_line, span_lines, IsStripLane, tick_lines, IsTick, AreStripLines, with_strip, without}
-use Rattle.tau_bands.specs.StateLines.{state_lines, AreStatesAt, AreStateLines}
+use Rattle.tau_bands.specs.StateLines.{IsStateAt, AreStatesAt, AreStateLines}
 use Rattle.tau_bands.specs.EndLines.{end_lines, ending_lines, IsEndAt, AreEndLines}
 use Rattle.tau_picture.proofs.EachOnce.{each_as}
 
@@ -99,7 +101,7 @@ module _ (T : Run) (plan : Plan) (looks others : Looks) (same : ShowsSame looks 
   states_at_as rank ls a = record {
     lane = a.lane;
     at_rank = a.at_rank;
-    are = a.are ∙ ap (flat_map (state_lines plan T.opening.names (lane_x plan rank a.lane))) (same.states_are rank);
+    are = subst (λ (seen : List Seen). EachItem (IsStateAt T plan (lane_x plan rank a.lane)) seen ls) (same.states_are rank) a.are;
   }
 
   pub states_as : (ls : List Line) → AreStateLines T plan looks ls → AreStateLines T plan others ls

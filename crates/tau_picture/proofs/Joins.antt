@@ -1,6 +1,5 @@
 -- Parts that are written one behind the other.
-use Rattle.std.proofs.Common.{◌≡◌, ℕ, ◌+◌, ◌<◌, List, [], ◌∷◌, ◌++◌, length, get_or, take, refl, sym, ap, ◌∙◌, subst}
-use Rattle.std.proofs.lemmas.List.{take_more}
+use Rattle.std.proofs.Common.{◌≡◌, ℕ, List, [], ◌∷◌, ◌++◌, refl, sym, ap, ◌∙◌}
 use Rattle.tau_markup.specs.Lines.{with_line, with_lines}
 use Rattle.tau_markup.proofs.LineLemmas.{lines_joined}
 use Rattle.tau_shapes.specs.declared.grid.Grid.{Grid}
@@ -8,13 +7,14 @@ use Rattle.tau_shapes.specs.Shapes.{begin_line, title_line, paper_line}
 use Rattle.tau_shapes.specs.Fixed.{style_lines, symbol_lines}
 use Rattle.tau_markup.specs.Lines.{Line}
 use Rattle.tau_shapes.specs.Each.{EachItem, Writes}
-use Rattle.tau_shapes.proofs.Writing.{both, told_as, items_next}
+use Rattle.tau_shapes.proofs.Writing.{both, told_as}
 use Rattle.tau_tree.specs.declared.programs.Program.{Program}
 use Rattle.tau_trace.specs.Run.{Run, len}
 use Rattle.tau_layout.specs.Plans.{Plan, grid}
 use Rattle.tau_looks.specs.declared.looks.Looks.{Looks}
 use Rattle.tau_lanes.specs.Bands.{AreNodeBands}
 use Rattle.tau_lanes.specs.LaneLines.{AreLaneLines}
+use Rattle.tau_lanes.specs.NameLines.{AreNameLines}
 use Rattle.tau_spots.specs.Guides.{AreGuides}
 use Rattle.tau_arrows.specs.Messages.{AreMessageLines}
 use Rattle.tau_marks.specs.Marks.{AreMarks}
@@ -23,7 +23,7 @@ use Rattle.tau_bands.specs.StripLines.{AreStripLines}
 use Rattle.tau_bands.specs.StateLines.{AreStateLines}
 use Rattle.tau_bands.specs.EndLines.{AreEndLines}
 use Rattle.tau_chains.specs.declared.chained.Chained.{Chained}
-use Rattle.tau_picture.specs.Chains.{FrameLines, LinkLines, RingLines, AreChainLines}
+use Rattle.tau_picture.specs.Chains.{FrameLines, AreLinkLines, RingLines, AreChainLines}
 use Rattle.tau_picture.specs.declared.asking.Asked.{Asked}
 use Rattle.tau_picture.specs.Pictures.{begin_lines, key_lines, AreCauseLines}
 use Rattle.tau_picture.specs.Inner.Asked.{place_asked, cause_asked}
@@ -40,11 +40,11 @@ record Then (P Q : List Line → Type 0) (lines : List Line) : Type 0 where
 behind : (P Q : List Line → Type 0) (out middle new : List ℕ) → Writes P out middle → Writes Q middle new → Writes (Then P Q) out new
 behind P Q out middle new a b = both P Q (Then P Q) out middle new a b (λ ls ks p q. record { front = ls; front_is = p; rest = ks; rest_is = q; is = refl })
 
-pub middle_parts : (P : Program) (T : Run) (plan : Plan) (looks : Looks) (o0 o1 o2 o3 o4 o5 o6 o7 : List ℕ)
+pub middle_parts : (P : Program) (T : Run) (plan : Plan) (looks : Looks) (o0 o1 o2 o3 o4 o5 o6 o7 o8 : List ℕ)
     → Writes (AreStripLines T plan looks) o0 o1 → Writes (AreNodeBands T plan) o1 o2 → Writes (AreLaneLines T plan) o2 o3 → Writes (AreGuides T plan) o3 o4
     → Writes (AreStateLines T plan looks) o4 o5 → Writes (AreMessageLines P T plan) o5 o6 → Writes (AreMarks T plan looks.steps.items) o6 o7
-    → Writes (AreMiddle P T plan looks) o0 o7
-middle_parts P T plan looks o0 o1 o2 o3 o4 o5 o6 o7 a b c d e f g =
+    → Writes (AreNameLines T plan) o7 o8 → Writes (AreMiddle P T plan looks) o0 o8
+middle_parts P T plan looks o0 o1 o2 o3 o4 o5 o6 o7 o8 a b c d e f g h =
     let A = AreStripLines T plan looks in
     let B = AreNodeBands T plan in
     let C = AreLaneLines T plan in
@@ -52,14 +52,16 @@ middle_parts P T plan looks o0 o1 o2 o3 o4 o5 o6 o7 a b c d e f g =
     let E = AreStateLines T plan looks in
     let F = AreMessageLines P T plan in
     let G = AreMarks T plan looks.steps.items in
-    let f' = behind F G o5 o6 o7 f g in
-    let e' = behind E (Then F G) o4 o5 o7 e f' in
-    let d' = behind D (Then E (Then F G)) o3 o4 o7 d e' in
-    let c' = behind C (Then D (Then E (Then F G))) o2 o3 o7 c d' in
-    let b' = behind B (Then C (Then D (Then E (Then F G)))) o1 o2 o7 b c' in
-    let a' = behind A (Then B (Then C (Then D (Then E (Then F G))))) o0 o1 o7 a b' in
-    told_as (Then A (Then B (Then C (Then D (Then E (Then F G)))))) (AreMiddle P T plan looks) o0 o7
-    (λ ls t0. let t1 = t0.rest_is in let t2 = t1.rest_is in let t3 = t2.rest_is in let t4 = t3.rest_is in let t5 = t4.rest_is in
+    let H = AreNameLines T plan in
+    let g' = behind G H o6 o7 o8 g h in
+    let f' = behind F (Then G H) o5 o6 o8 f g' in
+    let e' = behind E (Then F (Then G H)) o4 o5 o8 e f' in
+    let d' = behind D (Then E (Then F (Then G H))) o3 o4 o8 d e' in
+    let c' = behind C (Then D (Then E (Then F (Then G H)))) o2 o3 o8 c d' in
+    let b' = behind B (Then C (Then D (Then E (Then F (Then G H))))) o1 o2 o8 b c' in
+    let a' = behind A (Then B (Then C (Then D (Then E (Then F (Then G H)))))) o0 o1 o8 a b' in
+    told_as (Then A (Then B (Then C (Then D (Then E (Then F (Then G H))))))) (AreMiddle P T plan looks) o0 o8
+    (λ ls t0. let t1 = t0.rest_is in let t2 = t1.rest_is in let t3 = t2.rest_is in let t4 = t3.rest_is in let t5 = t4.rest_is in let t6 = t5.rest_is in
     record {
       strip = t0.front;
       strip_is = t0.front_is;
@@ -73,9 +75,11 @@ middle_parts P T plan looks o0 o1 o2 o3 o4 o5 o6 o7 a b c d e f g =
       states_are = t4.front_is;
       messages = t5.front;
       messages_are = t5.front_is;
-      marks = t5.rest;
-      marks_are = t5.rest_is;
-      is = t0.is ∙ ap (λ x. t0.front ++ x) (t1.is ∙ ap (λ x. t1.front ++ x) (t2.is ∙ ap (λ x. t2.front ++ x) (t3.is ∙ ap (λ x. t3.front ++ x) (t4.is ∙ ap (λ x. t4.front ++ x) t5.is))));
+      marks = t6.front;
+      marks_are = t6.front_is;
+      names = t6.rest;
+      names_are = t6.rest_is;
+      is = t0.is ∙ ap (λ x. t0.front ++ x) (t1.is ∙ ap (λ x. t1.front ++ x) (t2.is ∙ ap (λ x. t2.front ++ x) (t3.is ∙ ap (λ x. t3.front ++ x) (t4.is ∙ ap (λ x. t4.front ++ x) (t5.is ∙ ap (λ x. t5.front ++ x) t6.is)))));
     }) a'
 
 pub rest_parts : (T : Run) (plan : Plan) (looks : Looks) (a : Asked) (o0 o1 o2 o3 o4 : List ℕ)
@@ -102,11 +106,11 @@ rest_parts T plan looks asked o0 o1 o2 o3 o4 a b c d =
     }) a'
 
 pub chain_parts : (T : Run) (plan : Plan) (looks : Looks) (k : ℕ) (chain : List Chained) (o0 o1 o2 o3 : List ℕ)
-    → Writes (EachItem (FrameLines plan looks) chain) o0 o1 → Writes (EachItem (LinkLines T plan looks) chain) o1 o2 → Writes (RingLines T plan k) o2 o3
+    → Writes (EachItem (FrameLines plan looks) chain) o0 o1 → Writes (AreLinkLines T plan looks chain) o1 o2 → Writes (RingLines T plan k) o2 o3
     → Writes (AreChainLines T plan looks k chain) o0 o3
 chain_parts T plan looks k chain o0 o1 o2 o3 a b c =
     let A = EachItem (FrameLines plan looks) chain in
-    let B = EachItem (LinkLines T plan looks) chain in
+    let B = AreLinkLines T plan looks chain in
     let C = RingLines T plan k in
     let b' = behind B C o1 o2 o3 b c in
     let a' = behind A (Then B C) o0 o1 o3 a b' in
@@ -121,10 +125,6 @@ chain_parts T plan looks k chain o0 o1 o2 o3 a b c =
       ring_is = t1.rest_is;
       is = t0.is ∙ ap (λ x. t0.front ++ x) t1.is;
     }) a'
-
--- with the lines of one more item
-pub item_next : {A : Type 0} (P : A → List Line → Type 0) (xs : List A) (k : ℕ) (d : A) (out old new : List ℕ) → k < length xs → Writes (EachItem P (take k xs)) out old → Writes (P (get_or xs k d)) old new → Writes (EachItem P (take (k + 1) xs)) out new
-item_next {A = A} P xs k d out old new lt w one = subst (λ (l : List A). Writes (EachItem P l) out new) (sym (take_more xs k d lt)) (items_next P (take k xs) (get_or xs k d) out old new w one)
 
 pub begin_parts : (T : Run) (plan : Plan) (g : Grid) (n : ℕ) → g ≡ grid plan → n ≡ len T → (o0 o1 o2 o3 o4 o5 : List ℕ)
     → o1 ≡ with_line o0 (begin_line g.width g.height) → o2 ≡ with_line o1 (title_line n) → o3 ≡ with_lines o2 style_lines → o4 ≡ with_lines o3 symbol_lines → o5 ≡ with_line o4 (paper_line g.width g.height)

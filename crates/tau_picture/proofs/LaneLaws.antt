@@ -12,6 +12,7 @@ use Rattle.tau_trace.specs.Numbering.{IsHome, start, created}
 use Rattle.tau_trace.proofs.Counts.{count-suc, count-grows}
 use Rattle.tau_trace.proofs.Lists.{same_some}
 use Rattle.tau_shapes.specs.declared.window.Window.{Window}
+use Rattle.tau_shapes.specs.Grids.{rows_height}
 use Rattle.tau_shapes.specs.Shapes.{beside}
 use Rattle.tau_shapes.specs.Windows.{IsDrawn, count, row_of, window_of}
 use Rattle.tau_layout.specs.declared.lanes.Lane.{Lane}
@@ -54,18 +55,22 @@ step_up w q r lt =
     let split : w * (q + 1) ≡ w * q + w * 1 = mul-add w q 1 in
     omega (arith, more, split)
 
+-- and no fewer lines of names
+lines_up : (names a n : ℕ) → a < n → names * (a / 50) ≤ names * (n / 50)
+lines_up names a n lt = mul-le-mul_left names (omega (arith, lt))
+
 -- the middle of a lane, within the width of all
 within_width : (w rank lanes group nodes : ℕ) → 28 ≤ w → rank < lanes → group < nodes → 372 + w * rank + 12 * group + w / 2 + 16 < 384 + w * lanes + 12 * nodes
 within_width w rank lanes group nodes least lt less = omega (arith, least, less, step_up w rank lanes lt)
 
-row_within : (top row n a : ℕ) → 14 ≤ row → a < n → top + row * a < top + row * n
-row_within top row n a least lt = omega (arith, least, step_up row a n lt)
+row_within : (top row names n a : ℕ) → 14 ≤ row → a < n → top + rows_height row names a < top + rows_height row names n
+row_within top row names n a least lt = omega (arith, least, step_up row a n lt, lines_up names a n lt)
 
-above_row : (top row a : ℕ) → row ≤ 18 → top ≤ top + row * a - row / 2 + 1 + 12
-above_row top row a short = omega (arith, short)
+above_row : (top row names a : ℕ) → row ≤ 18 → top ≤ top + rows_height row names a - row / 2 + 1 + 12
+above_row top row names a short = omega (arith, short)
 
-below_row : (top row n a : ℕ) → a < n → top + row * a + row / 2 - 1 ≤ top + row * n
-below_row top row n a lt = omega (arith, step_up row a n lt)
+below_row : (top row names n a : ℕ) → a < n → top + rows_height row names a + row / 2 - 1 ≤ top + rows_height row names n
+below_row top row names n a lt = omega (arith, step_up row a n lt, lines_up names a n lt)
 
 -- nodes
 
@@ -109,13 +114,13 @@ module _ (plan : Plan) where
   top_within s = by (nat_le s.begin plan.window.from) where
     by : (b : Bool) → (grid plan).top ≤ cond b ((grid plan).top - 12) (row_y plan s.begin - (grid plan).row / 2 + 1) + 12
     by true = omega arith
-    by false = above_row (grid plan).top (grid plan).row (row_of plan.window s.begin) short
+    by false = above_row (grid plan).top (grid plan).row (grid plan).names (row_of plan.window s.begin) short
 
   foot_within : (o : Option ℕ) → ((e : ℕ) → o ≡ Some e → plan.window.from ≤ e) → end_foot plan o ≤ (grid plan).foot
   foot_within None seen = omega arith
   foot_within (Some k) seen = by (nat_lt k plan.window.to) refl where
     by : (b : Bool) → nat_lt k plan.window.to ≡ b → cond b (row_y plan k + (grid plan).row / 2 - 1) (grid plan).foot ≤ (grid plan).foot
-    by true e = below_row (grid plan).top (grid plan).row (count plan.window) (row_of plan.window k) (row_drawn plan.window k (seen k refl, ltb-true k plan.window.to e))
+    by true e = below_row (grid plan).top (grid plan).row (grid plan).names (count plan.window) (row_of plan.window k) (row_drawn plan.window k (seen k refl, ltb-true k plan.window.to e))
     by false e = omega arith
 
 module _ (T : Run) (v : Window) (plan : Plan) (w : WellFormed T) (within : v.to ≤ len T) (is : IsPlan T v plan) where
@@ -180,7 +185,7 @@ module _ (T : Run) (v : Window) (plan : Plan) (w : WellFormed T) (within : v.to 
       let bound : plan.window.to ≤ len T = subst (λ (u : Window). u.to ≤ len T) (sym is.window_is) within in
       let s = step_there T k (omega (arith, d.1, bound)) in
       let spot = at s.0 s.1 in
-      let low = row_within (grid plan).top (grid plan).row (count plan.window) (row_of plan.window k) (tall plan) (row_drawn plan.window k d) in
+      let low = row_within (grid plan).top (grid plan).row (grid plan).names (count plan.window) (row_of plan.window k) (tall plan) (row_drawn plan.window k d) in
       (spot_within s.0 k p.x spot.0, omega (arith, spot.1), subst (λ y. y < (grid plan).foot) (sym spot.1) low)
 
   states_within : (s : State) → IsSeen plan.window s → ((grid plan).top ≤ state_top plan s + 12) × (state_foot plan s ≤ (grid plan).foot)

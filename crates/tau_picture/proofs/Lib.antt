@@ -13,6 +13,7 @@ mod AsShown
 mod OneNote
 mod OneBand
 mod OneChain
+mod Heads
 pub mod OnePicture
 mod KeptLaws
 mod MarkLaws

@@ -1,9 +1,9 @@
 -- A picture is markup.
-use Rattle.std.proofs.Common.{◌≡◌, ℕ, zero, suc, ◌+◌, ◌-◌, ◌*◌, ◌<◌, Bool, true, false, cond, List, [], ◌∷◌, ◌++◌, Option, Some, None, refl, ◌∙◌, append_assoc, arith, length}
+use Rattle.std.proofs.Common.{◌≡◌, ℕ, zero, suc, ◌+◌, ◌-◌, ◌*◌, ◌/◌, ◌<◌, Bool, true, false, cond, List, [], ◌∷◌, ◌++◌, Option, Some, None, refl, ◌∙◌, append_assoc, arith, length}
 use Rattle.std.specs.Prelude.{slice_get, nat_lt, option_and_then, codes}
 use Rattle.std.specs.List.{flat_map}
 use Rattle.std.proofs.lemmas.List.Elements.{All-from_recursion}
-use Rattle.tau_markup.specs.Texts.{cut}
+use Rattle.tau_markup.specs.Texts.{cut, cut_inside}
 use Rattle.tau_markup.specs.Lines.{plain, number, empty, Line}
 use Rattle.tau_points.proofs.Membership.{all_append}
 use Rattle.tau_chains.specs.declared.chained.Chained.{Chained}
@@ -14,6 +14,7 @@ use Rattle.tau_trace.specs.Run.{Run, len}
 use Rattle.tau_trace.specs.Numbering.{sent}
 use Rattle.tau_value.specs.Written.{name_written}
 use Rattle.tau_shapes.specs.declared.window.Window.{Window}
+use Rattle.tau_shapes.specs.Windows.{count}
 use Rattle.tau_shapes.specs.Shapes.{begin_line, title_line, paper_line, rect_of, text_at, go, go_to}
 use Rattle.tau_shapes.specs.Fixed.{style_lines, symbol_lines}
 use Rattle.tau_layout.specs.Plans.{Plan, grid, lane_x, strip_x, row_y}
@@ -37,17 +38,18 @@ use Rattle.tau_marks.specs.Marks.{mark_line, IsMark}
 use Rattle.tau_marks.specs.Rows.{place_line, row_line, IsRow}
 use Rattle.tau_bands.specs.Names.{tick_class, seen_at, state_class, state_words}
 use Rattle.tau_bands.specs.StripLines.{class_at, span_lines, stable_span, strip_end, tick_lines, IsStripLane, IsTick, AreStripLines, with_strip, without, frame_line, place_lines, label_line}
-use Rattle.tau_bands.specs.StateLines.{state_top, state_foot, stable_top, state_lines, point_lines, stable_from, AreStatesAt}
+use Rattle.tau_bands.specs.StateLines.{state_top, state_foot, stable_top, state_lines, point_y, point_lines, stable_from, IsStateAt, AreStatesAt}
 use Rattle.tau_bands.specs.EndLines.{end_x, end_y, ending_lines, IsEndAt, AreEndLines, heading_line}
 use Rattle.tau_lanes.specs.Bands.{lanes_below, span, band_line, node_line, first_x, last_x, band_lines, bands_below}
-use Rattle.tau_lanes.specs.LaneLines.{wide_line, tall_line, name_line, axis_line, axis_top, axis_foot, IsLane}
+use Rattle.tau_lanes.specs.NameLines.{frame_line as name_frame, names_foot, named_lines, IsNamed, IsNamesLine}
+use Rattle.tau_lanes.specs.LaneLines.{wide_line, tall_line, name_line, top_name, axis_line, axis_top, axis_foot, IsLane}
 use Rattle.tau_picture.specs.Headings.{is_whole, heading_lines}
-use Rattle.tau_picture.specs.Chains.{FrameLines, framed, unframed, curve, no_later, link_line, LinkLines, link_drawn, link_undrawn, RingLines, ring_drawn, ring_undrawn}
+use Rattle.tau_picture.specs.Chains.{FrameLines, framed, unframed, curve, no_later, link_line, LinkLines, link_drawn, link_undrawn, head_lines, AreLinkLines, RingLines, ring_drawn, ring_undrawn}
 use Rattle.tau_picture.specs.Pictures.{key_lines, said_lines, AreCauseLines, IsPicture}
 use Rattle.tau_picture.specs.Markup.{is_text, is_element, IsElement, IsMarkup}
 use Rattle.tau_picture.specs.Laws.{PicturesAreMarkup}
 use Rattle.tau_picture.proofs.Whole.{window_within, step_there}
-use Rattle.tau_picture.proofs.EscapedTexts.{texts_inside}
+use Rattle.tau_picture.proofs.EscapedTexts.{texts_escaped}
 use Rattle.tau_picture.proofs.Elements.{Elements, each_element, item_elements, flat_elements, as_elements, cond_elements, cond_element, state_box, state_part, state_span, mark_use, row_text, end_use, end_mark, end_text, path_element, receipt_kind, receipt_way, receipt_said, sent_kind, sent_said}
 
 -- the heading
@@ -57,8 +59,12 @@ part_text true b v = refl
 part_text false true v = refl
 part_text false false v = refl
 
+left_text : (b : Bool) → is_text (cond b (plain (codes ", notes without causes") ∷ []) []) ≡ true
+left_text true = refl
+left_text false = refl
+
 heading_elements : (T : Run) (v : Window) (cut : List Marked) → Elements (heading_lines T v cut)
-heading_elements T v cut = (part_text (is_whole (len T) v) (nat_lt v.from v.to) v, (refl, tt))
+heading_elements T v cut = (part_text (is_whole (len T) v) (nat_lt v.from v.to) v, (left_text (nat_lt 4000 (len T)), tt))
 
 said_elements : (T : Run) (ask : Option ℕ) (cause : Option (List Chained)) → Elements (said_lines T ask cause)
 said_elements T None cause = tt
@@ -85,16 +91,26 @@ module _ (plan : Plan) where
 
   -- the lines of lanes
 
-  name_element : (x : ℕ) (name : List ℕ) → is_element (name_line (grid plan) x name) ≡ true
-  name_element x name =
-      let top = (grid plan).top in
-      cond_element (grid plan).is_wide (wide_line x (top - 20) (cut name 15)) (tall_line (x + 4) (top - 18) (cut name 12)) refl refl
+  name_element : (x foot : ℕ) (name : List ℕ) → is_element (name_line (grid plan) x foot name) ≡ true
+  name_element x foot name = cond_element (grid plan).is_wide (wide_line x (foot - 8) (cut_inside name 15)) (tall_line (x + 4) (foot - 6) (cut_inside name 12)) refl refl
 
   lane_elements : (T : Run) (rank : ℕ) (ls : List Line) → IsLane T plan rank ls → Elements ls
   lane_elements T rank ls a =
       let x = lane_x plan rank a.lane in
       let name = name_written T.opening.names a.lane.who in
-      as_elements ls (name_line (grid plan) x name ∷ axis_line x (axis_top plan a.told.birth) (axis_foot plan a.told.end) name a.lane.node ∷ []) a.told.are (name_element x name, (refl, tt))
+      as_elements ls (top_name (grid plan) x name ∷ axis_line x (axis_top plan a.told.birth) (axis_foot plan a.told.end) name a.lane.node ∷ []) a.told.are (name_element x ((grid plan).top - 12) name, (refl, tt))
+
+  -- the names of lanes between the rows
+
+  named_elements : (T : Run) (rows rank : ℕ) (ls : List Line) → IsNamed T plan rows rank ls → Elements ls
+  named_elements T rows rank ls a =
+      let x = lane_x plan rank a.lane in
+      let foot = names_foot (grid plan) rows in
+      let name = name_written T.opening.names a.lane.who in
+      as_elements ls (named_lines (grid plan) x foot name) a.are (refl, (name_element x foot name, tt))
+
+  names_elements : (T : Run) (n : ℕ) (ls : List Line) → IsNamesLine T plan n ls → Elements ls
+  names_elements T n ls x = each_element (IsNamed T plan (50 * n)) 0 (length plan.lanes) (length plan.lanes) (omega arith) (λ k l lt p. named_elements T (50 * n) k l p) ls x
 
   -- states, in their lanes and in the strip
 
@@ -105,21 +121,24 @@ module _ (plan : Plan) where
       let high = state_foot plan s.state - top in
       cond_elements (nat_lt k plan.window.to) (rect_of (state_class s.look) (codes "-s") (x - 2) top 4 high empty ∷ []) [] (state_part s.look (x - 2) top 4 high, tt) tt
 
-  point_elements : (x : ℕ) (s : State) → Elements (point_lines plan x s)
-  point_elements x s =
-      cond_elements (grid plan).is_wide (text_at (codes "pt") (x + 11) (state_top plan s + 6) (number s.point.interval ∷ plain (codes " ") ∷ number s.point.incarnation ∷ []) ∷ []) [] (refl, tt) tt
+  point_elements : (x : ℕ) (s : State) (crowded : Bool) → Elements (point_lines plan x s crowded)
+  point_elements x s crowded =
+      cond_elements (grid plan).is_wide (text_at (codes "pt") (x + 11) (point_y plan s crowded) (number s.point.interval ∷ plain (codes " ") ∷ number s.point.incarnation ∷ []) ∷ []) [] (refl, tt) tt
 
-  state_elements : (names : List (List ℕ)) (x : ℕ) (s : Seen) → Elements (state_lines plan names x s)
-  state_elements names x s =
+  state_elements : (names : List (List ℕ)) (x : ℕ) (s : Seen) (crowded : Bool) → Elements (state_lines plan names x s crowded)
+  state_elements names x s crowded =
       let top = state_top plan s.state in (
         state_box s.look (x - 5) top 10 (state_foot plan s.state - top) 3 (state_title names s.state.point s.state.begin s.state.end (state_words s.look)),
-        all_append IsElement (point_lines plan x s.state) (stable_from plan x s s.state.stable) (point_elements x s.state) (stable_elements x s s.state.stable),
+        all_append IsElement (point_lines plan x s.state crowded) (stable_from plan x s s.state.stable) (point_elements x s.state crowded) (stable_elements x s s.state.stable),
       )
 
   states_elements : (T : Run) (looks : Looks) (rank : ℕ) (ls : List Line) → AreStatesAt T plan looks rank ls → Elements ls
-  states_elements T looks rank ls a =
-      let of = state_lines plan T.opening.names (lane_x plan rank a.lane) in
-      as_elements ls (flat_map of (seen_at looks rank)) a.are (flat_elements of (state_elements T.opening.names (lane_x plan rank a.lane)) (seen_at looks rank))
+  states_elements T looks rank ls a = item_elements (IsStateAt T plan x) of_state (seen_at looks rank) ls a.are where
+    x : ℕ
+    x = lane_x plan rank a.lane
+
+    of_state : (s : Seen) (ks : List Line) → IsStateAt T plan x s ks → Elements ks
+    of_state s ks b = as_elements ks (state_lines plan T.opening.names x s b.crowded) b.are (state_elements T.opening.names x s b.crowded)
 
   part_elements : (rank : ℕ) (s : Seen) (o : Option ℕ) → Elements (stable_span plan rank s o)
   part_elements rank s None = tt
@@ -244,6 +263,14 @@ module _ (plan : Plan) where
   link_elements T looks c ls (link_drawn {j = j} {x = x} {spot = p} {s = s} a) = (link_element p.x p.y x (row_y plan (no_later j s.end)), tt)
   link_elements T looks c ls (link_undrawn none) = tt
 
+  head_elements : (ls : List Line) → Elements (head_lines ls)
+  head_elements [] = tt
+  head_elements (l ∷ ls) = (refl, tt)
+
+  links_elements : (T : Run) (looks : Looks) (chain : List Chained) (ls : List Line) → AreLinkLines T plan looks chain ls → Elements ls
+  links_elements T looks chain ls a = as_elements ls (a.links ++ head_lines a.links) a.are
+      (all_append IsElement a.links (head_lines a.links) (item_elements (LinkLines T plan looks) (link_elements T looks) chain a.links a.links_are) (head_elements a.links))
+
   ring_elements : (T : Run) (k : ℕ) (ls : List Line) → RingLines T plan k ls → Elements ls
   ring_elements T k ls (ring_drawn p d a) = (refl, tt)
   ring_elements T k ls (ring_undrawn none) = tt
@@ -253,41 +280,42 @@ module _ (plan : Plan) where
   chain_elements T looks (Some k) None ls e = as_elements ls [] e tt
   chain_elements T looks (Some k) (Some chain) ls a = as_elements ls (a.frames ++ (a.links ++ a.ring)) a.is
       (all_append IsElement a.frames (a.links ++ a.ring) (item_elements (FrameLines plan looks) (frame_elements looks) chain a.frames a.frames_are)
-      (all_append IsElement a.links a.ring (item_elements (LinkLines T plan looks) (link_elements T looks) chain a.links a.links_are) (ring_elements T k a.ring a.ring_is)))
+      (all_append IsElement a.links a.ring (links_elements T looks chain a.links a.links_are) (ring_elements T k a.ring a.ring_is)))
 
 -- the whole
 
-regroup : (b t p : Line) (s y h a st n l g v m k c r e z : List Line)
-    → (b ∷ t ∷ (s ++ (y ++ p ∷ []))) ++ (h ++ (a ++ (st ++ (n ++ (l ++ (g ++ (v ++ (m ++ (k ++ (c ++ (r ++ (e ++ z))))))))))))
-    ≡ b ∷ t ∷ (s ++ (y ++ ((p ∷ (h ++ (a ++ (st ++ (n ++ (l ++ (g ++ (v ++ (m ++ (k ++ (c ++ (r ++ e)))))))))))) ++ z)))
-regroup b t p s y h a st n l g v m k c r e z = simp append_assoc
+regroup : (b t p : Line) (s y h a st n l g v m k w c r e z : List Line)
+    → (b ∷ t ∷ (s ++ (y ++ p ∷ []))) ++ (h ++ (a ++ (st ++ (n ++ (l ++ (g ++ (v ++ (m ++ (k ++ (w ++ (c ++ (r ++ (e ++ z)))))))))))))
+    ≡ b ∷ t ∷ (s ++ (y ++ ((p ∷ (h ++ (a ++ (st ++ (n ++ (l ++ (g ++ (v ++ (m ++ (k ++ (w ++ (c ++ (r ++ e))))))))))))) ++ z)))
+regroup b t p s y h a st n l g v m k w c r e z = simp append_assoc
 
 module _ (P : Program) (T : Run) (from to : ℕ) (ask : Option ℕ) (lines : List Line) (a : IsPicture P T from to ask lines) where
   abbrev body : List Line
   body = paper_line (grid a.plan).width (grid a.plan).height
-      ∷ (heading_lines T a.plan.window a.cut ++ (said_lines T ask a.cause ++ (a.strip ++ (a.nodes ++ (a.lanes ++ (a.guides ++ (a.states ++ (a.messages ++ (a.marks ++ (a.chain ++ (a.rows ++ a.ends)))))))))))
+      ∷ (heading_lines T a.plan.window a.cut ++ (said_lines T ask a.cause ++ (a.strip ++ (a.nodes ++ (a.lanes ++ (a.guides ++ (a.states ++ (a.messages ++ (a.marks ++ (a.names ++ (a.chain ++ (a.rows ++ a.ends))))))))))))
 
   step_elements : (k : ℕ) (ls : List Line) → k < a.plan.window.to → IsMessageLine P T a.plan k ls → Elements ls
   step_elements k ls lt l =
       let s = step_there T k (omega (arith, lt, window_within T from to a.plan a.is_plan)) in
       message_elements a.plan P T k s.0 ls (l s.0 s.1)
 
-  parts : Elements (heading_lines T a.plan.window a.cut ++ (said_lines T ask a.cause ++ (a.strip ++ (a.nodes ++ (a.lanes ++ (a.guides ++ (a.states ++ (a.messages ++ (a.marks ++ (a.chain ++ (a.rows ++ a.ends)))))))))))
+  parts : Elements (heading_lines T a.plan.window a.cut ++ (said_lines T ask a.cause ++ (a.strip ++ (a.nodes ++ (a.lanes ++ (a.guides ++ (a.states ++ (a.messages ++ (a.marks ++ (a.names ++ (a.chain ++ (a.rows ++ a.ends))))))))))))
   parts =
       let v = a.plan.window in
       let n = length a.plan.lanes in
       let looks = a.looks.steps.items in
       let r = all_append IsElement a.rows a.ends (each_element (IsRow T a.plan looks) v.from v.to v.to (omega arith) (λ k l lt p. row_elements a.plan T looks k l p) a.rows a.rows_are) (ends_elements a.plan a.looks a.ends a.ends_are) in
       let c = all_append IsElement a.chain (a.rows ++ a.ends) (chain_elements a.plan T a.looks ask a.cause a.chain a.chain_is) r in
-      let m = all_append IsElement a.marks (a.chain ++ (a.rows ++ a.ends)) (each_element (IsMark T a.plan looks) v.from v.to v.to (omega arith) (λ k l lt p. mark_elements a.plan T looks k l p) a.marks a.marks_are) c in
-      let e = all_append IsElement a.messages (a.marks ++ (a.chain ++ (a.rows ++ a.ends))) (each_element (IsMessageLine P T a.plan) v.from v.to v.to (omega arith) step_elements a.messages a.messages_are) m in
-      let s = all_append IsElement a.states (a.messages ++ (a.marks ++ (a.chain ++ (a.rows ++ a.ends)))) (each_element (AreStatesAt T a.plan a.looks) 0 n n (omega arith) (λ k l lt p. states_elements a.plan T a.looks k l p) a.states a.states_are) e in
-      let g = all_append IsElement a.guides (a.states ++ (a.messages ++ (a.marks ++ (a.chain ++ (a.rows ++ a.ends))))) (each_element (IsGuide T a.plan) v.from v.to v.to (omega arith) (λ k l lt p. guide_elements a.plan T k l p) a.guides a.guides_are) s in
-      let l = all_append IsElement a.lanes (a.guides ++ (a.states ++ (a.messages ++ (a.marks ++ (a.chain ++ (a.rows ++ a.ends)))))) (each_element (IsLane T a.plan) 0 n n (omega arith) (λ k l lt p. lane_elements a.plan T k l p) a.lanes a.lanes_are) g in
-      let b = all_append IsElement a.nodes (a.lanes ++ (a.guides ++ (a.states ++ (a.messages ++ (a.marks ++ (a.chain ++ (a.rows ++ a.ends))))))) (as_elements a.nodes (bands_below a.plan T.opening.nodes) a.nodes_are (bands_elements a.plan T.opening.nodes)) l in
-      let t = all_append IsElement a.strip (a.nodes ++ (a.lanes ++ (a.guides ++ (a.states ++ (a.messages ++ (a.marks ++ (a.chain ++ (a.rows ++ a.ends)))))))) (strip_elements a.plan T a.looks a.strip a.strip_is) b in
-      let d = all_append IsElement (said_lines T ask a.cause) (a.strip ++ (a.nodes ++ (a.lanes ++ (a.guides ++ (a.states ++ (a.messages ++ (a.marks ++ (a.chain ++ (a.rows ++ a.ends))))))))) (said_elements T ask a.cause) t in
-      all_append IsElement (heading_lines T a.plan.window a.cut) (said_lines T ask a.cause ++ (a.strip ++ (a.nodes ++ (a.lanes ++ (a.guides ++ (a.states ++ (a.messages ++ (a.marks ++ (a.chain ++ (a.rows ++ a.ends)))))))))) (heading_elements T a.plan.window a.cut) d
+      let w = all_append IsElement a.names (a.chain ++ (a.rows ++ a.ends)) (each_element (IsNamesLine T a.plan) 1 (count v / 50 + 1) (count v / 50 + 1) (omega arith) (λ k l lt p. names_elements a.plan T k l p) a.names a.names_are) c in
+      let m = all_append IsElement a.marks (a.names ++ (a.chain ++ (a.rows ++ a.ends))) (each_element (IsMark T a.plan looks) v.from v.to v.to (omega arith) (λ k l lt p. mark_elements a.plan T looks k l p) a.marks a.marks_are) w in
+      let e = all_append IsElement a.messages (a.marks ++ (a.names ++ (a.chain ++ (a.rows ++ a.ends)))) (each_element (IsMessageLine P T a.plan) v.from v.to v.to (omega arith) step_elements a.messages a.messages_are) m in
+      let s = all_append IsElement a.states (a.messages ++ (a.marks ++ (a.names ++ (a.chain ++ (a.rows ++ a.ends))))) (each_element (AreStatesAt T a.plan a.looks) 0 n n (omega arith) (λ k l lt p. states_elements a.plan T a.looks k l p) a.states a.states_are) e in
+      let g = all_append IsElement a.guides (a.states ++ (a.messages ++ (a.marks ++ (a.names ++ (a.chain ++ (a.rows ++ a.ends)))))) (each_element (IsGuide T a.plan) v.from v.to v.to (omega arith) (λ k l lt p. guide_elements a.plan T k l p) a.guides a.guides_are) s in
+      let l = all_append IsElement a.lanes (a.guides ++ (a.states ++ (a.messages ++ (a.marks ++ (a.names ++ (a.chain ++ (a.rows ++ a.ends))))))) (each_element (IsLane T a.plan) 0 n n (omega arith) (λ k l lt p. lane_elements a.plan T k l p) a.lanes a.lanes_are) g in
+      let b = all_append IsElement a.nodes (a.lanes ++ (a.guides ++ (a.states ++ (a.messages ++ (a.marks ++ (a.names ++ (a.chain ++ (a.rows ++ a.ends)))))))) (as_elements a.nodes (bands_below a.plan T.opening.nodes) a.nodes_are (bands_elements a.plan T.opening.nodes)) l in
+      let t = all_append IsElement a.strip (a.nodes ++ (a.lanes ++ (a.guides ++ (a.states ++ (a.messages ++ (a.marks ++ (a.names ++ (a.chain ++ (a.rows ++ a.ends))))))))) (strip_elements a.plan T a.looks a.strip a.strip_is) b in
+      let d = all_append IsElement (said_lines T ask a.cause) (a.strip ++ (a.nodes ++ (a.lanes ++ (a.guides ++ (a.states ++ (a.messages ++ (a.marks ++ (a.names ++ (a.chain ++ (a.rows ++ a.ends)))))))))) (said_elements T ask a.cause) t in
+      all_append IsElement (heading_lines T a.plan.window a.cut) (said_lines T ask a.cause ++ (a.strip ++ (a.nodes ++ (a.lanes ++ (a.guides ++ (a.states ++ (a.messages ++ (a.marks ++ (a.names ++ (a.chain ++ (a.rows ++ a.ends))))))))))) (heading_elements T a.plan.window a.cut) d
 
   markup : IsMarkup lines
   markup = record {
@@ -298,8 +326,8 @@ module _ (P : Program) (T : Run) (from to : ℕ) (ask : Option ℕ) (lines : Lis
     body = body;
     elements = All-from_recursion IsElement body (refl, parts);
     is = a.is ∙ regroup (begin_line (grid a.plan).width (grid a.plan).height) (title_line (len T)) (paper_line (grid a.plan).width (grid a.plan).height) style_lines symbol_lines (heading_lines T a.plan.window a.cut) (said_lines T ask a.cause)
-        a.strip a.nodes a.lanes a.guides a.states a.messages a.marks a.chain a.rows a.ends (key_lines a.plan);
+        a.strip a.nodes a.lanes a.guides a.states a.messages a.marks a.names a.chain a.rows a.ends (key_lines a.plan);
   }
 
 pub pictures_are_markup : PicturesAreMarkup
-pictures_are_markup = record { lines_are = markup; texts_are = texts_inside }
+pictures_are_markup = record { lines_are = markup; texts_are = texts_escaped }

@@ -1,5 +1,5 @@
 -- The lines of lanes, of the strip, of states and of ends are told once.
-use Rattle.std.proofs.Common.{◌≡◌, ℕ, List, [], ◌∷◌, ◌++◌, length, Option, Some, None, refl, sym, ap, ◌∙◌, subst, arith}
+use Rattle.std.proofs.Common.{◌≡◌, ℕ, ◌+◌, ◌*◌, ◌/◌, List, [], ◌∷◌, ◌++◌, length, Option, Some, None, refl, sym, ap, ◌∙◌, subst, arith}
 use Rattle.std.specs.Prelude.{slice_get}
 use Rattle.std.specs.List.{flat_map}
 use Rattle.tau_markup.specs.Lines.{Line}
@@ -11,20 +11,25 @@ use Rattle.tau_trace.specs.Histories.{EndsAt}
 use Rattle.tau_trace.proofs.Lists.{same_some}
 use Rattle.tau_trace.proofs.Once.{new_once}
 use Rattle.tau_past.specs.Tables.{IsBirth}
+use Rattle.tau_shapes.specs.Windows.{count}
+use Rattle.tau_shapes.specs.Each.{EachItem}
 use Rattle.tau_layout.specs.declared.lanes.Lane.{Lane}
 use Rattle.tau_layout.specs.Lanes.{AreLanes}
 use Rattle.tau_layout.specs.Plans.{Plan, grid, lane_x, HasRank}
 use Rattle.tau_layout.proofs.LaneLemmas.{one_lane}
 use Rattle.tau_courses.proofs.Currents.{least_once}
 use Rattle.tau_words.specs.Texts.{who_text}
+use Rattle.tau_looks.specs.declared.looks.Seen.{Seen}
 use Rattle.tau_looks.specs.declared.looks.Looks.{Looks}
 use Rattle.tau_spots.proofs.Ranks.{has_one_rank}
-use Rattle.tau_spots.proofs.Once.{each_once}
-use Rattle.tau_lanes.specs.LaneLines.{name_line, axis_line, axis_top, axis_foot, AreLinesAt, IsLane, AreLaneLines}
+use Rattle.tau_spots.proofs.Once.{each_once, same_bool}
+use Rattle.tau_lanes.specs.LaneLines.{top_name, axis_line, axis_top, axis_foot, AreLinesAt, IsLane, AreLaneLines}
+use Rattle.tau_lanes.specs.NameLines.{names_foot, named_lines, IsNamed, IsNamesLine, AreNameLines}
 use Rattle.tau_bands.specs.Names.{seen_at}
 use Rattle.tau_bands.specs.StripLines.{label_line, span_lines, IsStripLane, IsRankAt, class_at, tick_lines, IsTick, IsStrip, AreStripLines, with_strip, without, frame_line, place_lines}
-use Rattle.tau_bands.specs.StateLines.{state_lines, AreStatesAt, AreStateLines}
+use Rattle.tau_bands.specs.StateLines.{IsCrowded, state_lines, IsStateAt, AreStatesAt, AreStateLines}
 use Rattle.tau_bands.specs.EndLines.{heading_line, ending_lines, IsEndAt, AreEndLines}
+use Rattle.tau_picture.proofs.EachOnce.{items_once}
 
 -- the lines of a lane
 
@@ -47,7 +52,7 @@ module _ (T : Run) (plan : Plan) where
       let birth : a.birth ≡ b.birth = birth_once T lane.who a.birth b.birth a.birth_is b.birth_is in
       let end : a.end ≡ b.end = first_once (EndsAt T lane.who) (len T) a.end b.end a.end_is b.end_is in
       let name = name_written T.opening.names lane.who in
-      a.are ∙ (λ i. name_line (grid plan) x name ∷ axis_line x (axis_top plan (birth i)) (axis_foot plan (end i)) name lane.node ∷ []) ∙ sym b.are
+      a.are ∙ (λ i. top_name (grid plan) x name ∷ axis_line x (axis_top plan (birth i)) (axis_foot plan (end i)) name lane.node ∷ []) ∙ sym b.are
 
   lane_once : (rank : ℕ) (ls ks : List Line) → IsLane T plan rank ls → IsLane T plan rank ks → ls ≡ ks
   lane_once rank ls ks a b =
@@ -57,10 +62,29 @@ module _ (T : Run) (plan : Plan) where
   pub lane_lines_once : (ls ks : List Line) → AreLaneLines T plan ls → AreLaneLines T plan ks → ls ≡ ks
   lane_lines_once ls ks x y = each_once (IsLane T plan) 0 (length plan.lanes) (λ k ge lt l m p q. lane_once k l m p q) ls ks x y
 
+  -- the names of lanes between the rows
+
+  named_once : (rows rank : ℕ) (ls ks : List Line) → IsNamed T plan rows rank ls → IsNamed T plan rows rank ks → ls ≡ ks
+  named_once rows rank ls ks a b =
+      a.are ∙ ap (λ (l : Lane). named_lines (grid plan) (lane_x plan rank l) (names_foot (grid plan) rows) (name_written T.opening.names l.who)) (same_some (sym a.at_rank ∙ b.at_rank)) ∙ sym b.are
+
+  names_line_once : (n : ℕ) (ls ks : List Line) → IsNamesLine T plan n ls → IsNamesLine T plan n ks → ls ≡ ks
+  names_line_once n ls ks x y = each_once (IsNamed T plan (50 * n)) 0 (length plan.lanes) (λ k ge lt l m p q. named_once (50 * n) k l m p q) ls ks x y
+
+  pub name_lines_once : (ls ks : List Line) → AreNameLines T plan ls → AreNameLines T plan ks → ls ≡ ks
+  name_lines_once ls ks x y = each_once (IsNamesLine T plan) 1 (count plan.window / 50 + 1) (λ k ge lt l m p q. names_line_once k l m p q) ls ks x y
+
+  -- the lines of a state
+
+  state_at_once : (x : ℕ) (s : Seen) (ls ks : List Line) → IsStateAt T plan x s ls → IsStateAt T plan x s ks → ls ≡ ks
+  state_at_once x s ls ks a b =
+      a.are ∙ ap (state_lines plan T.opening.names x s) (same_bool a.crowded b.crowded (IsCrowded T plan s.state) a.crowded_is b.crowded_is) ∙ sym b.are
+
   module _ (looks : Looks) where
     states_at_once : (rank : ℕ) (ls ks : List Line) → AreStatesAt T plan looks rank ls → AreStatesAt T plan looks rank ks → ls ≡ ks
     states_at_once rank ls ks a b =
-        a.are ∙ ap (λ (l : Lane). flat_map (state_lines plan T.opening.names (lane_x plan rank l)) (seen_at looks rank)) (same_some (sym a.at_rank ∙ b.at_rank)) ∙ sym b.are
+        items_once (IsStateAt T plan (lane_x plan rank b.lane)) (state_at_once (lane_x plan rank b.lane)) (seen_at looks rank) ls ks
+        (subst (λ (l : Lane). EachItem (IsStateAt T plan (lane_x plan rank l)) (seen_at looks rank) ls) (same_some (sym a.at_rank ∙ b.at_rank)) a.are) b.are
 
     pub state_lines_once : (ls ks : List Line) → AreStateLines T plan looks ls → AreStateLines T plan looks ks → ls ≡ ks
     state_lines_once ls ks x y = each_once (AreStatesAt T plan looks) 0 (length plan.lanes) (λ k ge lt l m p q. states_at_once k l m p q) ls ks x y

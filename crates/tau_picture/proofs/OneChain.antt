@@ -21,7 +21,7 @@ use Rattle.tau_spots.specs.declared.spots.Spot.{Spot}
 use Rattle.tau_spots.specs.Spots.{IsSpot}
 use Rattle.tau_spots.proofs.Once.{x_once, spot_once}
 use Rattle.tau_bands.specs.Names.{seen_at}
-use Rattle.tau_picture.specs.Chains.{ShowsState, FrameLines, framed, unframed, frame_line, no_later, link_line, ShowsLink, LinkLines, link_drawn, link_undrawn, RingLines, ring_drawn, ring_undrawn, ring_line, AreChainLines}
+use Rattle.tau_picture.specs.Chains.{ShowsState, FrameLines, framed, unframed, frame_line, no_later, link_line, ShowsLink, LinkLines, link_drawn, link_undrawn, head_lines, AreLinkLines, RingLines, ring_drawn, ring_undrawn, ring_line, AreChainLines}
 use Rattle.tau_picture.specs.Pictures.{AreCauseLines}
 use Rattle.tau_picture.proofs.EachOnce.{items_as, items_once}
 use Rattle.tau_picture.proofs.OneState.{state_of_point, looked}
@@ -54,12 +54,15 @@ module _ (T : Run) (plan : Plan) (looks others : Looks) (same : (rank : ℕ) →
   link_as c ls (link_drawn {j = j} {x = x} {spot = spot} {s = s} a) = link_drawn (link_shown_as c j x spot s a)
   link_as c ls (link_undrawn none) = link_undrawn (λ j x spot s a. none j x spot s (link_shown_back c j x spot s a))
 
+  links_as : (chain : List Chained) (ls : List Line) → AreLinkLines T plan looks chain ls → AreLinkLines T plan others chain ls
+  links_as chain ls a = record { links = a.links; links_are = items_as (LinkLines T plan looks) (LinkLines T plan others) link_as chain a.links a.links_are; are = a.are }
+
   chain_as : (k : ℕ) (chain : List Chained) (ls : List Line) → AreChainLines T plan looks k chain ls → AreChainLines T plan others k chain ls
   chain_as k chain ls a = record {
     frames = a.frames;
     frames_are = items_as (FrameLines plan looks) (FrameLines plan others) frame_as chain a.frames a.frames_are;
     links = a.links;
-    links_are = items_as (LinkLines T plan looks) (LinkLines T plan others) link_as chain a.links a.links_are;
+    links_are = links_as chain a.links a.links_are;
     ring = a.ring;
     ring_is = a.ring_is;
     is = a.is;
@@ -114,10 +117,15 @@ module _ (T : Run) (w : WellFormed T) (plan : Plan) (is : AreLanes T plan.window
     link_once c ls ks (link_undrawn none) (link_drawn {j = j} {x = x} {spot = p} {s = s} a) = absurd (none j x p s a)
     link_once c ls ks (link_undrawn none) (link_undrawn other) = refl
 
+    links_once : (chain : List Chained) (ls ks : List Line) → AreLinkLines T plan looks chain ls → AreLinkLines T plan looks chain ks → ls ≡ ks
+    links_once chain ls ks a b =
+        let links : a.links ≡ b.links = items_once (LinkLines T plan looks) link_once chain a.links b.links a.links_are b.links_are in
+        a.are ∙ ap (λ x. x ++ head_lines x) links ∙ sym b.are
+
     chain_once : (k : ℕ) (chain : List Chained) (ls ks : List Line) → AreChainLines T plan looks k chain ls → AreChainLines T plan looks k chain ks → ls ≡ ks
     chain_once k chain ls ks a b =
         let frames : a.frames ≡ b.frames = items_once (FrameLines plan looks) frame_once chain a.frames b.frames a.frames_are b.frames_are in
-        let links : a.links ≡ b.links = items_once (LinkLines T plan looks) link_once chain a.links b.links a.links_are b.links_are in
+        let links : a.links ≡ b.links = links_once chain a.links b.links a.links_are b.links_are in
         let ring : a.ring ≡ b.ring = ring_once k a.ring b.ring a.ring_is b.ring_is in
         a.is ∙ (λ i. frames i ++ (links i ++ ring i)) ∙ sym b.is
 

@@ -25,6 +25,7 @@ use Rattle.tau_bands.specs.StateLines.{AreStateLines}
 use Rattle.tau_bands.specs.EndLines.{AreEndLines}
 use Rattle.tau_lanes.specs.Bands.{AreNodeBands}
 use Rattle.tau_lanes.specs.LaneLines.{AreLaneLines}
+use Rattle.tau_lanes.specs.NameLines.{AreNameLines}
 use Rattle.tau_picture.specs.Headings.{heading_lines}
 use Rattle.tau_picture.specs.Asking.{IsCauseOf}
 use Rattle.tau_picture.specs.Pictures.{begin_lines, key_lines, said_lines, AreCauseLines, IsPicture, IsPictureText}
@@ -34,7 +35,7 @@ use Rattle.tau_picture.proofs.OneState.{lanes_seen_once}
 use Rattle.tau_picture.proofs.OneCause.{cause_at_once}
 use Rattle.tau_picture.proofs.OneNote.{steps_alike, ends_alike}
 use Rattle.tau_picture.proofs.AsShown.{ShowsSame, strip_as, states_as, marks_as, rows_as, ends_as}
-use Rattle.tau_picture.proofs.OneBand.{lane_lines_once, state_lines_once, end_lines_once, strip_once}
+use Rattle.tau_picture.proofs.OneBand.{lane_lines_once, name_lines_once, state_lines_once, end_lines_once, strip_once}
 use Rattle.tau_picture.proofs.OneChain.{cause_lines_as, cause_lines_once}
 use Rattle.tau_picture.proofs.Whole.{own_plan, window_within, step_there}
 
@@ -80,6 +81,9 @@ module _ (P : Program) (T : Run) (w : WellFormed T) (opening : T.opening ≡ pro
   lanes : a.lanes ≡ b.lanes
   lanes = lane_lines_once T b.plan a.lanes b.lanes (subst (λ (p : Plan). AreLaneLines T p a.lanes) plans a.lanes_are) b.lanes_are
 
+  names : a.names ≡ b.names
+  names = name_lines_once T b.plan a.names b.names (subst (λ (p : Plan). AreNameLines T p a.names) plans a.names_are) b.names_are
+
   guides : a.guides ≡ b.guides
   guides = guides_once T w.opening b.plan lanes_are within (step_there T) a.guides b.guides (subst (λ (p : Plan). AreGuides T p a.guides) plans a.guides_are) b.guides_are
 
@@ -109,7 +113,7 @@ module _ (P : Program) (T : Run) (w : WellFormed T) (opening : T.opening ≡ pro
   chains = cause_lines_once T w b.plan lanes_are within (step_there T) b.cut b.looks b.are_looks.states_are ask b.cause a.chain b.chain chain_there b.chain_is
 
   pub picture_once : lines ≡ others
-  picture_once = a.is ∙ (λ i. begin_lines T (plans i) ++ (heading_lines T (plans i).window (cuts i) ++ (said_lines T ask (causes i) ++ (strips i ++ (nodes i ++ (lanes i ++ (guides i ++ (states i ++ (messages i ++ (marks i ++ (chains i ++ (rows i ++ (ends i ++ key_lines (plans i)))))))))))))) ∙ sym b.is
+  picture_once = a.is ∙ (λ i. begin_lines T (plans i) ++ (heading_lines T (plans i).window (cuts i) ++ (said_lines T ask (causes i) ++ (strips i ++ (nodes i ++ (lanes i ++ (guides i ++ (states i ++ (messages i ++ (marks i ++ (names i ++ (chains i ++ (rows i ++ (ends i ++ key_lines (plans i))))))))))))))) ∙ sym b.is
 
 -- and one text
 pub picture_text_once : (P : Program) (T : Run) → WellFormed T → T.opening ≡ program_opening P → (from to : ℕ) (ask : Option ℕ) (b c : List ℕ) → IsPictureText P T from to ask b → IsPictureText P T from to ask c → b ≡ c

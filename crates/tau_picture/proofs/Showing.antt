@@ -50,8 +50,3 @@ no_maker T plan looks c none j x spot s l = none j (record { by = l.by; drawn = 
 
 pub no_target : (T : Run) (plan : Plan) (looks : Looks) (c : Chained) → IsPlaced plan looks c.point None → (j x : ℕ) (spot : Spot) (s : State) → ¬ ShowsLink T plan looks c j spot s x
 no_target T plan looks c none j x spot s l = none s x l.to
-
--- a step stands in the lane that is told
-pub lane_told : (T : Run) (k t : ℕ) (o : Option ℕ) → IsLaneAt T k o → StandsIn T k t → o ≡ Some t
-lane_told T k t None a h = absurd (a t h)
-lane_told T k t (Some u) a h = ap Some (one_lane T k u t a h)

@@ -50,14 +50,15 @@ cause_is T cut (asked.Step k cause) told = told
 nested : (a b c m : List Line) → (a ++ (b ++ c)) ++ m ≡ a ++ (b ++ (c ++ m))
 nested a b c m = append_assoc a (b ++ c) m ∙ ap (λ x. a ++ x) (append_assoc b c m)
 
-joined : (a b c d e f g m : List Line) → (a ++ (b ++ (c ++ (d ++ (e ++ (f ++ g)))))) ++ m ≡ a ++ (b ++ (c ++ (d ++ (e ++ (f ++ (g ++ m))))))
-joined a b c d e f g m =
-    append_assoc a (b ++ (c ++ (d ++ (e ++ (f ++ g))))) m
-    ∙ ap (λ x. a ++ x) (append_assoc b (c ++ (d ++ (e ++ (f ++ g)))) m
-    ∙ ap (λ x. b ++ x) (append_assoc c (d ++ (e ++ (f ++ g))) m
-    ∙ ap (λ x. c ++ x) (append_assoc d (e ++ (f ++ g)) m
-    ∙ ap (λ x. d ++ x) (append_assoc e (f ++ g) m
-    ∙ ap (λ x. e ++ x) (append_assoc f g m)))))
+joined : (a b c d e f g h m : List Line) → (a ++ (b ++ (c ++ (d ++ (e ++ (f ++ (g ++ h))))))) ++ m ≡ a ++ (b ++ (c ++ (d ++ (e ++ (f ++ (g ++ (h ++ m)))))))
+joined a b c d e f g h m =
+    append_assoc a (b ++ (c ++ (d ++ (e ++ (f ++ (g ++ h)))))) m
+    ∙ ap (λ x. a ++ x) (append_assoc b (c ++ (d ++ (e ++ (f ++ (g ++ h))))) m
+    ∙ ap (λ x. b ++ x) (append_assoc c (d ++ (e ++ (f ++ (g ++ h)))) m
+    ∙ ap (λ x. c ++ x) (append_assoc d (e ++ (f ++ (g ++ h))) m
+    ∙ ap (λ x. d ++ x) (append_assoc e (f ++ (g ++ h)) m
+    ∙ ap (λ x. e ++ x) (append_assoc f (g ++ h) m
+    ∙ ap (λ x. f ++ x) (append_assoc g h m))))))
 
 module _ (P : Program) (T : Run) (from to : ℕ) (plan : Plan) (cut : List Marked) (looks : Looks) (a : Asked) where
   -- the parts are those of a picture
@@ -86,6 +87,8 @@ module _ (P : Program) (T : Run) (from to : ℕ) (plan : Plan) (cut : List Marke
     messages_are = m.messages_are;
     marks = m.marks;
     marks_are = m.marks_are;
+    names = m.names;
+    names_are = m.names_are;
     chain = r.chain;
     chain_is = r.chain_is;
     rows = r.rows;
@@ -94,8 +97,8 @@ module _ (P : Program) (T : Run) (from to : ℕ) (plan : Plan) (cut : List Marke
     ends_are = r.ends_are;
     is = nested (begin_lines T plan) (heading_lines T plan.window cut) (said_lines T (place_asked a) (cause_asked a)) (ms ++ rs)
         ∙ ap (λ x. begin_lines T plan ++ (heading_lines T plan.window cut ++ (said_lines T (place_asked a) (cause_asked a) ++ x)))
-        (ap (λ x. x ++ rs) m.is ∙ joined m.strip m.nodes m.lanes m.guides m.states m.messages m.marks rs
-        ∙ ap (λ x. m.strip ++ (m.nodes ++ (m.lanes ++ (m.guides ++ (m.states ++ (m.messages ++ (m.marks ++ x))))))) r.is);
+        (ap (λ x. x ++ rs) m.is ∙ joined m.strip m.nodes m.lanes m.guides m.states m.messages m.marks m.names rs
+        ∙ ap (λ x. m.strip ++ (m.nodes ++ (m.lanes ++ (m.guides ++ (m.states ++ (m.messages ++ (m.marks ++ (m.names ++ x)))))))) r.is);
   }
 
   -- what is written is its text

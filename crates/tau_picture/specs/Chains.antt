@@ -1,7 +1,7 @@
 -- The chain of the step that was asked for: a frame round each state, a curve for each link, and a ring (docs/formats.md, "Pictures").
 use Rattle.std.specs.Prelude.{◌≡◌, ℕ, ◌+◌, ◌-◌, ◌/◌, List, [], ◌∷◌, ◌++◌, Option, Some, None, if◌then◌else◌, nat_lt, min, Contains, codes}
-use Rattle.tau_markup.specs.Lines.{Piece, plain, Line, empty}
-use Rattle.tau_shapes.specs.Shapes.{line, class, is_number, rect, rounded, path, go_to}
+use Rattle.tau_markup.specs.Lines.{Piece, plain, Line, empty, text}
+use Rattle.tau_shapes.specs.Shapes.{line, class, is_number, is_word, rect, rounded, path, go_to}
 use Rattle.tau_shapes.specs.Windows.{IsDrawn}
 use Rattle.tau_shapes.specs.Each.{EachItem}
 use Rattle.tau_points.specs.declared.point.Point.{Point}
@@ -68,6 +68,20 @@ pub data LinkLines (T : Run) (plan : Plan) (looks : Looks) (c : Chained) : List 
   link_drawn : {j x : ℕ} {spot : Spot} {s : State} → ShowsLink T plan looks c j spot s x → LinkLines T plan looks c (link_line spot.x spot.y x (row_y plan (no_later j s.end)) ∷ [])
   link_undrawn : ((j x : ℕ) (spot : Spot) (s : State) → ¬ ShowsLink T plan looks c j spot s x) → LinkLines T plan looks c []
 
+-- the heads of curves have the colour of the curves in the dark too
+abbrev pub head_line : Line
+head_line = line (codes "style") (is_word (codes "type") (codes "text/css") ∷ []) (text (plain (codes "@media (prefers-color-scheme:dark){#tau-to-why path{fill:#f06ac4}}") ∷ []))
+
+abbrev pub head_lines : List Line → List Line
+head_lines [] = []
+head_lines (curve ∷ curves) = head_line ∷ []
+
+-- the links of a chain, and the colour of their heads where one is drawn
+pub record AreLinkLines (T : Run) (plan : Plan) (looks : Looks) (chain : List Chained) (lines : List Line) : Type 0 where
+  pub links : List Line
+  pub links_are : EachItem (LinkLines T plan looks) chain links
+  pub are : lines ≡ links ++ head_lines links
+
 -- the ring round the spot of the step that was asked for
 abbrev pub ring_line : Spot → Line
 ring_line spot = line (codes "circle") (class (codes "why") ∷ is_number (codes "cx") spot.x ∷ is_number (codes "cy") spot.y ∷ is_number (codes "r") 12 ∷ []) empty
@@ -82,7 +96,7 @@ pub record AreChainLines (T : Run) (plan : Plan) (looks : Looks) (k : ℕ) (chai
   pub frames : List Line
   pub frames_are : EachItem (FrameLines plan looks) chain frames
   pub links : List Line
-  pub links_are : EachItem (LinkLines T plan looks) chain links
+  pub links_are : AreLinkLines T plan looks chain links
   pub ring : List Line
   pub ring_is : RingLines T plan k ring
   pub is : lines ≡ frames ++ (links ++ ring)

@@ -38,9 +38,13 @@ abbrev pub counts_pieces : ℕ → ℕ → ℕ → ℕ → ℕ → ℕ → List 
 counts_pieces checkpoints kept holds drops falls losses =
     plain (codes "checkpoints ") ∷ number checkpoints ∷ plain (codes ", may be kept ") ∷ number kept ∷ plain (codes ", holds ") ∷ number holds ∷ plain (codes ", drops ") ∷ number drops ∷ plain (codes ", falls ") ∷ number falls ∷ plain (codes ", losses ") ∷ number losses ∷ []
 
+-- the notes of a run of more than 4,000 steps tell no causes
+abbrev pub left_out_pieces : ℕ → List Piece
+left_out_pieces steps = if nat_lt 4000 steps then plain (codes ", notes without causes") ∷ [] else []
+
 abbrev pub counts_line : Run → List Marked → Line
 counts_line T marks =
-    text_at (codes "row") 16 50 (counts_pieces (steps_with is_checkpoint T) (length (places_in marks)) (steps_with is_hold T) (steps_with is_drop T) (falling_steps T) (steps_with is_lose T))
+    text_at (codes "row") 16 50 (counts_pieces (steps_with is_checkpoint T) (length (places_in marks)) (steps_with is_hold T) (steps_with is_drop T) (falling_steps T) (steps_with is_lose T) ++ left_out_pieces (len T))
 
 -- the two lines of the heading
 abbrev pub heading_lines : Run → Window → List Marked → List Line

@@ -1,5 +1,5 @@
 -- Laws of pictures, each the contract of a function of the crate.
-use Rattle.std.specs.Prelude.{◌≡◌, ◌≢◌, ◌↔◌, ℕ, ◌+◌, ◌-◌, ◌*◌, ◌<◌, ◌≤◌, ◌⊎◌, List, [], ◌∷◌, ◌++◌, Option, Some, None, Contains, length, slice_get, codes}
+use Rattle.std.specs.Prelude.{◌≡◌, ◌≢◌, ◌↔◌, ℕ, ◌+◌, ◌-◌, ◌*◌, ◌/◌, ◌<◌, ◌≤◌, ◌⊎◌, List, [], ◌∷◌, ◌++◌, Option, Some, None, Contains, length, slice_get, codes}
 use Rattle.tau_markup.specs.Texts.{escaped}
 use Rattle.tau_markup.specs.Lines.{Piece, plain, Line, titled}
 use Rattle.tau_points.specs.declared.point.Point.{Point}
@@ -56,10 +56,11 @@ abbrev pub SafeRunsShowNoneBroken : Type 0
 SafeRunsShowNoneBroken = (P : Program) (T : Run) (from to : ℕ) (ask : Option ℕ) (lines : List Line) (picture : IsPicture P T from to ask lines) (rank : ℕ) (s : Seen)
     → Safe T → Contains (seen_at picture.looks rank) s → s.look ≢ states.Broken
 
--- the marks of steps stand below one another, in the rows of their places, so no two at one spot
+-- the marks of steps stand below one another, in the rows of their places, so no two at one spot; lines of names, which stand
+-- below each 50 rows, take their own height
 abbrev pub MarksStandInRows : Type 0
 MarksStandInRows = (T : Run) (plan : Plan) (j k : ℕ) (p q : Spot)
-    → IsDrawn plan.window j → IsDrawn plan.window k → j < k → k < len T → IsSpot T plan j p → IsSpot T plan k q → q.y ≡ p.y + (grid plan).row * (k - j)
+    → IsDrawn plan.window j → IsDrawn plan.window k → j < k → k < len T → IsSpot T plan j p → IsSpot T plan k q → q.y ≡ p.y + (grid plan).row * (k - j) + (grid plan).names * ((k - plan.window.from) / 50 - (j - plan.window.from) / 50)
 
 -- there is one mark for each drawn step, by place, at the spot of the step
 pub record AreMarksOfSteps (T : Run) (plan : Plan) (looks : List StepLook) (marks : List Line) : Type 0 where
@@ -163,8 +164,16 @@ abbrev pub LegalRunsDrawSafe : Type 0
 LegalRunsDrawSafe = (P : Program) (T : Run) (from to : ℕ) (ask : Option ℕ) (lines : List Line) (picture : IsPicture P T from to ask lines)
     → WellFormed T → Fitting P T → ShowsNoneBroken picture.plan picture.looks
 
+-- a text in which an ampersand begins one of the three entities, and no angle bracket stands
+pub data IsEscaped : List ℕ → Type 0 where
+  ends : IsEscaped []
+  ampersand : {rest : List ℕ} → IsEscaped rest → IsEscaped (codes "&amp;" ++ rest)
+  less : {rest : List ℕ} → IsEscaped rest → IsEscaped (codes "&lt;" ++ rest)
+  greater : {rest : List ℕ} → IsEscaped rest → IsEscaped (codes "&gt;" ++ rest)
+  other : {b : ℕ} {rest : List ℕ} → b ≢ 38 → b ≢ 60 → b ≢ 62 → IsEscaped rest → IsEscaped (b ∷ rest)
+
 pub record PicturesAreMarkup : Type 0 where
   -- each picture is markup: no name, value or word in it has a quote, an ampersand or an angle bracket, but in the fixed lines
   pub lines_are : (P : Program) (T : Run) (from to : ℕ) (ask : Option ℕ) (lines : List Line) → IsPicture P T from to ask lines → IsMarkup lines
-  -- and no text that stands in it, escaped, has an angle bracket
-  pub texts_are : (text : List ℕ) (b : ℕ) → Contains (escaped text) b → (b ≢ 60) × (b ≢ 62)
+  -- and a text that stands in it, escaped, has no angle bracket, and an ampersand only where an entity begins
+  pub texts_are : (text : List ℕ) → IsEscaped (escaped text)

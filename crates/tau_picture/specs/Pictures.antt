@@ -19,6 +19,7 @@ use Rattle.tau_marks.specs.Rows.{AreRows}
 use Rattle.tau_bands.specs.StripLines.{AreStripLines}
 use Rattle.tau_lanes.specs.Bands.{AreNodeBands}
 use Rattle.tau_lanes.specs.LaneLines.{AreLaneLines}
+use Rattle.tau_lanes.specs.NameLines.{AreNameLines}
 use Rattle.tau_bands.specs.StateLines.{AreStateLines}
 use Rattle.tau_bands.specs.EndLines.{AreEndLines}
 use Rattle.tau_picture.specs.declared.drawing.Drawn.{Drawn}
@@ -74,13 +75,15 @@ pub record IsPicture (P : Program) (T : Run) (from to : ℕ) (ask : Option ℕ) 
   pub messages_are : AreMessageLines P T plan messages
   pub marks : List Line
   pub marks_are : AreMarks T plan looks.steps.items marks
+  pub names : List Line
+  pub names_are : AreNameLines T plan names
   pub chain : List Line
   pub chain_is : AreCauseLines T plan looks ask cause chain
   pub rows : List Line
   pub rows_are : AreRows T plan looks.steps.items rows
   pub ends : List Line
   pub ends_are : AreEndLines plan looks ends
-  pub is : lines ≡ begin_lines T plan ++ (heading_lines T plan.window cut ++ (said_lines T ask cause ++ (strip ++ (nodes ++ (lanes ++ (guides ++ (states ++ (messages ++ (marks ++ (chain ++ (rows ++ (ends ++ key_lines plan))))))))))))
+  pub is : lines ≡ begin_lines T plan ++ (heading_lines T plan.window cut ++ (said_lines T ask cause ++ (strip ++ (nodes ++ (lanes ++ (guides ++ (states ++ (messages ++ (marks ++ (names ++ (chain ++ (rows ++ (ends ++ key_lines plan)))))))))))))
 
 -- the bytes are those of the lines of the picture
 pub record IsPictureText (P : Program) (T : Run) (from to : ℕ) (ask : Option ℕ) (bytes : List ℕ) : Type 0 where

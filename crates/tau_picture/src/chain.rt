@@ -7,7 +7,7 @@ ghost use Rattle.tau_spots.specs.Near.{IsNear, IsNearX};
 ghost use Rattle.tau_spots.specs.Inner.Ranks.{HasOneRank};
 ghost use Rattle.tau_bands.specs.Names as names;
 ghost use Rattle.tau_picture.specs.Chains as chains;
-ghost use Rattle.tau_picture.specs.Chains.{FrameLines, LinkLines, RingLines, AreChainLines};
+ghost use Rattle.tau_picture.specs.Chains.{FrameLines, LinkLines, AreLinkLines, RingLines, AreChainLines};
 ghost use Rattle.tau_picture.specs.Inner.Showing.{IsStateOf, IsPlaced, IsMakerOf};
 
 use std::alloc::AllocError;
@@ -16,7 +16,7 @@ use tau_chains::{Chain, Chained};
 use tau_courses::State;
 use tau_layout::{Layout, lane_at};
 use tau_looks::{Looks, Seen};
-use tau_markup::{begin, end, name, put_number, put_word, quote};
+use tau_markup::{begin, close, end, name, plain, put_number, put_word, quote, text};
 use tau_points::Point;
 use tau_shapes::{put_pair, rect, rounded};
 use tau_spots::{Spot, lane_middle, spot_at};
@@ -234,6 +234,41 @@ fn put_links(
     Ok(())
 }
 
+/// Adds the colour of the heads of links in the dark.
+fn put_head(out: &mut Vec<u8>) -> Result<(), AllocError>
+    ensures { OnOk result (out.new.items ≡ with_line out.old.items chains.head_line) }
+{
+    begin(out, b"style")?;
+    put_word(out, b"type", b"text/css")?;
+    text(out)?;
+    plain(
+        out,
+        b"@media (prefers-color-scheme:dark){#tau-to-why path{fill:#f06ac4}}",
+    )?;
+    close(out, b"style")
+}
+
+/// Adds the links of a chain, and where one is drawn the colour of their heads.
+fn put_headed(
+    out: &mut Vec<u8>,
+    trace: &Trace,
+    layout: &Layout,
+    looks: &Looks,
+    chain: &Chain,
+) -> Result<(), AllocError>
+    requires plan { IsPlan trace.now.run layout.now.window layout.now }
+    requires ranks { HasOneRank layout.now }
+    ensures { OnOk result (Writes (AreLinkLines trace.now.run layout.now looks.now chain.now) out.old.items out.new.items) }
+{
+    let before = out.len();
+    put_links(out, trace, layout, looks, chain)?;
+    if out.len() <= before {
+        return Ok(());
+    }
+    put_head(out)?;
+    Ok(())
+}
+
 /// Adds a ring round a spot.
 fn put_circle(out: &mut Vec<u8>, spot: Spot) -> Result<(), AllocError>
     ensures { OnOk result (out.new.items ≡ with_line out.old.items (chains.ring_line spot)) }
@@ -273,7 +308,7 @@ pub(crate) fn put_chain(
     ensures { OnOk result (Writes (AreChainLines trace.now.run layout.now looks.now place chain.now) out.old.items out.new.items) }
 {
     put_frames(out, layout, looks, chain)?;
-    put_links(out, trace, layout, looks, chain)?;
+    put_headed(out, trace, layout, looks, chain)?;
     put_ring(out, trace, layout, place)?;
     Ok(())
 }

@@ -22,7 +22,7 @@ use tau_arrows::put_messages;
 use tau_bands::{put_ends, put_states, put_strip};
 use tau_chains::Chain;
 use tau_cut::{Cut, greatest};
-use tau_lanes::{put_lanes, put_nodes};
+use tau_lanes::{put_lanes, put_names, put_nodes};
 use tau_layout::{Layout, layout_of};
 use tau_looks::Looks;
 use tau_marks::{put_marks, put_rows};
@@ -129,7 +129,7 @@ fn put_top(
     Ok(())
 }
 
-/// Adds the strip, the lanes, the states, the messages and the marks.
+/// Adds the strip, the lanes, the states, the messages, the marks, and the names of lanes between the rows.
 fn put_middle(
     alloc: Global,
     out: &mut Vec<u8>,
@@ -154,6 +154,7 @@ fn put_middle(
     put_states(alloc, out, trace, layout, looks)?;
     put_messages(alloc, out, program, trace, layout)?;
     put_marks(alloc, out, trace, layout, looks)?;
+    put_names(alloc, out, trace, layout)?;
     Ok(())
 }
 

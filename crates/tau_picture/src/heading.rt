@@ -97,11 +97,20 @@ fn kept_in(cut: &Cut) -> usize
     kept
 }
 
-/// Adds the line of the counts.
-fn put_counts(out: &mut Vec<u8>, counts: Counts, kept: usize) -> Result<(), AllocError>
-    ensures { OnOk result (out.new.items ≡ with_line out.old.items (counts_text counts kept)) }
+/// Adds that notes tell no causes, where a run has more than 4,000 steps.
+fn put_left_out(out: &mut Vec<u8>, steps: u32) -> Result<(), AllocError>
+    ensures { OnOk result (out.new.items ≡ with_pieces out.old.items (headings.left_out_pieces steps)) }
 {
-    text_at(out, b"row", 16, 50)?;
+    if 4000 < steps {
+        return plain(out, b", notes without causes");
+    }
+    Ok(())
+}
+
+/// Adds the counts of a run.
+fn put_numbers(out: &mut Vec<u8>, counts: Counts, kept: usize) -> Result<(), AllocError>
+    ensures { OnOk result (out.new.items ≡ with_pieces out.old.items (headings.counts_pieces counts.checkpoints kept counts.holds counts.drops counts.falls counts.losses)) }
+{
     plain(out, b"checkpoints ")?;
     number(out, u64::from(counts.checkpoints))?;
     plain(out, b", may be kept ")?;
@@ -113,7 +122,16 @@ fn put_counts(out: &mut Vec<u8>, counts: Counts, kept: usize) -> Result<(), Allo
     plain(out, b", falls ")?;
     number(out, u64::from(counts.falls))?;
     plain(out, b", losses ")?;
-    number(out, u64::from(counts.losses))?;
+    number(out, u64::from(counts.losses))
+}
+
+/// Adds the line of the counts.
+fn put_counts(out: &mut Vec<u8>, counts: Counts, kept: usize, steps: u32) -> Result<(), AllocError>
+    ensures { OnOk result (out.new.items ≡ with_line out.old.items (counts_text counts kept steps)) }
+{
+    text_at(out, b"row", 16, 50)?;
+    put_numbers(out, counts, kept)?;
+    put_left_out(out, steps)?;
     close(out, b"text")
 }
 
@@ -130,5 +148,5 @@ pub(crate) fn put_heading(
     ensures { OnOk result (out.new.items ≡ with_lines out.old.items (heading_lines trace.now.run window cut.now)) }
 {
     put_size_line(out, trace, window)?;
-    put_counts(out, counts, kept_in(cut))
+    put_counts(out, counts, kept_in(cut), trace.len())
 }

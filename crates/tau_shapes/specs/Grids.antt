@@ -21,6 +21,14 @@ strip_height rows lanes = if nat_lt 100 rows && nat_le lanes 64 then 8 * lanes +
 abbrev pub first_row : ℕ → ℕ → ℕ → ℕ
 first_row band lanes longest = if nat_le lanes 6 then band + 58 else band + 46 + 7 * longest
 
+-- the height of a line of names, which stands below each 50 rows and has the name of each lane again
+abbrev pub names_height : ℕ → ℕ → ℕ
+names_height lanes longest = if nat_le lanes 6 then 22 else 7 * longest + 14
+
+-- how far so many rows go down, of this height, with lines of names of that height
+abbrev pub rows_height : ℕ → ℕ → ℕ → ℕ
+rows_height row names rows = row * rows + names * (rows / 50)
+
 abbrev pub picture_width : ℕ → ℕ → ℕ
 picture_width lanes nodes = max (384 + lane_width lanes * lanes + 12 * nodes) 804
 
@@ -33,13 +41,14 @@ abbrev pub grid_of : ℕ → ℕ → ℕ → ℕ → Grid
 grid_of rows lanes nodes longest =
     let band = 78 + strip_height rows lanes in
     let top = first_row band lanes longest in
-    let foot = top + row_height rows * rows in
+    let foot = top + rows_height (row_height rows) (names_height lanes longest) rows in
     let columns = end_columns lanes nodes in
     let key = foot + 52 + 16 * ((lanes + columns - 1) / columns) in
     record {
       is_wide = nat_le lanes 6;
       lane = lane_width lanes;
       row = row_height rows;
+      names = names_height lanes longest;
       over = strip_height rows lanes;
       band = band;
       top = top;
@@ -56,7 +65,7 @@ x_of g rank group = 372 + g.lane * rank + 12 * group + g.lane / 2
 
 -- the middle of the row of place k
 abbrev pub y_of : Grid → Window → ℕ → ℕ
-y_of g v k = g.top + g.row * row_of v k
+y_of g v k = g.top + rows_height g.row g.names (row_of v k)
 
 -- where place k stands in the strip
 abbrev pub strip_of : Grid → Window → ℕ → ℕ

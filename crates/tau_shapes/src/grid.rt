@@ -7,13 +7,14 @@ ghost use Rattle.tau_shapes.specs.Windows as windows;
 use crate::window::Window;
 
 /// The measures of a picture (docs/formats.md, "Pictures"): whether its lanes are wide apart, the distances of lanes and of rows, the
-/// height of the strip, where the band of nodes, the first row and the end of the rows stand, the width, how many states that
-/// may be kept stand side by side, where the legend stands, and the height.
+/// height of a line of names, the height of the strip, where the band of nodes, the first row and the end of the rows stand, the
+/// width, how many states that may be kept stand side by side, where the legend stands, and the height.
 #[derive(Clone, Copy)]
 pub struct Grid {
     pub is_wide: bool,
     pub lane: u64,
     pub row: u64,
+    pub names: u64,
     pub over: u64,
     pub band: u64,
     pub top: u64,
@@ -34,7 +35,8 @@ fn lane_width(lanes: u64) -> u64
 }
 
 fn row_height(rows: u64) -> u64
-    ensures { result ≡ grids.row_height rows }
+    ensures height { result ≡ grids.row_height rows }
+    ensures most { result ≤ 18 }
 {
     if rows <= 200 { 18 } else { 14 }
 }
@@ -77,13 +79,26 @@ fn lanes_width(lanes: u64) -> u64
     if lanes <= 24 { 44 * lanes } else { 28 * lanes }
 }
 
-/// The height of so many rows.
-fn rows_height(rows: u64) -> u64
-    requires { rows < 2 ^ 32 }
-    ensures height { result ≡ grids.row_height rows * rows }
-    ensures most { result ≤ 18 * rows }
+/// The height of a line of names.
+fn names_height(lanes: u64, longest: u64) -> u64
+    requires { longest < 2 ^ 32 }
+    ensures height { result ≡ grids.names_height lanes longest }
+    ensures most { result < 2 ^ 35 }
 {
-    if rows <= 200 { 18 * rows } else { 14 * rows }
+    if lanes <= 6 { 22 } else { 7 * longest + 14 }
+}
+
+/// How far so many rows go down, of this height, with lines of names of that height.
+#[tactic(auto, using(crate::proofs::GridLemmas::row_step, crate::proofs::GridLemmas::names_step))]
+fn rows_height(row: u64, names: u64, rows: u64) -> u64
+    requires row { row ≤ 18 }
+    requires names { names < 2 ^ 35 }
+    requires rows { rows < 2 ^ 32 }
+    ensures height { result ≡ grids.rows_height row names rows }
+    ensures most { result < 2 ^ 63 }
+{
+    let lines = rows / 50;
+    row * rows + names * lines
 }
 
 fn picture_width(lanes: u64, nodes: u64) -> u64
@@ -118,14 +133,17 @@ pub fn grid_of(rows: u32, lanes: usize, nodes: u32, longest: u32) -> Grid
     let over = strip_height(rows, lanes);
     let band = 78 + over;
     let top = first_row(band, lanes, u64::from(longest));
-    let foot = top + rows_height(rows);
+    let row = row_height(rows);
+    let names = names_height(lanes, u64::from(longest));
+    let foot = top + rows_height(row, names, rows);
     let width = picture_width(lanes, u64::from(nodes));
     let columns = (width - 32) / 250;
     let key = foot + 52 + 16 * end_rows(lanes, columns);
     Grid {
         is_wide: lanes <= 6,
         lane: lane_width(lanes),
-        row: row_height(rows),
+        row,
+        names,
         over,
         band,
         top,
@@ -152,16 +170,25 @@ impl Grid {
         372 + step + 12 * u64::from(group) + self.lane / 2
     }
 
+    /// How far so many rows go down, with a line of names below each 50 of them.
+    pub fn down(self, rows: u32) -> u64
+        requires row { self.row ≤ 18 }
+        requires names { self.names < 2 ^ 35 }
+        ensures height { result ≡ grids.rows_height self.row self.names rows }
+        ensures most { result < 2 ^ 63 }
+    {
+        rows_height(self.row, self.names, u64::from(rows))
+    }
+
     /// The middle of the row of a place.
-    #[tactic(auto, using(crate::proofs::GridLemmas::row_step))]
     pub fn y(self, window: Window, place: u32) -> u64
         requires window { window.from ≤ window.to }
         requires top { self.top < 2 ^ 40 }
         requires row { self.row ≤ 18 }
+        requires names { self.names < 2 ^ 35 }
         ensures { result ≡ grids.y_of self window place }
     {
-        let step = self.row * u64::from(window.row(place));
-        self.top + step
+        self.top + self.down(window.row(place))
     }
 
     /// Where a place stands in the strip.

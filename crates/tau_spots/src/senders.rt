@@ -54,8 +54,8 @@ fn stands_right(layout: &Layout, who: u32, other: u32) -> bool
     least <= rank
 }
 
-/// Whether the line of a message to a transactor comes from the right.
-pub(crate) fn comes_from_right(trace: &Trace, layout: &Layout, message: u32, who: u32) -> bool
+/// Whether the line of a message to a transactor comes from the right (docs/formats.md, "Pictures").
+pub fn comes_from_right(trace: &Trace, layout: &Layout, message: u32, who: u32) -> bool
     requires plan { IsPlan trace.now.run layout.now.window layout.now }
     requires well_formed { WellFormed trace.now.run }
     ensures { IsTrue result ↔ ComesFromRight trace.now.run layout.now message who }

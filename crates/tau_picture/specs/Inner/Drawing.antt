@@ -13,6 +13,7 @@ use Rattle.tau_marks.specs.Rows.{AreRows}
 use Rattle.tau_bands.specs.StripLines.{AreStripLines}
 use Rattle.tau_lanes.specs.Bands.{AreNodeBands}
 use Rattle.tau_lanes.specs.LaneLines.{AreLaneLines}
+use Rattle.tau_lanes.specs.NameLines.{AreNameLines}
 use Rattle.tau_bands.specs.StateLines.{AreStateLines}
 use Rattle.tau_bands.specs.EndLines.{AreEndLines}
 use Rattle.tau_picture.specs.declared.asking.Asked.{Asked}
@@ -24,7 +25,7 @@ use Rattle.tau_picture.specs.Pictures.{begin_lines, key_lines, said_lines, AreCa
 abbrev pub top_lines : Run → Plan → List Marked → Asked → List Line
 top_lines T plan cut a = begin_lines T plan ++ (heading_lines T plan.window cut ++ said_lines T (place_asked a) (cause_asked a))
 
--- the lines from the strip to the marks
+-- the lines from the strip to the names of lanes between the rows
 pub record AreMiddle (P : Program) (T : Run) (plan : Plan) (looks : Looks) (lines : List Line) : Type 0 where
   pub strip : List Line
   pub strip_is : AreStripLines T plan looks strip
@@ -40,9 +41,11 @@ pub record AreMiddle (P : Program) (T : Run) (plan : Plan) (looks : Looks) (line
   pub messages_are : AreMessageLines P T plan messages
   pub marks : List Line
   pub marks_are : AreMarks T plan looks.steps.items marks
-  pub is : lines ≡ strip ++ (nodes ++ (lanes ++ (guides ++ (states ++ (messages ++ marks)))))
+  pub names : List Line
+  pub names_are : AreNameLines T plan names
+  pub is : lines ≡ strip ++ (nodes ++ (lanes ++ (guides ++ (states ++ (messages ++ (marks ++ names))))))
 
--- the lines behind the marks
+-- the lines behind these
 pub record AreRest (T : Run) (plan : Plan) (looks : Looks) (a : Asked) (lines : List Line) : Type 0 where
   pub chain : List Line
   pub chain_is : AreCauseLines T plan looks (place_asked a) (cause_asked a) chain

@@ -1,14 +1,19 @@
-use Rattle.std.proofs.Common.{ap, ◌∙◌, arith}
-use Rattle.std.specs.List.{flat_map}
+use Rattle.std.proofs.Common.{ap, arith, subst, List}
 use Rattle.std.proofs.lemmas.List.{take_all}
-use Rattle.tau_markup.specs.Lines.{with_lines}
-use Rattle.tau_bands.specs.StateLines.{state_lines}
-use Rattle.tau_bands.proofs.Lists.{lines_more, any_seen}
+use Rattle.tau_shapes.specs.Each.{EachItem, Writes}
+use Rattle.tau_shapes.proofs.Writing.{items_first}
+use Rattle.tau_looks.specs.declared.looks.Seen.{Seen}
+use Rattle.tau_bands.specs.StateLines.{IsStateAt}
+use Rattle.tau_bands.proofs.Lists.{item_next, any_seen}
 use Rattle.tau_bands.proofs.states.put_all.Goals as goal
+
+pub loop-seen-init : goal.loop-seen-init
+loop-seen-init c = items_first (IsStateAt c.args.trace.now.run c.args.layout.now c.args.x) c.args.out.now.items
 
 pub loop-seen-preserved : goal.loop-seen-preserved
 loop-seen-preserved c =
-    lines_more (state_lines c.args.layout.now c.args.names.now c.args.x) c.args.all.now c.loop-seen.seen-index any_seen c.args.out.now.items c.loop-seen.out.items c.put_state.new.out.items (omega (arith, c.loop-seen-test.true)) c.loop-seen.invariant c.in_ok-put_state.ensures
+    item_next (IsStateAt c.args.trace.now.run c.args.layout.now c.args.x) c.args.all.now c.loop-seen.seen-index any_seen c.args.out.now.items c.loop-seen.out.items c.put_state.new.out.items (omega (arith, c.loop-seen-test.true)) c.loop-seen.invariant c.in_ok-put_state.ensures
 
 pub returns : goal.returns
-returns c = c.loop-seen.invariant ∙ ap (λ xs. with_lines c.args.out.now.items (flat_map (state_lines c.args.layout.now c.args.names.now c.args.x) xs)) (take_all c.loop-seen.seen-index c.args.all.now c.loop-seen-test.false)
+returns c =
+    subst (λ (xs : List Seen). Writes (EachItem (IsStateAt c.args.trace.now.run c.args.layout.now c.args.x) xs) c.args.out.now.items c.loop-seen.out.items) (take_all c.loop-seen.seen-index c.args.all.now c.loop-seen-test.false) c.loop-seen.invariant

@@ -1,8 +1,7 @@
-use Rattle.std.proofs.Common.{◌≡◌, take}
-use Rattle.std.specs.List.{flat_map}
-use Rattle.tau_markup.specs.Lines.{with_lines}
-use Rattle.tau_bands.specs.StateLines.{state_lines}
+use Rattle.std.proofs.Common.{take}
+use Rattle.tau_shapes.specs.Each.{EachItem, Writes}
+use Rattle.tau_bands.specs.StateLines.{IsStateAt}
 use Rattle.tau_bands.proofs.states.put_all.Given as goal
 
 abbrev pub invariant-loop-seen : goal.invariant-loop-seen
-invariant-loop-seen l = l.out.items ≡ with_lines l.fn.out.items (flat_map (state_lines l.layout l.names l.x) (take l.seen-index l.all))
+invariant-loop-seen l = Writes (EachItem (IsStateAt l.trace.run l.layout l.x) (take l.seen-index l.all)) l.fn.out.items l.out.items

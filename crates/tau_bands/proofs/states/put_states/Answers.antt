@@ -1,12 +1,10 @@
-use Rattle.std.proofs.Common.{◌∙◌, get_or, ap, arith}
-use Rattle.std.specs.List.{flat_map}
-use Rattle.tau_markup.specs.Lines.{with_lines}
-use Rattle.tau_trace.specs.declared.opening.Opening.{Opening}
+use Rattle.std.proofs.Common.{List, get_or, arith, subst}
+use Rattle.tau_shapes.specs.Each.{EachItem, Writes}
+use Rattle.tau_looks.specs.declared.looks.Seen.{Seen}
 use Rattle.tau_shapes.proofs.Writing.{places_first}
 use Rattle.tau_layout.specs.declared.columns.Column.{Column}
 use Rattle.tau_lanes.proofs.ColumnLanes.{left, right}
-use Rattle.tau_bands.specs.Names.{seen_at}
-use Rattle.tau_bands.specs.StateLines.{state_lines, AreStatesAt}
+use Rattle.tau_bands.specs.StateLines.{IsStateAt, AreStatesAt}
 use Rattle.tau_bands.proofs.StateLemmas.{states_next}
 use Rattle.tau_bands.proofs.states.put_states.Goals as goal
 
@@ -31,5 +29,4 @@ loop-rank-preserved c =
     let out = c.loop-rank.out.items in
     states_next c.args.trace.now.run plan c.args.looks.now columns k d c.args.out.now.items out c.put_all.new.out.items
     c.columns-columns.ensures.lanes c.columns-columns.ensures.columns (omega (arith, c.loop-rank-test.true)) c.loop-rank.invariant
-    (c.in_ok-put_all.ensures ∙ ap (λ xs. with_lines out (flat_map (state_lines plan c.opening.result.now.names x) xs)) c.seen_at.ensures
-    ∙ ap (λ (o : Opening). with_lines out (flat_map (state_lines plan o.names x) (seen_at c.args.looks.now k))) c.opening.ensures.value)
+    (subst (λ (xs : List Seen). Writes (EachItem (IsStateAt c.args.trace.now.run plan x) xs) out c.put_all.new.out.items) c.seen_at.ensures c.in_ok-put_all.ensures)

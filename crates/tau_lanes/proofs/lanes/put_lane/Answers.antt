@@ -5,7 +5,7 @@ use Rattle.tau_trace.specs.Run.{Run}
 use Rattle.tau_trace.specs.declared.opening.Opening.{Opening}
 use Rattle.tau_layout.specs.Inner.Laying.{lane_of}
 use Rattle.tau_markup.specs.Lines.{with_line}
-use Rattle.tau_lanes.specs.LaneLines.{name_line, axis_line, axis_top}
+use Rattle.tau_lanes.specs.LaneLines.{top_name, axis_line, axis_top}
 use Rattle.tau_lanes.proofs.LaneLemmas.{lane_told}
 use Rattle.tau_lanes.proofs.lanes.put_lane.Goals as goal
 
@@ -18,7 +18,7 @@ returns c =
     (subst (λ (U : Run). IsBirth U column.who c.birth_of.result) c.requires.index c.birth_of.ensures)
     c.end_of.ensures
     (c.in_ok-name.ensures ∙ ap (λ (o : Opening). name_written o.names column.who) c.opening.ensures.value)
-    (c.in_ok-put_name.ensures ∙ ap (λ s. with_line c.args.out.now.items (name_line c.grid.result column.x s)) c.deref.ensures.value ∙ ap (λ g. with_line c.args.out.now.items (name_line g column.x c.in_ok-name.name.items)) c.grid.ensures.grid)
+    (c.in_ok-put_name.ensures ∙ ap (λ s. with_line c.args.out.now.items (top_name c.grid-grid.result column.x s)) c.deref.ensures.value ∙ ap (λ g. with_line c.args.out.now.items (top_name g column.x c.in_ok-name.name.items)) c.grid-grid.ensures.grid)
     (c.in_ok-put_axis.ensures ∙ ap (λ s. with_line named (axis_line column.x c.axis_top-top.result c.axis_foot-foot.result s column.node)) c.deref-2.ensures.value
     ∙ ap (λ a. with_line named (axis_line column.x a c.axis_foot-foot.result c.in_ok-name.name.items column.node)) c.axis_top-top.ensures
     ∙ ap (λ b. with_line named (axis_line column.x (axis_top c.args.layout.now c.birth_of.result) b c.in_ok-name.name.items column.node)) c.axis_foot-foot.ensures)

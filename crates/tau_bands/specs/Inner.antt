@@ -1,0 +1,2 @@
+-- What contracts of inner functions say; no clause of a public call rests on these.
+pub mod Meetings
