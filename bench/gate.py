@@ -2,6 +2,7 @@
 """Tells where the processor time of the gate goes: in each crate its proof, its tests and its edits.
 
     bench/gate.py [COMMAND WORD..]    runs the command, or without one the whole gate from nothing, and looks at the provers that it starts
+    bench/gate.py --yardstick         takes the yardstick alone, three times
 
 The gate from nothing is `rt ci`, and `rt ci --anew` where the kit keeps what has passed. The command is run at the top of the
 repository; `rt must-fail NAME` is another that shows what a change costs.
@@ -9,12 +10,20 @@ At its end the table of docs/gate.md is printed: minutes of processor time, the 
 that one prover took, in MB. The proof of a program has its builds by both compilers in it. Edits have the check in it over which
 they are tried. What a prover does in its last half second isn't seen, nor is what isn't a prover, so the sum is less than
 the user and system time of the whole, which is told below it. The status is the command's.
+
+A minute of a processor isn't the same on two machines, nor on one at two hours. So the whole gate is told in yardsticks too: one
+yardstick is the processor time that the proof of three crates at the bottom takes from nothing, alone and by one job. It is taken once
+before the gate and twice behind it, and the median counts. `rt selftest` would be none: what it proves is a few lines, so most of its
+time is that of reading the kit and of two compilers.
 """
 
 import os
 import re
+import shutil
+import statistics
 import subprocess
 import sys
+import tempfile
 import time
 from collections import defaultdict
 from dataclasses import dataclass, field
@@ -23,6 +32,8 @@ ROOT = os.path.dirname(os.path.dirname(os.path.abspath(__file__)))
 TICKS = os.sysconf("SC_CLK_TCK")
 PAGE = os.sysconf("SC_PAGE_SIZE")
 PAUSE = 0.5
+# The crates of the yardstick stand on no others of the repository.
+YARDSTICK = ("tau_lists", "tau_history", "tau_sexpr")
 # Where `rt` checks an edited copy of a crate, and over what: a check of the crate as it stands, or a copy of that for each edit.
 EDITED = re.compile(r"/rt-edit-[^/]*$")
 OVER = re.compile(r"/rt-edits-[^/]*/(seed|\d+)$")
@@ -129,6 +140,36 @@ def table(provers):
     return [*lines, row("all", whole, sum(len(cost.edits) for _, cost in costs), most)]
 
 
+def yardstick():
+    """Minutes of user and system time for the proof of the yardstick's crates in a copy, one after another by one job each."""
+    with open(f"{ROOT}/crates.txt", encoding="utf-8") as file:
+        lines = [line for line in file if line.partition(":")[0] in YARDSTICK]
+    seconds = 0
+    with tempfile.TemporaryDirectory() as room:
+        shutil.copy(f"{ROOT}/HANDLES", room)
+        with open(f"{room}/crates.txt", "w", encoding="utf-8") as file:
+            file.writelines(lines)
+        for name in YARDSTICK:
+            shutil.copytree(f"{ROOT}/crates/{name}", f"{room}/crates/{name}", ignore=shutil.ignore_patterns("out", "must-fail"))
+        for name in YARDSTICK:
+            # A verdict takes nothing from what was kept.
+            words = ["rt", "verdict", "--jobs", "1"]
+            run = subprocess.Popen(words, cwd=f"{room}/crates/{name}", stdout=subprocess.DEVNULL, stderr=subprocess.DEVNULL)
+            _, status, usage = os.wait4(run.pid, 0)
+            run.returncode = os.waitstatus_to_exitcode(status)
+            if run.returncode:
+                sys.exit(f"bench/gate.py: {name} isn't proved, so there is no yardstick")
+            seconds += usage.ru_utime + usage.ru_stime
+    return seconds / 60
+
+
+def told(yardsticks, minutes=None):
+    """The line on the yardstick, and on how many of them the whole took."""
+    median = statistics.median(yardsticks)
+    whole = f"; the whole took {minutes / median:.0f} yardsticks" if minutes else ""
+    return f"yardstick: {', '.join(f'{each:.2f}' for each in yardsticks)} minutes, median {median:.2f}{whole}"
+
+
 def whole_gate():
     """The command that proves everything from nothing: with `--anew` where the kit's help has that word."""
     said = subprocess.run(["rt", "help"], stdout=subprocess.PIPE, stderr=subprocess.STDOUT, text=True, check=False).stdout
@@ -136,7 +177,11 @@ def whole_gate():
 
 
 def main():
+    if sys.argv[1:] == ["--yardstick"]:
+        print(told([yardstick() for _ in range(3)]))
+        return 0
     words = sys.argv[1:] or whole_gate()
+    yardsticks = [] if sys.argv[1:] else [yardstick()]
     provers = {}
     begun = time.monotonic()
     run = subprocess.Popen(words, cwd=ROOT)
@@ -152,7 +197,11 @@ def main():
     run.returncode = os.waitstatus_to_exitcode(status)
     print(*table(provers.values()), sep="\n")
     spent = usage.ru_utime + usage.ru_stime
-    print(f"\n{' '.join(words)}: {spent / 60:.1f} minutes of user and system time, {(time.monotonic() - begun) / 60:.1f} by the clock")
+    clock = time.monotonic() - begun
+    print(f"\n{' '.join(words)}: {spent / 60:.1f} minutes of user and system time, {clock / 60:.1f} by the clock", flush=True)
+    if yardsticks:
+        yardsticks += [yardstick(), yardstick()]
+        print(told(yardsticks, spent / 60))
     return run.returncode
 
 
