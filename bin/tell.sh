@@ -1,20 +1,31 @@
 # shellcheck shell=sh disable=SC2034,SC2154
 # What `bin/tau` tells behind the program's own line where the status isn't 0: a part of bin/tau. All of it goes to standard error.
 
-# The first lines that the program wrote, of which one names the fault or the place. They are asked for once more where the program is built:
-# the first time its ends were the caller's alone. An input of `keep` has the faults of `run`, which opens no file.
-said() {
-    [ "$command" != keep ] || set -- run --workers 1 --steps 0
+# The first line of the program's output. It is asked for once more where the program is built: the first time its output was the caller's alone.
+first_output() {
     if [ -n "$room" ]; then
-        cat "$room/line" "$room/output"
+        head -n 1 "$room/output"
     else
-        "$program" "$@" <"$input" 2>&1
-    fi | head -n 2
+        "$program" "$@" <"$input" 2>/dev/null | head -n 1
+    fi
 }
 
 # Line, column and text of a place in the input: KIND is `step` or the number of a fault, AT the place that was told.
 where() {
-    LC_ALL=C tr '\000' '\001' <"$input" | LC_ALL=C awk -v kind="$1" -v at="$2" -v command="$command" -v what="${3-}" -f "$root/share/where.awk"
+    LC_ALL=C tr '\000' '\001' <"$input" | LC_ALL=C awk -v kind="$1" -v at="$2" -v command="$command" -v what="${3-}" -v docs="$root/docs" \
+        -f "$root/share/scan.awk" -f "$root/share/tables.awk" -f "$root/share/shapes.awk" -f "$root/share/where.awk"
+}
+
+# The cells of a fault's row in the manual, with ` | ` between them: WHICH is `an input` or `a journal`.
+fault_row() {
+    awk -v which="The faults of $1," -v number="$2" '
+        /^The faults of / { inside = substr($0, 1, length(which)) == which }
+        inside && split($0, cells, / *\| */) > 2 && cells[2] == number {
+            gsub(/`/, "")
+            split($0, cells, / *\| */)
+            print cells[3] "|" cells[4] "|" cells[5] "|" cells[6]
+            exit
+        }' "$root/docs/manual.md"
 }
 
 tell_words() {
@@ -26,56 +37,69 @@ tell_words() {
     fi
 }
 
-# What a step is that is asked for in vain.
-told_in_vain() {
-    case $command in
-    draw) echo ", which is no hold, drop or fall, and no checkpoint that can't be kept" ;;
-    *) echo ", which is no hold, drop or fall" ;;
-    esac
+# Where the input is no file: what the number of its fault means.
+tell_number() {
+    row=$(fault_row "an input" "$1")
+    if [ "$1 $2" = "11 0" ]; then
+        say "the input has no form at all: $command reads a run text, and what was to write one has failed, or the input is empty"
+    else
+        [ -z "$row" ] || say "fault $1, ${row%%|*}, at $2 ($(echo "$row" | cut -d '|' -f 2))"
+        [ "$1 $2" != "6 0" ] || say "or the input is empty"
+        say "with the input in a file (< FILE) the line and column are told too"
+    fi
 }
 
-tell_place() {
+tell_fault() {
+    fault=${line#tau: input fault }
+    if [ -n "$input" ]; then
+        where "${fault% at *}" "${fault#* at }"
+    else
+        tell_number "${fault% at *}" "${fault#* at }"
+    fi
+}
+
+# What a step is that is asked for in vain, and which could be asked for.
+tell_vain() {
+    what=", which is no hold, drop or fall"
+    [ "$command" != draw ] || what="$what, and no checkpoint that can't be kept"
+    [ -z "$input" ] || where step "${line#tau: no such decision at }" "$what"
+    say "\`bin/tau decisions\` lists holds, drops, falls and traps with their places"
+}
+
+tell_step() {
     if [ -z "$input" ]; then
-        [ "$status" -eq 11 ] || say "with the input in a file (< FILE) the line and column are told too"
+        say "with the input in a file (< FILE) the line and column are told too"
         return
     fi
-    lines=$(said "$@")
-    for line in "${lines%%"$newline"*}" "${lines#*"$newline"}"; do
-        case $status:$line in
-        "3:tau: input fault "*)
-            line=${line#tau: input fault }
-            where "${line% at *}" "${line#* at }"
-            return
-            ;;
-        "4:bad step "*) where step "${line#bad step }" ", the first that isn't legal" ;;
-        "8:broken "*)
-            line=${line#broken }
-            where step "${line%% *}" ", the checkpoint that isn't safe"
-            where step "${line##* }" ", the fall of what it depends on"
-            ;;
-        "11:tau: no such decision at "*)
-            where step "${line#tau: no such decision at }" "$(told_in_vain)"
-            return
-            ;;
-        esac
-    done
+    answer=$(first_output "$@")
+    case $status:$answer in
+    "4:bad step "*) where step "${answer#bad step }" ", the first that isn't legal" ;;
+    "8:broken "*)
+        answer=${answer#broken }
+        where step "${answer%% *}" ", the checkpoint that isn't safe"
+        where step "${answer##* }" ", the fall of what it depends on"
+        ;;
+    esac
 }
 
-# What the statuses of a journal mean most often. The program isn't asked again, since it might then write.
+# What the manual says of a fault of the journal.
 tell_journal() {
-    case $command:$status in
-    keep:9) say "with fault 7 a run is kept here already; \`bin/tau resume\` goes on with it, and \`bin/tau help keep\` tells more" ;;
-    resume:9) say "with fault 1 no run is kept here; \`bin/tau help resume\` tells of the other faults" ;;
-    *) say "tau.journal can't be opened, written or synced here, or another process has it open; \`bin/tau help $command\` tells more" ;;
-    esac
+    fault=${line#tau: journal fault }
+    row=$(fault_row "a journal" "${fault%% *}")
+    [ -z "$row" ] || say "fault ${fault%% *}: $(echo "$row" | cut -d '|' -f 2); $(echo "$row" | cut -d '|' -f 4)"
+}
+
+tell_disk() {
+    say "tau.journal can't be opened, written or synced here, or another process has it open; \`bin/tau help $command\` tells more"
 }
 
 tell() {
-    newline='
-'
     case $status in
     2) tell_words ;;
-    3 | 4 | 8 | 11) tell_place "$@" ;;
-    9 | 10) tell_journal ;;
+    3) tell_fault ;;
+    4 | 8) tell_step "$@" ;;
+    9) tell_journal ;;
+    10) tell_disk ;;
+    11) tell_vain ;;
     esac
 }

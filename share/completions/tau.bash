@@ -3,17 +3,17 @@
 
 _tau() {
     local word=${COMP_WORDS[COMP_CWORD]} before=${COMP_WORDS[COMP_CWORD-1]} commands="run check audit report print gen drill migrate keep resume why cut draw" options="" command="" number="" at
-    local needing=" gen drill why " reading=" run check audit report print migrate keep why cut draw "
+    local needing=" gen drill why " reading=" run check audit report print migrate keep why cut draw decisions "
     COMPREPLY=()
     if [[ $COMP_CWORD -eq 1 ]]; then
-        mapfile -t COMPREPLY < <(compgen -W "$commands help version prove" -- "$word")
+        mapfile -t COMPREPLY < <(compgen -W "$commands help version decisions prove" -- "$word")
         return
     fi
     for ((at = 1; at < COMP_CWORD; at++)); do
         case ${COMP_WORDS[at]} in
         -* | =) ;;
         *)
-            if [[ ${COMP_WORDS[at-1]} == --* && ${COMP_WORDS[at-1]} != -- || ${COMP_WORDS[at-1]} == = ]]; then continue
+            if [[ ${COMP_WORDS[at-1]} == --* && ${COMP_WORDS[at-1]} != -- && ${COMP_WORDS[at-1]} != --over || ${COMP_WORDS[at-1]} == = ]]; then continue
             elif [[ -z $command ]]; then command=${COMP_WORDS[at]}
             else number=${COMP_WORDS[at]}
             fi
@@ -22,7 +22,7 @@ _tau() {
     done
     case $command in
     run) options="--workers --jobs --seed --steps" ;;
-    keep) options="--workers --jobs --seed --steps" ;;
+    keep) options="--workers --jobs --seed --steps --over" ;;
     resume) options="--workers --jobs --seed --steps" ;;
     draw) options="--from --to" ;;
     help)
@@ -30,7 +30,7 @@ _tau() {
         return
         ;;
     esac
-    if [[ $before == --* && $before != -- || $before == = || $word == = ]]; then return; fi
+    if [[ $before == --* && $before != -- && $before != --over || $before == = || $word == = ]]; then return; fi
     if [[ $word == -* ]]; then
         mapfile -t COMPREPLY < <(compgen -W "$options" -- "$word")
         return

@@ -13,7 +13,7 @@ complete -c tau -n "__fish_is_first_arg" -a resume -d "goes on with the run in t
 complete -c tau -n "__fish_is_first_arg" -a why -d "tells why a step holds, drops or falls"
 complete -c tau -n "__fish_is_first_arg" -a cut -d "tells which checkpoints could all be kept"
 complete -c tau -n "__fish_is_first_arg" -a draw -d "draws a picture of the run"
-complete -c tau -n "__fish_is_first_arg" -a "help version prove"
+complete -c tau -n "__fish_is_first_arg" -a "help version decisions prove"
 complete -c tau -n "__fish_seen_subcommand_from help; and test (count (commandline -opc)) -eq 2" -a "run check audit report print gen drill migrate keep resume why cut draw"
 complete -c tau -n "__fish_seen_subcommand_from run; and not __fish_seen_subcommand_from help" -l workers -x -d "how many workers run the program (1 to 32)"
 complete -c tau -n "__fish_seen_subcommand_from run; and not __fish_seen_subcommand_from help" -l jobs -x -d "how many turns a worker has open at a time (1 to 16)"
@@ -29,6 +29,7 @@ complete -c tau -n "__fish_seen_subcommand_from keep; and not __fish_seen_subcom
 complete -c tau -n "__fish_seen_subcommand_from keep; and not __fish_seen_subcommand_from help" -l jobs -x -d "how many turns a worker has open at a time (1 to 16)"
 complete -c tau -n "__fish_seen_subcommand_from keep; and not __fish_seen_subcommand_from help" -l seed -x -d "the seed of the choices (0 to 18,446,744,073,709,551,615)"
 complete -c tau -n "__fish_seen_subcommand_from keep; and not __fish_seen_subcommand_from help" -l steps -x -d "the most steps that the run does (0 to 200,000)"
+complete -c tau -n "__fish_seen_subcommand_from keep; and not __fish_seen_subcommand_from help" -l over -d "writes over a tau.journal that is no journal"
 complete -c tau -n "__fish_seen_subcommand_from keep; and not __fish_seen_subcommand_from help" -F
 complete -c tau -n "__fish_seen_subcommand_from resume; and not __fish_seen_subcommand_from help" -l workers -x -d "how many workers run the program (1 to 32)"
 complete -c tau -n "__fish_seen_subcommand_from resume; and not __fish_seen_subcommand_from help" -l jobs -x -d "how many turns a worker has open at a time (1 to 16)"
@@ -39,3 +40,4 @@ complete -c tau -n "__fish_seen_subcommand_from cut; and not __fish_seen_subcomm
 complete -c tau -n "__fish_seen_subcommand_from draw; and not __fish_seen_subcommand_from help" -l from -x -d "the first place that is drawn (0 to 4,294,967,295)"
 complete -c tau -n "__fish_seen_subcommand_from draw; and not __fish_seen_subcommand_from help" -l to -x -d "the place at which drawing ends; it isn't drawn itself (0 to 4,294,967,295)"
 complete -c tau -n "__fish_seen_subcommand_from draw; and not __fish_seen_subcommand_from help" -F
+complete -c tau -n "__fish_seen_subcommand_from decisions; and not __fish_seen_subcommand_from help" -F
