@@ -7,6 +7,7 @@ use Rattle.tau_trace.specs.Run.{Run, len}
 use Rattle.tau_script.specs.declared.cursor.Cursor.{Cursor}
 use Rattle.tau_script.specs.Laws.{ScriptsAreDetermined}
 use Rattle.tau_book.specs.Laws.{SerialRunIsUnique}
+pub use Rattle.tau_book.proofs.OneRun.{one_serial_run}
 use Rattle.tau_faults.specs.declared.setting.FaultCounts.{FaultCounts}
 use Rattle.tau_faults.specs.declared.setting.Setting.{Setting}
 use Rattle.tau_faults.specs.Faults.{IsFaulted, AreFaultsAt, ComesFirst, with_entry, fewer}

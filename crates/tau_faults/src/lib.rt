@@ -14,5 +14,6 @@ pub use laws::{
     programs_tell_their_faults,
 };
 pub use setting::{FaultCounts, Setting};
+pub use tau_book::Ran;
 pub use visits::Visit;
 pub use walk::visit_ends;

@@ -5,8 +5,7 @@ ghost use Rattle.tau_legal.specs.Traces.{Legal};
 
 use crate::Scripted;
 use std::alloc::{AllocError, Global};
-use tau_check::follow;
-use tau_clean::MarkedHearing;
+use tau_check::{MarkedHearing, follow};
 use tau_trace::Trace;
 use tau_tree::Program;
 

@@ -5,11 +5,10 @@ use Rattle.std.proofs.lemmas.List.Elements.{Contains-append_left, Contains-appen
 use Rattle.tau_points.proofs.Membership.{Contains-head, Contains-later}
 use Rattle.tau_tree.specs.declared.programs.Program.{Program}
 use Rattle.tau_trace.proofs.Lists.{same_some}
-use Rattle.tau_book.proofs.OneRun.{one_serial_run}
 use Rattle.tau_script.proofs.Existing.{determined}
 use Rattle.tau_faults.specs.declared.setting.Setting.{Setting}
 use Rattle.tau_faults.specs.Ends.{End}
-use Rattle.tau_faults.proofs.Once.{from_once}
+use Rattle.tau_faults.proofs.Once.{from_once, one_serial_run}
 use Rattle.tau_storm.specs.declared.totals.Totals.{Totals}
 use Rattle.tau_storm.specs.Seeds.{seed_from, AreEndsOfSeeds, none, more}
 use Rattle.tau_storm.specs.Outcomes.{IsSimplest, AreTotals, IsCompleteEnd}

@@ -7,8 +7,8 @@ ghost use Rattle.tau_storm.specs.Outcomes.{open_form, EndsWithLines};
 
 use crate::outcomes::Lines;
 use std::alloc::{AllocError, Global};
-use tau_book::Ran;
 use tau_cut::{kept_states, put_states};
+use tau_faults::Ran;
 use tau_report::put_saved;
 use tau_tree::Program;
 

@@ -13,8 +13,7 @@ use crate::totals::Totals;
 use indexmap::IndexMap;
 use std::alloc::{AllocError, Global};
 use std::marker::Model;
-use tau_book::Ran;
-use tau_faults::Visit;
+use tau_faults::{Ran, Visit};
 use tau_tree::Program;
 
 /// The outcomes of the ends that it was shown, each found by its lines, and their totals (docs/definitions.md, "Storm").

@@ -5,8 +5,7 @@ ghost use Rattle.tau_storm.specs.Inner.Claiming.{IsTrial};
 use crate::Table;
 use crate::claims::holds;
 use std::alloc::{AllocError, Global};
-use tau_book::Ran;
-use tau_faults::Visit;
+use tau_faults::{Ran, Visit};
 use tau_tree::Program;
 
 /// A behaviour that is tried as a claim at each end that is shown: the table of all of them, and that of those at which it is broken.
