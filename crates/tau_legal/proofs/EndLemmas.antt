@@ -179,4 +179,4 @@ module _ (P : Program) (T : Run) (sound : Sound P) (well : WellFormed T) (legal 
   }
 
 pub complete_where_no_step_is_legal : CompleteWhereNoStepIsLegal
-complete_where_no_step_is_legal P T sound well legal = (λ c s known. none_legal P T c s, λ none. complete P T sound well legal none)
+complete_where_no_step_is_legal P T = (none_legal P T, complete P T)

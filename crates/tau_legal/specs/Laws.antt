@@ -1,5 +1,5 @@
 -- Laws of fitting and legal traces, each the contract of a function of the crate.
-use Rattle.std.specs.Prelude.{◌≡◌, ◌↔◌, ℕ, []}
+use Rattle.std.specs.Prelude.{◌≡◌, ℕ, []}
 use Rattle.tau_tree.specs.declared.programs.Program.{Program}
 use Rattle.tau_tree.specs.Sound.{Sound}
 use Rattle.tau_trace.specs.declared.step.Step.{Step}
@@ -38,7 +38,8 @@ LegalTracesGrow = (P : Program) (T : Run) (s : Step) → WellFormed T → WellFo
 abbrev pub EmptyTracesAreComplete : Type 0
 EmptyTracesAreComplete = (P : Program) → P.posts ≡ [] → P.script ≡ [] → Complete P (record { opening = program_opening P; steps = [] })
 
--- a legal trace of a sound program is complete exactly where no step is legal after it
+-- after a complete trace no step is legal, and a legal trace of a sound program is complete where none is legal after it of those that name
+-- only what exists
 abbrev pub CompleteWhereNoStepIsLegal : Type 0
-CompleteWhereNoStepIsLegal = (P : Program) (T : Run) → Sound P → WellFormed T → Legal P T
-    → Complete P T ↔ ((s : Step) → IsKnownAt T (len T) s → ¬ IsLegal P T (len T) s)
+CompleteWhereNoStepIsLegal = (P : Program) (T : Run) → (Complete P T → (s : Step) → ¬ IsLegal P T (len T) s)
+    × (Sound P → WellFormed T → Legal P T → ((s : Step) → IsKnownAt T (len T) s → ¬ IsLegal P T (len T) s) → Complete P T)

@@ -43,8 +43,8 @@ pub fn empty_traces_are_complete()
     ensures { EmptyTracesAreComplete }
 {}
 
-/// A legal trace of a sound program is complete exactly where no step is legal after it, of those that name only what exists
-/// (docs/definitions.md, "Complete").
+/// After a complete trace no step is legal. A legal trace of a sound program is complete where no step is legal after it of those
+/// that name only what exists (docs/definitions.md, "Complete").
 pub fn complete_where_no_step_is_legal()
     ensures { CompleteWhereNoStepIsLegal }
 {}

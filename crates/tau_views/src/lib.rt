@@ -14,8 +14,8 @@ mod reading;
 mod views;
 
 pub use laws::{
-    decisions_agree, falls_and_drops_agree, freedom_agrees, named_points_are_known,
-    posts_have_heard_nothing, starts_open_alone, views_are_comparable, views_are_local,
-    views_are_settled, views_have_the_own_history, views_step_by_step,
+    copies_have_their_view, decisions_agree, falls_and_drops_agree, freedom_agrees,
+    named_points_are_known, posts_have_heard_nothing, starts_open_alone, views_are_comparable,
+    views_are_local, views_are_settled, views_have_the_own_history, views_step_by_step,
 };
 pub use views::{ViewChange, Views};
