@@ -1,9 +1,7 @@
 -- What a seat knows of jobs, while it sees more.
-use Rattle.std.proofs.Common.{◌≡◌, ◌≢◌, ◌⊎◌, inl, inr, ℕ, Bool, true, false, List, [], ◌∷◌, ◌++◌, length, Option, All, append-nil, append_assoc, arith, refl, sym, ap, ◌∙◌, subst}
-use Rattle.std.specs.Prelude.{IsTrue, slice_index, Result, Ok, Err, IfOk, OnErr}
+use Rattle.std.proofs.Common.{◌≡◌, ℕ, List, [], ◌++◌, All, sym, ap, subst}
+use Rattle.std.specs.Prelude.{IsTrue, Result, Ok, Err, IfOk, OnErr}
 use Rattle.std.proofs.lemmas.List.Elements.{All-same, All-weaker}
-use Rattle.atomic_table.specs.Table.{Me}
-use Rattle.atomic_table.specs.Seated.{TableId}
 use Rattle.tau_tree.specs.declared.programs.Program.{Program}
 use Rattle.tau_trace.specs.declared.step.Step.{Step}
 use Rattle.tau_eval.specs.Turn.{TurnSoFar}
@@ -14,21 +12,18 @@ use Rattle.tau_book.specs.declared.answers.Next.{Next}
 use Rattle.tau_book.specs.declared.answers.Next.TheVariants as nexts
 use Rattle.tau_book.specs.declared.answers.Told.{Told}
 use Rattle.tau_book.specs.Hands.{Held}
-use Rattle.tau_book.specs.Books.{Booked, IsBook}
+use Rattle.tau_book.specs.Books.{Booked}
 use Rattle.tau_book.specs.Nexts.{IsNext}
 use Rattle.tau_book.specs.Tolds.{IsTold}
 use Rattle.tau_book.specs.Places.{IsVouched}
 use Rattle.tau_book.specs.Knowing.{IsKnown, NextHandsOnKnown, ActHandsOnKnown}
 use Rattle.tau_seat.specs.Lists.{bare, Begins}
-use Rattle.tau_seat.specs.declared.view.SeatView.{SeatView}
-use Rattle.tau_seat.specs.Plays.{grown, resting, Takes}
-use Rattle.tau_seat.specs.Keys.{Key, key_of, steps_of, run_of, IsSound}
-use Rattle.tau_seat.specs.Seated.{Seated, seated, IsSeat, Stays, IsBookAt, IsTurn}
-use Rattle.tau_seat.specs.Knowing.{IsSeenOpen, HadReturned}
+use Rattle.tau_seat.specs.Keys.{run_of}
+use Rattle.tau_seat.specs.Seated.{Seated, IsBookAt, IsTurn}
+use Rattle.tau_seat.specs.Knowing.{IsSeenOpen}
 use Rattle.tau_seat.specs.SeatPlaces.{Placed, Vouches}
 use Rattle.tau_seat.proofs.Sums.{bare_append}
-use Rattle.tau_seat.proofs.SeatTurns.{core_at, book_taken}
-use Rattle.tau_seat.proofs.Places.{begins_longer}
+use Rattle.tau_seat.proofs.SeatTurns.{core_at}
 
 seen_further : (P : Program) (xs ys : List (Step × ℕ)) (job : TurnSoFar) → WasOpenJob P (run_of P (bare xs)) job → WasOpenJob P (run_of P (bare (xs ++ ys))) job
 seen_further P xs ys job was = subst (λ (ss : List Step). WasOpenJob P (run_of P ss) job) (sym (bare_append xs ys)) (known_longer P (run_of P (bare xs)) (bare ys) job was)
@@ -86,58 +81,6 @@ module _ (law : ActHandsOnKnown) (old new : Seated) (h k : Held) (pending : Turn
   pub told_known : {E : Type 0} (r : Result Told E) → Begins old.seen new.seen → IfOk r (λ a. IsTurn old new (λ b c. IsTold b c h k pending a)) → OnErr r (k ≡ h) → All (IsSeenOpen old) h.jobs → All (IsSeenOpen new) k.jobs
   told_known (Ok answer) b ok err all = told_turn answer ok all
   told_known (Err e) b ok err all = All-same (IsSeenOpen new) k.jobs h.jobs (ap (λ (x : Held). x.jobs) err) (all_longer old new p b h.jobs all)
-
--- Whether a seat goes on to know.
-
-none_or : {X : Type 0} (xs : List X) (A R : Type 0) → (xs ≡ [] → A) → (xs ≢ [] → R) → A ⊎ R
-none_or [] A R none some = inl (none refl)
-none_or (x ∷ xs) A R none some = inr (some (λ same. omega (arith, ap length same)))
-
-module _ (id id' : TableId) (k : Key) (m : Me (Option Booked) (SeatView Key Step)) (b c : Booked) (n p : Me (Option Booked) (SeatView Key Step)) where
-  -- what the seat has seen after its turn begins with what it had seen when the book was out
-  turn_begins : (g : Bool) → (t : Takes key_of steps_of IsSound m.0 b n)
-      → (g ≡ true → (e : Step) × (steps_of c ≡ bare n.0.seen ++ e ∷ []) × (p ≡ (resting (grown n.0 e), []))) → (g ≡ false → p ≡ (resting n.0, []))
-      → Begins (m.0.seen ++ t.3.0) p.0.seen
-  turn_begins true t grew stayed =
-      let r = grew refl in
-      let last = (r.0, slice_index n.0.numbers 0) ∷ [] in
-      (last, ap (λ (x : Me (Option Booked) (SeatView Key Step)). x.0.seen) r.2 ∙ ap (λ (l : List (Step × ℕ)). l ++ last) (ap (λ (x : Me (Option Booked) (SeatView Key Step)). x.0.seen) t.2 ∙ t.3.1))
-  turn_begins false t grew stayed =
-      ([], ap (λ (x : Me (Option Booked) (SeatView Key Step)). x.0.seen) (stayed refl) ∙ ap (λ (x : Me (Option Booked) (SeatView Key Step)). x.0.seen) t.2 ∙ t.3.1 ∙ sym (append-nil (m.0.seen ++ t.3.0)))
-
-  -- where a job had come back to the book of the turn, it had to the book of one of the seat's turns; else the seat goes on to know
-  pub knows_on : (g knows knew : Bool) → IsSeat k m → Takes key_of steps_of IsSound m.0 b n → IsBook b
-      → (g ≡ true → (e : Step) × (steps_of c ≡ bare n.0.seen ++ e ∷ []) × (p ≡ (resting (grown n.0 e), []))) → (g ≡ false → p ≡ (resting n.0, []))
-      → (b.store ≡ [] → knows ≡ knew) → (knows ≡ knew) ⊎ HadReturned (seated id k m.0) (seated id' k p.0)
-  knows_on g knows knew s t is_b grew stayed on =
-      none_or b.store (knows ≡ knew) (HadReturned (seated id k m.0) (seated id' k p.0)) on
-      (λ some. record { others = t.3.0; book = b; book_is = book_taken id k m n b s t is_b; seen = turn_begins g t grew stayed; returned = some })
-
--- a job that had come back had come back for who looks longer
-returned_before : (a b c : Seated) → Begins b.seen c.seen → HadReturned a b → HadReturned a c
-returned_before a b c seen h = record { others = h.others; book = h.book; book_is = h.book_is; seen = begins_longer (a.seen ++ h.others) b.seen c.seen h.seen seen; returned = h.returned }
-
-returned_after : (a b c : Seated) → Stays a b → Begins a.seen b.seen → HadReturned b c → HadReturned a c
-returned_after a b c same seen h =
-    let at : b.seen ++ h.others ≡ a.seen ++ (seen.0 ++ h.others) = ap (λ (l : List (Step × ℕ)). l ++ h.others) seen.1 ∙ append_assoc a.seen seen.0 h.others in
-    record {
-      others = seen.0 ++ h.others;
-      book = h.book;
-      book_is =
-          record {
-            is_book = h.book_is.is_book;
-            program_is = h.book_is.program_is ∙ same.program_is;
-            limit_is = h.book_is.limit_is ∙ same.limit_is;
-            run_is = h.book_is.run_is ∙ ap (λ (P : Program). run_of P (bare (b.seen ++ h.others))) same.program_is ∙ ap (λ (l : List (Step × ℕ)). run_of a.program (bare l)) at;
-          };
-      seen = subst (λ (l : List (Step × ℕ)). Begins l c.seen) at h.seen;
-      returned = h.returned;
-    }
-
-pub knows_longer : (a b c : Seated) (x y z : Bool) → Stays a b → Begins a.seen b.seen → Begins b.seen c.seen → (y ≡ x) ⊎ HadReturned a b → (z ≡ y) ⊎ HadReturned b c → (z ≡ x) ⊎ HadReturned a c
-knows_longer a b c x y z same first second (inl e) (inl f) = inl (f ∙ e)
-knows_longer a b c x y z same first second (inl e) (inr h) = inr (returned_after a b c same first h)
-knows_longer a b c x y z same first second (inr h) w = inr (returned_before a b c second h)
 
 -- For which jobs a place vouches.
 

@@ -7,7 +7,7 @@ use Rattle.tau_trace.specs.Run.{Run, Agree, len}
 use Rattle.tau_trace.specs.Turns.{Turn}
 use Rattle.tau_trace.proofs.Agreement.{agree_below, same_at}
 use Rattle.tau_eval.specs.Turn.{TurnSoFar}
-use Rattle.tau_scripted.specs.OpenTurns.{IsOpenFrom}
+use Rattle.tau_book.specs.Working.{IsOpenFrom}
 use Rattle.tau_book.specs.Hands.{Held}
 use Rattle.tau_book.specs.Lefts.{IsLeftOf}
 use Rattle.tau_book.proofs.HandsLeft.{left_longer}

@@ -1,18 +1,15 @@
 -- What contracts see of a seat as a worker's place.
-use Rattle.std.specs.Prelude.{◌≡◌, ◌<◌, ◌≤◌, ℕ, Bool, true, false, IsTrue, List, Option, Some, None, length, map}
+use Rattle.std.specs.Prelude.{◌≡◌, ◌<◌, ◌≤◌, ℕ, Bool, true, false, IsTrue, List, Option, Some, None, length}
 use Rattle.atomic_table.specs.Seated.{TableId}
 use Rattle.tau_tree.specs.declared.programs.Program.{Program}
-use Rattle.tau_trace.specs.declared.step.Step.{Step}
 use Rattle.tau_trace.specs.Run.{len}
 use Rattle.tau_trace.specs.Turns.{Turn}
 use Rattle.tau_legal.specs.Traces.{Complete}
 use Rattle.tau_eval.specs.Turn.{TurnSoFar}
-use Rattle.tau_scripted.specs.OpenTurns.{IsOpenFrom}
+use Rattle.tau_book.specs.Working.{IsOpenFrom}
 use Rattle.tau_book.specs.declared.answers.Next.{Next}
 use Rattle.tau_book.specs.declared.answers.Next.TheVariants as nexts
 use Rattle.tau_book.specs.Places.{End, complete, stopped}
-use Rattle.tau_seat.specs.Lists.{bare, Begins}
-use Rattle.tau_seat.specs.Keys.{run_of}
 use Rattle.tau_seat.specs.Seated.{Seated, seen_run}
 use Rattle.tau_seat.specs.Knowing.{IsSeenOpen}
 
@@ -38,11 +35,11 @@ pub record PlaceKey : Type 0 where
 abbrev pub key_of_place : Placed → PlaceKey
 key_of_place p = record { table = p.seat.table; numbers = p.seat.numbers; program = p.seat.program; limit = p.seat.limit }
 
--- what the seat has seen begins with a complete trace, or with one of as many steps as the limit that isn't complete, as it was told
+-- what the seat has seen is complete, or has as many steps as the limit and isn't complete, as it was told
 abbrev pub HasEnded : Seated → Option Bool → Type 0
 HasEnded s None = Unit {0}
-HasEnded s (Some true) = (front : List (Step × ℕ)) × Begins front s.seen × Complete s.program (run_of s.program (bare front))
-HasEnded s (Some false) = (front : List (Step × ℕ)) × Begins front s.seen × (¬ Complete s.program (run_of s.program (bare front))) × (length front ≡ s.limit)
+HasEnded s (Some true) = Complete s.program (seen_run s)
+HasEnded s (Some false) = (¬ Complete s.program (seen_run s)) × (length s.seen ≡ s.limit)
 
 -- in the run that it has seen there is a moment, not before what it had seen at first, at which the turn of the job isn't open; where that
 -- turn had begun by then, it isn't open at the end either

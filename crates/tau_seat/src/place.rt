@@ -1,11 +1,12 @@
 //! A seat as the place of a worker.
-ghost use Rattle.std.specs.Prelude.{◌≡◌, ◌<◌, ◌⊎◌, [], None, IsSome, IsTrue, IfOk, IfErr, OnErr, length, All};
+ghost use Rattle.std.specs.Prelude.{◌≡◌, ◌<◌, [], None, IsSome, IsTrue, IfOk, IfErr, OnErr, length, All};
 ghost use Rattle.tau_eval.specs.Turn.{TurnSoFar};
 ghost use Rattle.tau_book.specs.Places.{EndsBy, IsNotIdle, LeavesRoom, IsVouched, ComesBack};
 ghost use Rattle.tau_book.specs.Lefts.{IsLeftOf};
-ghost use Rattle.tau_seat.specs.Lists.{Begins};
-ghost use Rattle.tau_seat.specs.Seated.{Stays, Watches, Grows, EndsWith};
-ghost use Rattle.tau_seat.specs.Knowing.{IsSeenOpen, HadReturned};
+ghost use Rattle.tau_seat.specs.Lists.{bare, Begins};
+ghost use Rattle.tau_seat.specs.Keys.{IsSound};
+ghost use Rattle.tau_seat.specs.Seated.{key_at, Stays, Watches, Grows, EndsWith};
+ghost use Rattle.tau_seat.specs.Knowing.{IsSeenOpen};
 ghost use Rattle.tau_seat.specs.SeatPlaces.{HasEnded, IsSeenOver, Vouches, completeness_told, key_of_place, end_of};
 ghost use Rattle.tau_seat.specs.Answers.{has_stepped, has_made};
 
@@ -18,7 +19,7 @@ use tau_eval::Pending;
 use tau_knowledge::Knowledge;
 
 /// A seat as the place of a worker (docs/rules.md, "Seats"). Contracts see the seat, the end that the book told it, if it told one, and
-/// whether it knows its jobs.
+/// whether it knows its jobs. What the seat of a place that was told an end has seen is complete, or as long as the limit.
 #[derive(Drop)]
 pub struct SeatPlace<'a, 'p, K: Knowledge + Drop> {
     table: &'a SeatBook<'p, K>,
@@ -88,8 +89,8 @@ impl<'a, 'p, K: Knowledge + Drop> StepPlace<'p> for SeatPlace<'a, 'p, K> {
 
     ghost vouches = { Vouches };
 
-    // As of each place, and the seat has made a step where the answer tells one, and none where it doesn't. The place goes on to know its
-    // jobs, but where one had come back to the book of one of its turns.
+    // As of each place, and the seat has made a step where the answer tells one, and none where it doesn't. The place knows its jobs no more
+    // where one had come back to the book; no clause tells where that was.
     fn next<R: Wait>(&mut self, rt: &R, hand: &mut Hand<'p>) -> Result<Next<'p>, AllocError>
         requires known { All (Vouches self.old) hand.old.jobs }
         ensures key { key_of_place self.new ≡ key_of_place self.old }
@@ -103,7 +104,6 @@ impl<'a, 'p, K: Knowledge + Drop> StepPlace<'p> for SeatPlace<'a, 'p, K> {
         ensures known { All (Vouches self.new) hand.new.jobs }
         ensures work { IfOk result (IsVouched (Vouches self.new)) }
         ensures step { Grows (has_stepped result) self.old.seat self.new.seat }
-        ensures knows { (self.new.knows ≡ self.old.knows) ⊎ HadReturned self.old.seat self.new.seat }
     {
         match self.is_complete {
             Some(true) => return Ok(Next::Complete),
@@ -170,7 +170,6 @@ fn ask<'p, K: Knowledge + Drop, R: Wait>(
     ensures hand_on_err { OnErr result (IsLeftOf (IsSeenOver seat.old seat.new) hand.old hand.new) }
     ensures size { hand.new.size ≡ hand.old.size }
     ensures knew { IsTrue knows.new → IsTrue knows.old }
-    ensures knows { (knows.new ≡ knows.old) ⊎ HadReturned seat.old seat.new }
     ensures known { IsTrue knows.new → All (IsSeenOpen seat.old) hand.old.jobs → All (IsSeenOpen seat.new) hand.new.jobs }
     ensures work { IsTrue knows.new → All (IsSeenOpen seat.old) hand.old.jobs → IfOk result (IsVouched (IsSeenOpen seat.new)) }
 {
@@ -197,6 +196,7 @@ fn bring<'p, K: Knowledge + Drop, R: Wait>(
     requires room { length hand.old.jobs < hand.old.size }
     requires known { IsTrue knows → IsSeenOpen seat.old pending }
     ensures stays { Stays seat.old seat.new }
+    ensures sound { IsSound (key_at seat.new) (bare seat.new.seen) }
     ensures prefix { Begins seat.old.seen seat.new.seen }
     ensures step { Grows (has_made result) seat.old seat.new }
     ensures later { IfOk result (ComesBack hand.old hand.new pending.entry) }

@@ -1,5 +1,5 @@
 //! The step book with seats.
-ghost use Rattle.std.specs.Prelude.{◌≡◌, ◌≤◌, ◌<◌, ◌⊎◌, ℕ, ◌+◌, [], ◌++◌, IsTrue, IfOk, IfErr, OnErr, length, take, drop, All};
+ghost use Rattle.std.specs.Prelude.{◌≡◌, ◌≤◌, ◌<◌, ℕ, ◌+◌, [], ◌++◌, IsTrue, IfOk, IfErr, OnErr, length, take, drop, All};
 ghost use Rattle.tau_book.specs.Nexts.{IsNext};
 ghost use Rattle.tau_book.specs.Tolds.{IsTold, IsGivenBack};
 ghost use Rattle.tau_book.specs.Places.{LeavesRoom, IsVouched, ComesBack};
@@ -7,7 +7,7 @@ ghost use Rattle.tau_seat.specs.Lists.{upto, times, bare, Begins, Behind};
 ghost use Rattle.tau_seat.specs.Plays.{longer, shorter, teller_of};
 ghost use Rattle.tau_seat.specs.Keys.{IsSound};
 ghost use Rattle.tau_seat.specs.Seated.{key_at, mine_of, Stays, Watches, Grows, IsBookAt, IsTurn, EndsWith};
-ghost use Rattle.tau_seat.specs.Knowing.{IsSeenOpen, HadReturned};
+ghost use Rattle.tau_seat.specs.Knowing.{IsSeenOpen};
 ghost use Rattle.tau_seat.specs.Answers.{has_stepped, has_made};
 
 use crate::bell::{Bell, Idlers};
@@ -168,8 +168,8 @@ impl<'p, K: Knowledge + Drop> SeatBook<'p, K> {
         self.bell.enter(rt)
     }
 
-    /// `next` of a seat that has entered. Where its jobs were known to be records of open turns, they are so on, and what it is handed out is,
-    /// unless a job had come back to the book.
+    /// `next` of a seat that has entered. Its jobs are known on to be records of open turns where they were and no job had come back to the
+    /// book; then what it is handed out is one too. (No clause tells which jobs had come back.)
     pub(crate) fn next_entered<R: Wait>(
         &self,
         rt: &R,
@@ -189,7 +189,6 @@ impl<'p, K: Knowledge + Drop> SeatBook<'p, K> {
         ensures size { hand.new.size ≡ hand.old.size }
         ensures hand_on_err { OnErr result (hand.new ≡ hand.old) }
         ensures knew { IsTrue knows.new → IsTrue knows.old }
-        ensures knows { (knows.new ≡ knows.old) ⊎ HadReturned seat.old seat.new }
         ensures known { IsTrue knows.new → All (IsSeenOpen seat.old) hand.old.jobs → All (IsSeenOpen seat.new) hand.new.jobs }
         ensures work { IsTrue knows.new → All (IsSeenOpen seat.old) hand.old.jobs → IfOk result (IsVouched (IsSeenOpen seat.new)) }
     {

@@ -1,4 +1,4 @@
-use Rattle.std.proofs.Common.{inl, false, refl, sym, ap, subst, ◌∙◌}
+use Rattle.std.proofs.Common.{false, refl, sym, ap, subst, ◌∙◌}
 use Rattle.tau_book.specs.Lefts.{IsLeftOf}
 use Rattle.tau_book.proofs.HandsLeft.{all_left, idle_left}
 use Rattle.tau_seat.specs.Lists.{bare}
@@ -6,7 +6,6 @@ use Rattle.tau_seat.specs.Keys.{run_of}
 use Rattle.tau_seat.specs.SeatPlaces.{IsSeenOver}
 use Rattle.tau_seat.specs.Answers.{appends}
 use Rattle.tau_seat.proofs.Places.{stays_itself, stays_longer, begins_itself, begins_longer, watches_itself, grows_longer, idle_watches, err_watches}
-use Rattle.tau_seat.proofs.Knowing.{knows_longer}
 use Rattle.tau_seat.proofs.Overs.{over_now, seen_left, on_err}
 use Rattle.tau_seat.proofs.place.ask.Goals as goal
 
@@ -19,7 +18,6 @@ loop-init g c = record {
   watches = watches_itself c.args.seat.now;
   size = refl;
   knew = λ e. e;
-  knows = inl refl;
   known = λ e all. all;
   left = all_left (IsSeenOver c.args.seat.now c.args.seat.now) c.args.hand.now;
 }
@@ -41,7 +39,6 @@ loop-preserved g c =
       watches = idle_watches first before after c.in_ok-answer.answer c.in-Idle.out c.loop.invariant.stays.numbers_are c.in-Idle.is c.loop.invariant.watches c.in_ok-answer.ensures.step;
       size = c.next_entered.ensures.size ∙ c.loop.invariant.size;
       knew = λ e. c.loop.invariant.knew (c.next_entered.ensures.knew e);
-      knows = knows_longer first before after c.args.knows.now c.loop.knows c.next_entered.new.knows c.loop.invariant.stays c.loop.invariant.prefix c.next_entered.ensures.prefix c.loop.invariant.knows c.next_entered.ensures.knows;
       known = λ e all. c.next_entered.ensures.known e (c.loop.invariant.known (c.next_entered.ensures.knew e) all);
       left =
           idle_left (IsSeenOver first after) turn.before turn.after c.args.hand.now c.loop.hand c.next_entered.new.hand c.in_ok-answer.answer c.in-Idle.out turn.called c.in-Idle.is (over_now first after turn.after.system.run run_is seen)
@@ -80,11 +77,3 @@ returns-in_err-answer-clause-known g c = λ e all. c.next_entered.ensures.known 
 
 pub returns-in_default-clause-work : goal.returns-in_default-clause-work
 returns-in_default-clause-work g c = λ e all. c.in_ok-answer.ensures.work e (c.loop.invariant.known (c.next_entered.ensures.knew e) all)
-
-pub returns-in_default-clause-knows : goal.returns-in_default-clause-knows
-returns-in_default-clause-knows g c =
-    knows_longer c.args.seat.now c.loop.seat c.next_entered.new.seat c.args.knows.now c.loop.knows c.next_entered.new.knows c.loop.invariant.stays c.loop.invariant.prefix c.next_entered.ensures.prefix c.loop.invariant.knows c.next_entered.ensures.knows
-
-pub returns-in_err-answer-clause-knows : goal.returns-in_err-answer-clause-knows
-returns-in_err-answer-clause-knows g c =
-    knows_longer c.args.seat.now c.loop.seat c.next_entered.new.seat c.args.knows.now c.loop.knows c.next_entered.new.knows c.loop.invariant.stays c.loop.invariant.prefix c.next_entered.ensures.prefix c.loop.invariant.knows c.next_entered.ensures.knows

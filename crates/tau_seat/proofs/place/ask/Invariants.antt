@@ -1,9 +1,9 @@
-use Rattle.std.proofs.Common.{◌≡◌, ◌⊎◌, All}
+use Rattle.std.proofs.Common.{◌≡◌, All}
 use Rattle.std.specs.Prelude.{IsTrue}
 use Rattle.tau_book.specs.Lefts.{IsLeftOf}
 use Rattle.tau_seat.specs.Lists.{Begins}
 use Rattle.tau_seat.specs.Seated.{Stays, Watches}
-use Rattle.tau_seat.specs.Knowing.{IsSeenOpen, HadReturned}
+use Rattle.tau_seat.specs.Knowing.{IsSeenOpen}
 use Rattle.tau_seat.specs.SeatPlaces.{IsSeenOver}
 use Rattle.tau_seat.proofs.place.ask.Given as goal
 
@@ -16,7 +16,6 @@ invariant-loop g l = record {
   watches : Watches l.fn.seat l.seat;
   size : l.hand.size ≡ l.fn.hand.size;
   knew : IsTrue l.knows → IsTrue l.fn.knows;
-  knows : (l.knows ≡ l.fn.knows) ⊎ HadReturned l.fn.seat l.seat;
   known : IsTrue l.knows → All (IsSeenOpen l.fn.seat) l.fn.hand.jobs → All (IsSeenOpen l.seat) l.hand.jobs;
   left : IsLeftOf (IsSeenOver l.fn.seat l.seat) l.fn.hand l.hand;
 }

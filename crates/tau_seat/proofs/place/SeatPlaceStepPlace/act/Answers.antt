@@ -1,14 +1,14 @@
 use Rattle.std.proofs.Common.{◌∙◌, All, sym, subst}
 use Rattle.tau_eval.specs.Turn.{TurnSoFar}
 use Rattle.tau_seat.specs.SeatPlaces.{Placed, Vouches}
-use Rattle.tau_seat.proofs.Places.{ended_grows}
+use Rattle.tau_seat.proofs.Ends.{ended_grows}
 use Rattle.tau_seat.proofs.Knowing.{vouched_longer, vouched_jobs}
 use Rattle.tau_seat.proofs.place.SeatPlaceStepPlace.act.Goals as goal
 
 pub invariant_of-self : goal.invariant_of-self
 invariant_of-self g c =
     let stays = c.bring.ensures.stays in
-    (stays.table_is ∙ c.self.invariant.0, ended_grows c.self.inside.seat c.bring.new.seat c.self.inside.is_complete stays.program_is stays.limit_is c.bring.ensures.prefix c.self.invariant.1)
+    (stays.table_is ∙ c.self.invariant.0, ended_grows c.self.inside.seat c.bring.new.seat stays.program_is stays.limit_is c.bring.ensures.prefix c.bring.ensures.sound c.self.inside.is_complete c.self.invariant.1)
 
 pub returns-clause-vouched : goal.returns-clause-vouched
 returns-clause-vouched g c =

@@ -1,9 +1,8 @@
-use Rattle.std.proofs.Common.{◌≡◌, ◌⊎◌, ◌∙◌, All, sym, subst}
+use Rattle.std.proofs.Common.{◌∙◌, All, sym, subst}
 use Rattle.tau_eval.specs.Turn.{TurnSoFar}
 use Rattle.tau_book.specs.Places.{IsVouched}
 use Rattle.tau_book.specs.Lefts.{IsLeftOf}
 use Rattle.tau_seat.specs.Seated.{Grows}
-use Rattle.tau_seat.specs.Knowing.{HadReturned}
 use Rattle.tau_seat.specs.Answers.{has_stepped}
 use Rattle.tau_seat.specs.SeatPlaces.{Placed, HasEnded, IsSeenOver, Vouches}
 use Rattle.tau_seat.proofs.Places.{told_end, err_watches}
@@ -57,9 +56,3 @@ returns-clause-work g c =
     let n : Placed = record { seat = c.ask.new.seat; is_complete = c.end_told-self-inside.result; knows = c.ask.new.knows } in
     subst (λ (p : Placed). All (Vouches p) c.args.hand.now.jobs → IsVouched (Vouches n) c.in_ok-answer.answer) c.self.view_is
     (vouched_answer o n c.ask.ensures.knew c.args.hand.now.jobs c.in_ok-answer.answer c.in_ok-answer.ensures.work) c.requires.known
-
-pub returns-clause-knows : goal.returns-clause-knows
-returns-clause-knows g c = subst (λ (p : Placed). (c.ask.new.knows ≡ p.knows) ⊎ HadReturned p.seat c.ask.new.seat) c.self.view_is c.ask.ensures.knows
-
-pub returns-in_err-answer-clause-knows : goal.returns-in_err-answer-clause-knows
-returns-in_err-answer-clause-knows g c = subst (λ (p : Placed). (c.ask.new.knows ≡ p.knows) ⊎ HadReturned p.seat c.ask.new.seat) c.self.view_is c.ask.ensures.knows

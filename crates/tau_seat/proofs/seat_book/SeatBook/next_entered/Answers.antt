@@ -1,12 +1,11 @@
-use Rattle.std.proofs.Common.{◌≡◌, ◌⊎◌, [], rules, sym, ap, subst, ◌∙◌}
+use Rattle.std.proofs.Common.{◌≡◌, [], rules, sym, ap, subst, ◌∙◌}
 use Rattle.std.specs.Prelude.{IsTrue}
 use Rattle.tau_book.specs.Nexts.{IsNext}
 use Rattle.tau_seat.specs.Answers.{has_stepped}
 use Rattle.tau_seat.specs.Seated.{seated, Grows, IsTurn, EndsWith}
 use Rattle.tau_seat.proofs.BookTurns.{next_made}
 use Rattle.tau_seat.proofs.SeatTurns.{taken_as, seat_grows, seat_turn, each_ok, grows_begin, put_value, put_grew, seat_keeps, turn_ends}
-use Rattle.tau_seat.specs.Knowing.{HadReturned}
-use Rattle.tau_seat.proofs.Knowing.{IsNextTurn, next_known, knows_on}
+use Rattle.tau_seat.proofs.Knowing.{IsNextTurn, next_known}
 use Rattle.tau_seat.proofs.seat_book.SeatBook.next_entered.Goals as goal
 
 pub returns-clause-step : goal.returns-clause-step
@@ -91,11 +90,3 @@ returns-clause-work g c =
     (λ e. c.put_back.ensures.grew (c.has_stepped-grew.ensures ∙ e)) (λ e. c.put_back.ensures.stayed (c.has_stepped-grew.ensures ∙ e)) (is, c.knows_still.ensures.none_back))) c.next-answer.ensures.ok in
     λ e all.
     (next_known c.known_jobs_are_handed_on.ensures.next c.args.seat.now after h k knows (ap (λ s. s.program) c.seat.view_is) c.next-answer.result (returns-clause-prefix g c) turn c.next-answer.ensures.hand_on_err e all).1
-
-pub returns-clause-knows : goal.returns-clause-knows
-returns-clause-knows g c =
-    let r = has_stepped c.next-answer.result in
-    let after = seated c.put_back.new.seat.table_id c.seat.inside.key c.put_back.new.seat.me.0 in
-    subst (λ s. (c.knows_still.result ≡ c.args.knows.now) ⊎ HadReturned s after) c.seat.view_is
-    (knows_on c.seat.inside.pass.table_id c.put_back.new.seat.table_id c.seat.inside.key c.seat.inside.pass.me c.deref_mut-book.result.now c.next-answer.new.self c.take-boxed.new.seat.me c.put_back.new.seat.me r c.knows_still.result c.args.knows.now c.seat.invariant (taken_as c.seat.inside.pass.me c.take-boxed.new.seat.me c.deref_mut-book.result.now c.take-boxed.result (c.deref_mut-book.ensures.value ∙ c.boxed.view_is) c.take-boxed.ensures.taken) c.next-answer.ensures.was_book
-    (λ e. c.put_back.ensures.grew (c.has_stepped-grew.ensures ∙ e)) (λ e. c.put_back.ensures.stayed (c.has_stepped-grew.ensures ∙ e)) c.knows_still.ensures.on)
