@@ -26,27 +26,31 @@ fn main(rt: HostRuntime) -> ExitCode {
     let Ok(bytes) = read_all(alloc, &mut StdSource::new(rt.stdin()), 1_048_576) else {
         return ExitCode::from(5);
     };
-    let Some(program) = program_from(alloc, &bytes) else {
-        return ExitCode::from(3);
-    };
-    let Ok(text) = text_of(alloc, &program) else {
-        return ExitCode::from(7);
-    };
-    match write_all_of(&mut StdSink::new(rt.stdout()), &text) {
-        Ok(()) => ExitCode::from(0),
-        Err(_) => ExitCode::from(6),
+    match text_from(alloc, &bytes) {
+        Ok(text) => match write_all_of(&mut StdSink::new(rt.stdout()), &text) {
+            Ok(()) => ExitCode::from(0),
+            Err(_) => ExitCode::from(6),
+        },
+        Err(status) => ExitCode::from(status),
     }
+}
+
+/// The text for the program that bytes spell; or the status without one.
+fn text_from(alloc: Global, bytes: &[u8]) -> Result<Vec<u8>, u8> {
+    let Some(program) = program_from(alloc, bytes) else {
+        return Err(3);
+    };
+    let text = text_of(alloc, &program);
+    drop(program);
+    text.map_err(|_| 7)
 }
 
 /// The program that bytes spell.
 fn program_from(alloc: Global, bytes: &[u8]) -> Option<Program> {
-    let Ok(forms) = read_forms(alloc, bytes) else {
-        return None;
-    };
-    match program_of(alloc, forms.items()) {
-        Ok(program) => Some(program),
-        Err(_) => None,
-    }
+    let forms = read_forms(alloc, bytes).ok()?;
+    let program = program_of(alloc, forms.items()).ok();
+    drop(forms);
+    program
 }
 
 /// A turn: its program, its transactor with the behaviour, and its message.
@@ -98,6 +102,7 @@ fn put_by_job(alloc: Global, text: &mut Vec<u8>, turn: Turn<'_>) -> Result<(), A
     for number in 0..LIMIT {
         job = put_next(alloc, text, turn.start, number, job)?;
     }
+    drop(job);
     Ok(())
 }
 
@@ -131,7 +136,10 @@ fn put_next<'p>(
 fn pending_of(job: Job<'_>) -> Result<Pending<'_>, AllocError> {
     match job.advance() {
         Ok(pending) => Ok(pending),
-        Err((_job, failed)) => Err(failed),
+        Err((job, failed)) => {
+            drop(job);
+            Err(failed)
+        }
     }
 }
 
@@ -142,8 +150,14 @@ fn resumed<'p>(
 ) -> Result<Option<Job<'p>>, AllocError> {
     match reply {
         Ok(Some(reply)) => Ok(Some(pending.resume(reply))),
-        Ok(None) => Ok(None),
-        Err(failed) => Err(failed),
+        Ok(None) => {
+            drop(pending);
+            Ok(None)
+        }
+        Err(failed) => {
+            drop(pending);
+            Err(failed)
+        }
     }
 }
 
@@ -170,7 +184,9 @@ fn put_plain(
     let (program, behaviour) = (turn.program, turn.behaviour);
     let body = &behaviour.body;
     let effect = next(alloc, program.nodes, turn.who, body, turn.message, replies)?;
-    put_replied(alloc, text, turn.start, number, &effect)
+    let reply = put_replied(alloc, text, turn.start, number, &effect);
+    drop(effect);
+    reply
 }
 
 /// Adds a copy of the effect of this number; the reply to it, where the turn goes on.
@@ -181,7 +197,10 @@ fn put_copy(
     number: u32,
     effect: &Effect,
 ) -> Result<Option<Value>, AllocError> {
-    put_replied(alloc, text, start, number, &effect.copy()?)
+    let copied = effect.copy()?;
+    let reply = put_replied(alloc, text, start, number, &copied);
+    drop(copied);
+    reply
 }
 
 /// Adds the effect of this number; the reply to it, where the turn goes on.

@@ -22,12 +22,14 @@ pub fn bounded(value: Value) -> Result<Value, Stop> {
 
 /// An operation on one value.
 pub fn of_one(prim: Prim, value: Value) -> Result<Value, Stop> {
-    match (prim, value) {
-        (Prim::Not, Value::Truth(truth)) => Ok(Value::Truth(!truth)),
+    let answer = match (prim, &value) {
+        (Prim::Not, Value::Truth(truth)) => Ok(Value::Truth(!*truth)),
         (Prim::Len, Value::List(items)) => length(items.len()),
         (Prim::Len, Value::Text(text)) => length(text.len()),
         _ => trap(1),
-    }
+    };
+    drop(value);
+    answer
 }
 
 fn length(length: usize) -> Result<Value, Stop> {
@@ -40,14 +42,28 @@ fn length(length: usize) -> Result<Value, Stop> {
 /// An operation on two values.
 pub fn of_two(alloc: Global, prim: Prim, one: Value, two: Value) -> Result<Value, Stop> {
     match prim {
-        Prim::Same => Ok(Value::Truth(one.same(&two))),
         Prim::Push => push(one, two),
-        Prim::Item => item(one, two),
-        Prim::Cat => cat(alloc, one, two),
-        _ => match (one, two) {
-            (Value::Int(one), Value::Int(two)) => of_integers(prim, one, two),
-            _ => trap(1),
-        },
+        Prim::Cat => {
+            let answer = cat(alloc, one, &two);
+            drop(two);
+            answer
+        }
+        _ => {
+            let answer = of_read(prim, &one, &two);
+            drop(one);
+            drop(two);
+            answer
+        }
+    }
+}
+
+/// An operation on two values that it only reads.
+fn of_read(prim: Prim, one: &Value, two: &Value) -> Result<Value, Stop> {
+    match (prim, one, two) {
+        (Prim::Same, _, _) => Ok(Value::Truth(one.same(two))),
+        (Prim::Item, Value::List(items), Value::Int(place)) => item(items, *place),
+        (_, Value::Int(one), Value::Int(two)) => of_integers(prim, *one, *two),
+        _ => trap(1),
     }
 }
 
@@ -71,19 +87,31 @@ fn of_integers(prim: Prim, one: i64, two: i64) -> Result<Value, Stop> {
 }
 
 fn push(one: Value, two: Value) -> Result<Value, Stop> {
-    let Value::List(mut items) = one else {
-        return trap(1);
-    };
-    if items.push(two).is_err() {
-        return Err(Stop::NoMemory);
+    match one {
+        Value::List(mut items) => {
+            push_value(&mut items, two)?;
+            bounded(Value::List(items))
+        }
+        one => {
+            drop(one);
+            drop(two);
+            trap(1)
+        }
     }
-    bounded(Value::List(items))
 }
 
-fn item(one: Value, two: Value) -> Result<Value, Stop> {
-    let (Value::List(items), Value::Int(place)) = (one, two) else {
-        return trap(1);
-    };
+/// Puts a value at the end of a list.
+pub fn push_value(values: &mut Values, value: Value) -> Result<(), Stop> {
+    match values.push(value) {
+        Ok(()) => Ok(()),
+        Err((value, _failed)) => {
+            drop(value);
+            Err(Stop::NoMemory)
+        }
+    }
+}
+
+fn item(items: &Values, place: i64) -> Result<Value, Stop> {
     let Ok(place) = usize::try_from(place) else {
         return trap(4);
     };
@@ -93,10 +121,10 @@ fn item(one: Value, two: Value) -> Result<Value, Stop> {
     }
 }
 
-fn cat(alloc: Global, one: Value, two: Value) -> Result<Value, Stop> {
+fn cat(alloc: Global, one: Value, two: &Value) -> Result<Value, Stop> {
     match (one, two) {
-        (Value::Text(one), Value::Text(two)) => join_texts(alloc, &one, &two),
-        (Value::List(one), Value::List(two)) => join_lists(one, &two),
+        (Value::Text(one), Value::Text(two)) => join_texts(alloc, &one, two),
+        (Value::List(one), Value::List(two)) => join_lists(one, two),
         _ => trap(1),
     }
 }
@@ -111,10 +139,14 @@ fn join_texts(alloc: Global, one: &Text, two: &Text) -> Result<Value, Stop> {
 }
 
 fn join_lists(mut one: Values, two: &Values) -> Result<Value, Stop> {
-    for item in two.items() {
-        if one.push(item.copy()?).is_err() {
-            return Err(Stop::NoMemory);
-        }
-    }
+    push_copies(&mut one, two)?;
     bounded(Value::List(one))
+}
+
+/// Puts copies of the items of a list at the end of another.
+fn push_copies(into: &mut Values, from: &Values) -> Result<(), Stop> {
+    for item in from.items() {
+        push_value(into, item.copy()?)?;
+    }
+    Ok(())
 }

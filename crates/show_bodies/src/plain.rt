@@ -1,6 +1,6 @@
 //! The plain evaluator: the rules of docs/language.md as a recursion that begins with the body each time. Its answers
 //! stand beside those of jobs.
-use crate::operations::{bounded, of_one, of_two, trap};
+use crate::operations::{bounded, of_one, of_two, push_value, trap};
 use std::alloc::{AllocError, Global};
 use tau_eval::Effect;
 use tau_sexpr::Word;
@@ -66,8 +66,13 @@ pub fn next<'p>(
         bindings: Vec::new(alloc),
         alloc,
     };
-    match plain.value(body, 400) {
-        Ok(_value) => Ok(Effect::Done),
+    let answer = plain.value(body, 400);
+    drop(plain);
+    match answer {
+        Ok(value) => {
+            drop(value);
+            Ok(Effect::Done)
+        }
         Err(Stop::At(effect)) => Ok(effect),
         Err(Stop::NoMemory) => Err(AllocError),
     }
@@ -145,9 +150,15 @@ impl<'p> Plain<'p> {
     /// The next reply; without one the evaluation ends at the effect.
     fn reply(&mut self, effect: Effect) -> Result<Value, Stop> {
         match self.next_reply() {
-            Ok(Some(reply)) => Ok(reply),
+            Ok(Some(reply)) => {
+                drop(effect);
+                Ok(reply)
+            }
             Ok(None) => Err(Stop::At(effect)),
-            Err(_failed) => Err(Stop::NoMemory),
+            Err(_failed) => {
+                drop(effect);
+                Err(Stop::NoMemory)
+            }
         }
     }
 
@@ -169,13 +180,22 @@ impl<'p> Plain<'p> {
     #[cycle(value)]
     fn list(&mut self, items: &'p Exprs, depth: u32) -> Result<Value, Stop> {
         let mut values = Values::new(self.alloc);
-        for item in items.items() {
-            let value = self.value(item, depth)?;
-            if values.push(value).is_err() {
-                return Err(Stop::NoMemory);
-            }
-        }
+        self.push_values(&mut values, items, depth)?;
         bounded(Value::List(values))
+    }
+
+    /// Adds the values of expressions to a list.
+    #[cycle(value)]
+    fn push_values(
+        &mut self,
+        values: &mut Values,
+        items: &'p Exprs,
+        depth: u32,
+    ) -> Result<(), Stop> {
+        for item in items.items() {
+            push_value(values, self.value(item, depth)?)?;
+        }
+        Ok(())
     }
 
     #[cycle(value)]
@@ -198,6 +218,7 @@ impl<'p> Plain<'p> {
     fn seq(&mut self, items: &'p Exprs, depth: u32) -> Result<Value, Stop> {
         let mut last = Value::Unit;
         for item in items.items() {
+            drop(last);
             last = self.value(item, depth)?;
         }
         Ok(last)
@@ -212,11 +233,38 @@ impl<'p> Plain<'p> {
         depth: u32,
     ) -> Result<Value, Stop> {
         let list = self.value(list, depth)?;
-        let mut sum = self.value(first, depth)?;
-        let Value::List(items) = list else {
-            return trap(1);
-        };
+        let folded = self.fold_list(&list, first, round, depth);
+        drop(list);
+        folded
+    }
+
+    /// The fold of a value that is to be a list.
+    #[cycle(value)]
+    fn fold_list(
+        &mut self,
+        list: &Value,
+        first: &'p Expr,
+        round: Round<'p>,
+        depth: u32,
+    ) -> Result<Value, Stop> {
+        let sum = self.value(first, depth)?;
+        match list {
+            Value::List(items) => self.fold_items(items, sum, round, depth),
+            _ => trap(1),
+        }
+    }
+
+    /// The fold of items, from a first sum on.
+    #[cycle(value)]
+    fn fold_items(
+        &mut self,
+        items: &Values,
+        first: Value,
+        round: Round<'p>,
+        depth: u32,
+    ) -> Result<Value, Stop> {
         let height = self.bindings.len();
+        let mut sum = first;
         for item in items.items() {
             self.bind(round.sum, sum)?;
             self.bind(round.item, item.copy()?)?;
@@ -264,11 +312,14 @@ impl<'p> Plain<'p> {
 
     #[cycle(value)]
     fn send(&mut self, to: &'p Expr, value: &'p Expr, depth: u32) -> Result<Value, Stop> {
-        let to = self.value(to, depth)?;
+        let to = receiver_of(self.value(to, depth)?);
         let value = self.value(value, depth)?;
         match to {
-            Value::Name(number) => self.reply(Effect::Send(number, value)),
-            _ => trap(1),
+            Some(number) => self.reply(Effect::Send(number, value)),
+            None => {
+                drop(value);
+                trap(1)
+            }
         }
     }
 
@@ -280,23 +331,41 @@ impl<'p> Plain<'p> {
         state: &'p Expr,
         depth: u32,
     ) -> Result<Value, Stop> {
-        let node = self.value(node, depth)?;
+        let node = node_of(self.value(node, depth)?, self.nodes);
         let state = self.value(state, depth)?;
-        let Value::Int(integer) = node else {
-            return trap(1);
-        };
-        match u32::try_from(integer) {
-            Ok(node) => {
-                if node >= self.nodes {
-                    return trap(8);
-                }
-                self.reply(Effect::New {
-                    behaviour,
-                    node,
-                    state,
-                })
+        match node {
+            Ok(node) => self.reply(Effect::New {
+                behaviour,
+                node,
+                state,
+            }),
+            Err(code) => {
+                drop(state);
+                trap(code)
             }
-            Err(_) => trap(8),
         }
     }
+}
+
+/// The transactor that a value names; `None` where it is no name.
+fn receiver_of(value: Value) -> Option<u32> {
+    let receiver = match &value {
+        Value::Name(number) => Some(*number),
+        _ => None,
+    };
+    drop(value);
+    receiver
+}
+
+/// The node that a value names, below the number of nodes; or the code of a trap.
+fn node_of(value: Value, nodes: u32) -> Result<u32, u8> {
+    let node = match &value {
+        Value::Int(integer) => match u32::try_from(*integer) {
+            Ok(node) if node < nodes => Ok(node),
+            _ => Err(8),
+        },
+        _ => Err(1),
+    };
+    drop(value);
+    node
 }

@@ -100,12 +100,18 @@ fn add_report(
 
 /// Adds what is told of the trace in version 2.
 fn add_second(text: &mut String, trace: &Trace) -> Result<(), AllocError> {
-    add_version(text, &trace.in_second()?)
+    let second = trace.in_second()?;
+    let added = add_version(text, &second);
+    drop(second);
+    added
 }
 
 /// The length of a copy of the trace.
 fn copied_len(trace: &Trace) -> Result<u32, AllocError> {
-    Ok(trace.copy()?.len())
+    let copied = trace.copy()?;
+    let len = copied.len();
+    drop(copied);
+    Ok(len)
 }
 
 /// Adds the answer to a question with one number.

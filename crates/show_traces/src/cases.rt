@@ -41,8 +41,22 @@ pub(crate) fn add_case(alloc: Global, text: &mut String, section: &str) -> Resul
     };
     writeln!(text, "# {}", section.name)?;
     let steps = read_forms(alloc, section.steps.as_bytes())?;
+    let added = add_section(alloc, text, section, &steps);
+    drop(steps);
+    added
+}
+
+/// Adds the questions of a section with their answers, where these are its steps.
+fn add_section(
+    alloc: Global,
+    text: &mut String,
+    section: Section<'_>,
+    steps: &Forms,
+) -> Result<(), FactsError> {
     let program = program_in(alloc, section.program)?;
-    add_answers(alloc, text, &program, &steps, section.questions)
+    let added = add_answers(alloc, text, &program, steps, section.questions);
+    drop(program);
+    added
 }
 
 /// The program of a text.
@@ -50,7 +64,9 @@ fn program_in(alloc: Global, text: &str) -> Result<Program, FactsError>
     ensures { IfOk result Sound }
 {
     let forms = read_forms(alloc, text.as_bytes())?;
-    Ok(program_of(alloc, forms.items())?)
+    let program = program_of(alloc, forms.items());
+    drop(forms);
+    Ok(program?)
 }
 
 /// Adds each question with its answer, on a line of its own.
@@ -86,7 +102,9 @@ fn add_answer_to(
         None => (line, steps.len()),
     };
     let trace = trace_of(alloc, program, steps, count)?;
-    add_answer(alloc, text, program, &trace, question)
+    let added = add_answer(alloc, text, program, &trace, question);
+    drop(trace);
+    added
 }
 
 fn count_in(word: &str) -> Result<usize, FactsError> {

@@ -103,7 +103,12 @@ pub(crate) fn add_step(
 fn step_text(alloc: Global, trace: &Trace, place: u32) -> Result<Vec<u8>, AllocError>
     requires { place < len trace.now.run }
 {
+    let form = form_of_step(alloc, trace, place)?;
     let mut forms = Forms::new(alloc);
-    forms.add(form_of_step(alloc, trace, place)?)?;
-    print_forms(alloc, &forms)
+    let printed = match forms.add(form) {
+        Ok(()) => print_forms(alloc, &forms),
+        Err(failed) => Err(failed),
+    };
+    drop(forms);
+    printed
 }
