@@ -1,7 +1,7 @@
 //! The words of command lines. A line has the words of one; an empty line has none.
 use crate::calls::{Call, Part};
 use std::alloc::{AllocError, Global};
-use tau_command::{Command, Line, Words, read_words};
+use tau_command::{Command, Line, Question, StormNumbers, Words, read_words};
 
 /// What reads command lines.
 #[derive(Clone, Copy)]
@@ -65,5 +65,34 @@ fn add_command(text: &mut String, call: Call<'_>, command: Command) -> Result<()
             to,
             ask: None,
         } => writeln!(text, "{line}: Draw, from {from}, to {to}"),
+        Command::Storm { numbers, question } => add_storm(text, line, numbers, &question),
+    }
+}
+
+/// Adds the numbers of a storm, and what is asked of it.
+fn add_storm(
+    text: &mut String,
+    line: &str,
+    numbers: StormNumbers,
+    question: &Question,
+) -> Result<(), AllocError> {
+    let StormNumbers {
+        jobs,
+        seed,
+        seeds,
+        fails,
+        losses,
+        repeats,
+        every,
+        steps,
+    } = numbers;
+    write!(
+        text,
+        "{line}: Storm, jobs {jobs}, seed {seed}, seeds {seeds}, fails {fails}, losses {losses}, repeats {repeats}, every {every}, steps {steps}"
+    )?;
+    match question {
+        Question::Outcomes => text.push_str("\n"),
+        Question::Claim { name } => writeln!(text, ", claim {}", name.text()),
+        Question::Show { outcome } => writeln!(text, ", show {outcome}"),
     }
 }

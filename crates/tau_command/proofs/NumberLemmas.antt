@@ -8,7 +8,7 @@ use Rattle.std.proofs.lemmas.Bool.{lt-ltb, ltb-true}
 use Rattle.clap.specs.ValueTests.{is_numeral}
 use Rattle.clap.specs.Words.{ReadsOne, Text}
 use Rattle.clap.proofs.WalkLemmas.{both}
-use Rattle.tau_command.specs.Commands.{number_in}
+use Rattle.tau_command.specs.Numbers.{number_in}
 
 -- a text whose bytes pass as digits has digits alone
 digits_from : (ds : Text) → list_all (λ d. nat_lt (digit_value d) 10) ds ≡ true → AllDigits 10 ds

@@ -1,88 +1,21 @@
 -- The numbers of a command lie in the ranges of their options.
-use Rattle.std.proofs.Common.{◌≡◌, ◌≢◌, ◌∙◌, ◌&&◌, ◌||◌, ◌<◌, ◌≤◌, ◌^◌, ap, refl, sym, subst, inl, inr, ℕ, Bool, true, false, cond, List, [], ◌∷◌, Option, Some, None, codes, lit<}
-use Rattle.std.specs.Prelude.{IfOk, IfSome, nat_lt, ok_or, option_and_then, option_map, pos, Result}
+use Rattle.std.proofs.Common.{◌≡◌, ◌||◌, ◌≤◌, sym, subst, refl, ℕ, Bool, true, false, cond, List, [], ◌∷◌, Option, Some, None, codes}
+use Rattle.std.specs.Prelude.{IfOk, IfSome, ok_or, option_and_then, option_map, Result}
 use Rattle.std.specs.Str.{bytes_eq}
-use Rattle.std.specs.Str.Parse.{ParsesUnsigned, digits_value, without_leading_plus}
-use Rattle.clap.specs.Kinds.{Kinds, value_kinds}
-use Rattle.clap.specs.Lexer.{without_minus}
-use Rattle.clap.specs.ValueTests.{accepts, is_numeral}
-use Rattle.clap.specs.Values.{IsSignedIn}
-use Rattle.clap.specs.Simple.{built}
-use Rattle.clap.specs.Words.{ReadsOne, Text, fault_of, matches_of, one_of}
-use Rattle.clap.specs.declared.builder.value_parser.ValueParser.TheVariants.{Signed}
-use Rattle.clap.proofs.CallerReads.{signed_reads}
-use Rattle.clap.proofs.OnLiterals.{clap_on_literals}
-use Rattle.clap.proofs.ValueTestLemmas.{accepts-Accepts}
+use Rattle.clap.specs.Kinds.{Kinds}
+use Rattle.clap.specs.Words.{Text, fault_of, matches_of}
 use Rattle.tau_command.specs.Arguments.{tau_command}
-use Rattle.tau_command.specs.Commands.{command_allowed, command_matched, command_named, command_of, draw_of, has_window_option, journal_allowed, journal_command_of, journal_matched, journal_named, number_in, number_of, run_numbers, run_of, stands, stands_amiss, where_faultless, IsInRange, IsInJournalRange}
+use Rattle.tau_command.specs.Numbers.{number_of}
+use Rattle.tau_command.specs.Storms.{storm_of}
+use Rattle.tau_command.specs.Commands.{command_allowed, command_matched, command_named, command_of, draw_of, has_storm_option, has_window_option, journal_allowed, journal_command_of, journal_matched, journal_named, plain_named, run_numbers, run_of, stands, stands_amiss, where_faultless, IsInRange, IsInJournalRange}
 use Rattle.tau_command.specs.declared.commands.Command.{Command}
 use Rattle.tau_command.specs.declared.commands.JournalCommand.{JournalCommand}
 use Rattle.tau_command.specs.declared.commands.JournalCommand.TheVariants.{Keep, Resume}
 use Rattle.tau_command.specs.declared.matched.RunNumbers.{RunNumbers}
 use Rattle.tau_command.specs.declared.commands.WordsError.{WordsError}
 use Rattle.tau_command.specs.declared.commands.Command.TheVariants.{Run, Check, Audit, Report, Print, Gen, Drill, Migrate, Why, Cut, Draw}
-use Rattle.tau_command.proofs.NumberLemmas.{passed, passes}
-use Rattle.tau_command.proofs.PassingLemmas.{AllOwn, RowsPass, matches_pass, one_read}
-
--- each argument is the one of its id, and is set; but help asks for help
-all_own : AllOwn (built tau_command).top.rules (built tau_command).top.rules
-unfolding clap_on_literals tau_command
-all_own = ((refl, inl refl), ((refl, inl refl), ((refl, inl refl), ((refl, inl refl), ((refl, inl refl), ((refl, inl refl), ((refl, inl refl), ((refl, inl refl), ((refl, inr refl), tt)))))))))
-
--- what is found for the arguments passes
-rows_pass : (words : List Text) → fault_of tau_command words ≡ [] → RowsPass (built tau_command).top.rules (matches_of tau_command words)
-rows_pass words e = matches_pass tau_command words all_own e
-
--- a number is read from a text as `parse` reads it
-reads_one : (bits : ℕ) (text : Text) → ReadsOne {E = Unit {0}} (λ u r. ParsesUnsigned bits 10 u r) text (number_in bits text)
-reads_one bits text = go (is_numeral (without_leading_plus text) && nat_lt (digits_value 10 (without_leading_plus text)) (2 ^ bits)) refl
-  where
-    go : (b : Bool) → (is_numeral (without_leading_plus text) && nat_lt (digits_value 10 (without_leading_plus text)) (2 ^ bits)) ≡ b
-        → ReadsOne {E = Unit {0}} (λ u r. ParsesUnsigned bits 10 u r) text (cond b (Some (digits_value 10 (without_leading_plus text))) None)
-    go true e = (passed (2 ^ bits) (without_leading_plus text) e, refl)
-    go false e = (tt, λ p. let yes = passes (2 ^ bits) (without_leading_plus text) p.0 p.1 in absurd (cc))
-
--- a text that has no fault is accepted
-accepted : (b : Bool) (kinds : Kinds) → cond b [] kinds ≡ [] → kinds ≢ [] → b ≡ true
-accepted true kinds e some = refl
-accepted false kinds e some = absurd (some e)
-
--- the number of a text that passed lies in the range of the parser
-number_in_range : (bits low high : ℕ) (i : Bool) (written : Text) (n : ℕ) → high < 2 ^ bits → value_kinds i (Signed (pos low) (pos high)) written ≡ [] → number_in bits (without_minus written) ≡ Some n
-    → (low ≤ n) × (n ≤ high)
-number_in_range bits low high i written n fits passes e =
-    let text_accepted : accepts i (Signed (pos low) (pos high)) written ≡ true = accepted (accepts i (Signed (pos low) (pos high)) written) _ passes (λ none. cc) in
-    let is_in : IsSignedIn (pos low) (pos high) written = accepts-Accepts i (Signed (pos low) (pos high)) written text_accepted in
-    let read = signed_reads (Unit {0}) (λ u r. ParsesUnsigned bits 10 u r) bits low high written (number_in bits (without_minus written)) (reads_one bits (without_minus written)) (λ u x h. h) fits is_in in
-    let some : Some read.0 ≡ Some n = sym read.1 ∙ e in
-    let same : read.0 ≡ n = cc in
-    (subst (λ m. low ≤ m) same read.2, subst (λ m. m ≤ high) same read.3)
-
--- the number of an option of the matches
-some_number : (bits low high : ℕ) (i : Bool) (text : Option Text) (n : ℕ) → high < 2 ^ bits
-    → ((t : Text) → text ≡ Some t → (w : Text) × (value_kinds i (Signed (pos low) (pos high)) w ≡ []) × (t ≡ without_minus w)) → option_and_then (number_in bits) text ≡ Some n → (low ≤ n) × (n ≤ high)
-some_number bits low high i None n fits read e = absurd (cc)
-some_number bits low high i (Some t) n fits read e =
-    let r = read t refl in
-    number_in_range bits low high i r.0 n fits r.1 (ap (number_in bits) (sym r.2) ∙ e)
-
-workers_in_range : (words : List Text) (n : ℕ) → fault_of tau_command words ≡ [] → number_of 32 (codes "workers") (matches_of tau_command words) ≡ Some n → (1 ≤ n) × (n ≤ 32)
-unfolding clap_on_literals tau_command
-workers_in_range words n none e =
-    some_number 32 1 32 false (one_of (codes "workers") (matches_of tau_command words)) n (lit< tt)
-    (λ t found. let r = one_read (built tau_command).top.rules (codes "workers") (matches_of tau_command words) _ t (rows_pass words none) refl found in (r.written, r.passes, r.is)) e
-
-jobs_in_range : (words : List Text) (n : ℕ) → fault_of tau_command words ≡ [] → number_of 32 (codes "jobs") (matches_of tau_command words) ≡ Some n → (1 ≤ n) × (n ≤ 16)
-unfolding clap_on_literals tau_command
-jobs_in_range words n none e =
-    some_number 32 1 16 false (one_of (codes "jobs") (matches_of tau_command words)) n (lit< tt)
-    (λ t found. let r = one_read (built tau_command).top.rules (codes "jobs") (matches_of tau_command words) _ t (rows_pass words none) refl found in (r.written, r.passes, r.is)) e
-
-steps_in_range : (words : List Text) (n : ℕ) → fault_of tau_command words ≡ [] → number_of 32 (codes "steps") (matches_of tau_command words) ≡ Some n → (0 ≤ n) × (n ≤ 200000)
-unfolding clap_on_literals tau_command
-steps_in_range words n none e =
-    some_number 32 0 200000 false (one_of (codes "steps") (matches_of tau_command words)) n (lit< tt)
-    (λ t found. let r = one_read (built tau_command).top.rules (codes "steps") (matches_of tau_command words) _ t (rows_pass words none) refl found in (r.written, r.passes, r.is)) e
+use Rattle.tau_command.proofs.OptionLemmas.{workers_in_range, jobs_in_range, steps_in_range}
+use Rattle.tau_command.proofs.StormLemmas.{storm_in_range}
 
 -- four numbers, of which three lie in their ranges
 abbrev AreInRange : RunNumbers → Type 0
@@ -150,6 +83,10 @@ named_at false false false false false false false false false true draws run dr
 named_at false false false false false false false false false false true run draw number c f g e = g e
 named_at false false false false false false false false false false false run draw number c f g e = absurd (cc)
 
+storm_or_plain : (storms : Bool) (storm plain : Option Command) (c : Command) → (storm ≡ Some c → IsInRange c) → (plain ≡ Some c → IsInRange c) → cond storms storm plain ≡ Some c → IsInRange c
+storm_or_plain true storm plain c f g e = f e
+storm_or_plain false storm plain c f g e = g e
+
 allowed_at : (amiss : Bool) (o : Option Command) (c : Command) → (o ≡ Some c → IsInRange c) → cond amiss None o ≡ Some c → IsInRange c
 allowed_at true o c f e = absurd (cc)
 allowed_at false o c f e = f e
@@ -159,9 +96,10 @@ matched_at words None c none e = absurd (cc)
 matched_at words (Some name) c none e =
     let rows = matches_of tau_command words in
     allowed_at (stands_amiss name rows) (command_named name rows) c
+    (storm_or_plain (bytes_eq name (codes "storm")) (storm_of rows) (plain_named name rows) c (storm_in_range words c none)
     (named_at (bytes_eq name (codes "run")) (bytes_eq name (codes "check")) (bytes_eq name (codes "audit")) (bytes_eq name (codes "report")) (bytes_eq name (codes "print")) (bytes_eq name (codes "gen")) (bytes_eq name (codes "drill")) (bytes_eq name (codes "migrate")) (bytes_eq name (codes "why")) (bytes_eq name (codes "cut")) (bytes_eq name (codes "draw"))
     (run_of rows) (draw_of rows) (number_of 64 (codes "number") rows) c (run_in_range words c none)
-    (draw_at (number_of 32 (codes "from") rows) (number_of 32 (codes "to") rows) (number_of 64 (codes "number") rows) c)) e
+    (draw_at (number_of 32 (codes "from") rows) (number_of 32 (codes "to") rows) (number_of 64 (codes "number") rows) c))) e
 
 faultless_at : (kinds : Kinds) (o : Option Command) (c : Command) → (kinds ≡ [] → o ≡ Some c → IsInRange c) → where_faultless kinds o ≡ Some c → IsInRange c
 faultless_at [] o c f e = f refl e
@@ -201,7 +139,7 @@ journal_matched_at : (words : List Text) (name : Option Text) (c : JournalComman
 journal_matched_at words None c none e = absurd (cc)
 journal_matched_at words (Some name) c none e =
     let rows = matches_of tau_command words in
-    journal_allowed_at (has_window_option rows || stands (codes "number") rows) (journal_named name rows) c
+    journal_allowed_at (has_window_option rows || (has_storm_option rows || stands (codes "number") rows)) (journal_named name rows) c
     (journal_named_at (bytes_eq name (codes "keep")) (bytes_eq name (codes "resume")) (run_numbers rows) c (λ n. numbers_in_range words n none)) e
 
 journal_faultless_at : (kinds : Kinds) (o : Option JournalCommand) (c : JournalCommand) → (kinds ≡ [] → o ≡ Some c → IsInJournalRange c) → where_faultless kinds o ≡ Some c → IsInJournalRange c

@@ -39,12 +39,34 @@ from_rule = option_rule (codes "from") (Signed (pos 0) (pos 4294967295)) (codes 
 abbrev pub to_rule : Rule
 to_rule = option_rule (codes "to") (Signed (pos 0) (pos 4294967295)) (codes "4294967295")
 
--- two positionals and six options, with no program name among the words
+abbrev pub seeds_rule : Rule
+seeds_rule = option_rule (codes "seeds") (Signed (pos 1) (pos 1000000000)) (codes "100")
+
+abbrev pub fails_rule : Rule
+fails_rule = option_rule (codes "fails") (Signed (pos 0) (pos 16)) (codes "1")
+
+abbrev pub losses_rule : Rule
+losses_rule = option_rule (codes "losses") (Signed (pos 0) (pos 16)) (codes "0")
+
+abbrev pub repeats_rule : Rule
+repeats_rule = option_rule (codes "repeats") (Signed (pos 0) (pos 16)) (codes "0")
+
+abbrev pub every_rule : Rule
+every_rule = option_rule (codes "every") (Signed (pos 1) (pos 200000)) (codes "1")
+
+-- two options with no default: a text, and a number of 32 bits
+abbrev pub claim_rule : Rule
+claim_rule = record (new_rule (codes "claim")) { long = Some (codes "claim") }
+
+abbrev pub show_rule : Rule
+show_rule = record (new_rule (codes "show")) { long = Some (codes "show"); parser = Some (Signed (pos 0) (pos 4294967295)) }
+
+-- two positionals and thirteen options, with no program name among the words
 unfoldable pub tau_command : App
 tau_command = record {
   top = record (new_shape (codes "tau")) {
     no_binary_name = true;
-    rules = command_rule ∷ number_rule ∷ workers_rule ∷ jobs_rule ∷ seed_rule ∷ steps_rule ∷ from_rule ∷ to_rule ∷ [];
+    rules = command_rule ∷ number_rule ∷ workers_rule ∷ jobs_rule ∷ seed_rule ∷ steps_rule ∷ from_rule ∷ to_rule ∷ seeds_rule ∷ fails_rule ∷ losses_rule ∷ repeats_rule ∷ every_rule ∷ claim_rule ∷ show_rule ∷ [];
   };
   subs = [];
 }

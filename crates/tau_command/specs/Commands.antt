@@ -2,17 +2,18 @@
 use Rattle.std.specs.Prelude.{ℕ, ◌≤◌, Bool, true, false, not, ◌&&◌, ◌||◌, ◌^◌, List, [], ◌∷◌, Option, Some, None, find, codes}
 use Rattle.std.specs.Prelude.{if◌then◌else◌, nat_lt, option_map, option_and_then}
 use Rattle.std.specs.Str.{bytes_eq}
-use Rattle.std.specs.Str.Parse.{digits_value, without_leading_plus}
-use Rattle.clap.specs.ValueTests.{is_numeral}
-use Rattle.clap.specs.Words.{Kinds, Row, Text, fault_of, first_of, matches_of, one_of}
+use Rattle.clap.specs.Words.{Kinds, Row, Text, fault_of, first_of, matches_of}
 use Rattle.clap.specs.declared.parser.matches.ValueSource.{ValueSource}
 use Rattle.clap.specs.declared.parser.matches.ValueSource.TheVariants.{CommandLine}
 use Rattle.tau_command.specs.Arguments.{tau_command}
+use Rattle.tau_command.specs.Numbers.{number_of}
+use Rattle.tau_command.specs.Storms.{storm_of}
 use Rattle.tau_command.specs.declared.commands.Command.{Command}
-use Rattle.tau_command.specs.declared.commands.Command.TheVariants.{Run, Check, Audit, Report, Print, Gen, Drill, Migrate, Why, Cut, Draw}
+use Rattle.tau_command.specs.declared.commands.Command.TheVariants.{Run, Check, Audit, Report, Print, Gen, Drill, Migrate, Why, Cut, Draw, Storm}
 use Rattle.tau_command.specs.declared.commands.JournalCommand.{JournalCommand}
 use Rattle.tau_command.specs.declared.commands.JournalCommand.TheVariants.{Keep, Resume}
 use Rattle.tau_command.specs.declared.matched.RunNumbers.{RunNumbers}
+use Rattle.tau_command.specs.declared.storms.StormNumbers.{StormNumbers}
 
 -- ---- what the matches say
 
@@ -24,25 +25,19 @@ is_from_words source = false
 abbrev pub stands : Text → List Row → Bool
 stands id rows = is_from_words (option_and_then (λ r. r.source) (find (λ r. bytes_eq r.id id) rows))
 
--- an option of `run` stands on the line
-abbrev pub has_run_option : List Row → Bool
-has_run_option rows = stands (codes "workers") rows
-    || (stands (codes "jobs") rows || (stands (codes "seed") rows || stands (codes "steps") rows))
+-- an option of both `run` and `storm` stands on the line
+abbrev pub has_choice_option : List Row → Bool
+has_choice_option rows = stands (codes "jobs") rows || (stands (codes "seed") rows || stands (codes "steps") rows)
+
+-- an option of `storm` alone stands on the line
+abbrev pub has_storm_option : List Row → Bool
+has_storm_option rows = stands (codes "seeds") rows
+    || (stands (codes "fails") rows || (stands (codes "losses") rows || (stands (codes "repeats") rows
+    || (stands (codes "every") rows || (stands (codes "claim") rows || stands (codes "show") rows)))))
 
 -- an option of `draw` stands on the line
 abbrev pub has_window_option : List Row → Bool
 has_window_option rows = stands (codes "from") rows || stands (codes "to") rows
-
--- the number of at most so many bits that a text writes
-abbrev pub number_in : ℕ → Text → Option ℕ
-number_in bits text =
-    let digits = without_leading_plus text in
-    if is_numeral digits && nat_lt (digits_value 10 digits) (2 ^ bits)
-    then Some (digits_value 10 digits) else None
-
--- the number that an argument has, on the line or by its default
-abbrev pub number_of : ℕ → Text → List Row → Option ℕ
-number_of bits id rows = option_and_then (number_in bits) (one_of id rows)
 
 -- ---- the command
 
@@ -64,9 +59,9 @@ draw_of rows =
     option_and_then (λ from. option_map (λ to. Draw from to (number_of 64 (codes "number") rows))
     (number_of 32 (codes "to") rows)) (number_of 32 (codes "from") rows)
 
--- the command with a name; `gen`, `drill` and `why` have their number
-abbrev pub command_named : Text → List Row → Option Command
-command_named name rows = if bytes_eq name (codes "run") then run_of rows
+-- the command with a name that has at most numbers; `gen`, `drill` and `why` have theirs
+abbrev pub plain_named : Text → List Row → Option Command
+plain_named name rows = if bytes_eq name (codes "run") then run_of rows
     else (if bytes_eq name (codes "check") then Some Check
     else (if bytes_eq name (codes "audit") then Some Audit
     else (if bytes_eq name (codes "report") then Some Report
@@ -79,15 +74,21 @@ command_named name rows = if bytes_eq name (codes "run") then run_of rows
     else (if bytes_eq name (codes "draw") then draw_of rows
     else None))))))))))
 
+-- the command with a name
+abbrev pub command_named : Text → List Row → Option Command
+command_named name rows = if bytes_eq name (codes "storm") then storm_of rows else plain_named name rows
+
 -- a command with which a number may stand
 abbrev pub takes_number : Text → Bool
 takes_number name = bytes_eq name (codes "gen")
     || (bytes_eq name (codes "drill") || (bytes_eq name (codes "why") || bytes_eq name (codes "draw")))
 
--- an option of `run` or of `draw` stands with another command, or a number with one that takes none
+-- an option stands with a command that it doesn't go with, or a number with one that takes none
 abbrev pub stands_amiss : Text → List Row → Bool
-stands_amiss name rows = (has_run_option rows && not (bytes_eq name (codes "run")))
-    || ((has_window_option rows && not (bytes_eq name (codes "draw"))) || (stands (codes "number") rows && not (takes_number name)))
+stands_amiss name rows = (stands (codes "workers") rows && not (bytes_eq name (codes "run")))
+    || ((has_choice_option rows && (not (bytes_eq name (codes "run")) && not (bytes_eq name (codes "storm"))))
+    || ((has_window_option rows && not (bytes_eq name (codes "draw")))
+    || ((has_storm_option rows && not (bytes_eq name (codes "storm"))) || (stands (codes "number") rows && not (takes_number name)))))
 
 -- the command with a name, where what stands on the line goes with it
 abbrev pub command_allowed : List Row → Text → Option Command
@@ -115,9 +116,9 @@ journal_named name rows = if bytes_eq name (codes "keep") then option_map (λ n.
     else (if bytes_eq name (codes "resume") then option_map (λ n. Resume n.jobs n.seed n.steps) (run_numbers rows)
     else None)
 
--- the command with a name, where no number and no option of `draw` stands on the line
+-- the command with a name, where no number and no option of `draw` or of `storm` alone stands on the line
 abbrev pub journal_allowed : List Row → Text → Option JournalCommand
-journal_allowed rows name = if has_window_option rows || stands (codes "number") rows then None else journal_named name rows
+journal_allowed rows name = if has_window_option rows || (has_storm_option rows || stands (codes "number") rows) then None else journal_named name rows
 
 -- the command of the matches
 abbrev pub journal_matched : List Row → Option JournalCommand
@@ -130,9 +131,23 @@ journal_command_of words =
 
 -- ---- the ranges
 
--- the numbers of `run` lie in the ranges of its options
+-- the numbers of `storm` lie in the ranges of its options
+pub record AreStormNumbers (n : StormNumbers) : Type 0 where
+  pub some_jobs : 1 ≤ n.jobs
+  pub few_jobs : n.jobs ≤ 16
+  pub some_seeds : 1 ≤ n.seeds
+  pub few_seeds : n.seeds ≤ 1000000000
+  pub few_fails : n.fails ≤ 16
+  pub few_losses : n.losses ≤ 16
+  pub few_repeats : n.repeats ≤ 16
+  pub some_every : 1 ≤ n.every
+  pub few_every : n.every ≤ 200000
+  pub few_steps : n.steps ≤ 200000
+
+-- the numbers of `run` and of `storm` lie in the ranges of their options
 abbrev pub IsInRange : Command → Type 0
 IsInRange (Run workers jobs seed steps) = (1 ≤ workers) × (workers ≤ 32) × (1 ≤ jobs) × (jobs ≤ 16) × (steps ≤ 200000)
+IsInRange (Storm numbers question) = AreStormNumbers numbers
 IsInRange command = Unit {0}
 
 -- and those of a command over a journal

@@ -4,16 +4,16 @@ ghost use Rattle.clap.specs.Words.{fault_of, found_of, matches_of, rows_of};
 ghost use Rattle.tau_command.specs.Arguments.{tau_command};
 ghost use Rattle.tau_command.specs.Commands.{command_of, journal_command_of, IsInRange, IsInJournalRange};
 
-use crate::Words;
 use crate::arguments::tau_command;
 use crate::matched::{command_matched, journal_matched};
+use crate::{Question, StormNumbers, Words};
 use clap::ArgMatches;
 use clap::error::ErrorKind;
 use std::alloc::{AllocError, Global};
 use thiserror::Error;
 
 /// A command with its numbers (docs/formats.md, "Command line").
-#[derive(Clone, Copy, Debug, PartialEq, Eq)]
+#[derive(Debug, Drop)]
 pub enum Command {
     /// Runs a program, and writes its run text.
     Run {
@@ -61,6 +61,13 @@ pub enum Command {
         to: u32,
         /// The place of the step of which the picture tells the cause.
         ask: Option<u64>,
+    },
+    /// Makes the serial runs of many seeds with every placement of so many faults, and tells how they end.
+    Storm {
+        /// Which runs are made.
+        numbers: StormNumbers,
+        /// What is asked of them.
+        question: Question,
     },
 }
 
@@ -116,7 +123,8 @@ pub fn read_words(alloc: Global, words: &Words) -> Result<Command, WordsError>
     ensures words { IsErrOf result WordsError.Words → command_of words.now ≡ None }
 {
     let matches = match_words(alloc, words)?;
-    command_matched(&matches).ok_or(WordsError::Words)
+    let command = command_matched(alloc, &matches)?;
+    command.ok_or(WordsError::Words)
 }
 
 /// The command over a journal that the words of a command line name (docs/formats.md, "Command line"); `None` where they name none.

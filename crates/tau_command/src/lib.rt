@@ -5,6 +5,8 @@ mod arguments;
 mod commands;
 mod lines;
 mod matched;
+mod storms;
 
 pub use commands::{Command, JournalCommand, WordsError, read_journal_words, read_words};
 pub use lines::{Line, Words};
+pub use storms::{Question, StormNumbers};

@@ -1,11 +1,14 @@
 //! What the matches of `clap` say.
-ghost use Rattle.std.specs.Prelude.{◌≡◌};
+ghost use Rattle.std.specs.Prelude.{◌≡◌, IfOk};
 ghost use Rattle.clap.specs.Words.{found_of, rows_of};
-ghost use Rattle.tau_command.specs.Commands.{command_allowed, command_matched, command_named, draw_of, has_run_option, has_window_option, is_from_words, journal_allowed, journal_matched, journal_named, number_of, run_numbers, run_of, stands, stands_amiss, takes_number};
+ghost use Rattle.tau_command.specs.Numbers.{number_of};
+ghost use Rattle.tau_command.specs.Commands.{command_allowed, command_matched, command_named, draw_of, has_choice_option, has_storm_option, has_window_option, is_from_words, journal_allowed, journal_matched, journal_named, plain_named, run_numbers, run_of, stands, stands_amiss, takes_number};
 
+use crate::storms::storm_of;
 use crate::{Command, JournalCommand};
 use clap::ArgMatches;
 use clap::parser::ValueSource;
+use std::alloc::{AllocError, Global};
 
 /// The numbers of the options of `run`.
 #[derive(Clone, Copy)]
@@ -16,30 +19,42 @@ struct RunNumbers {
     steps: u32,
 }
 
-/// The command of the matches.
-pub fn command_matched(matches: &ArgMatches<'_>) -> Option<Command>
-    ensures { result ≡ command_matched (rows_of (found_of matches.now)) }
+/// The command of the matches. The error is want of memory.
+pub fn command_matched(
+    alloc: Global,
+    matches: &ArgMatches<'_>,
+) -> Result<Option<Command>, AllocError>
+    ensures { IfOk result (λ c. c ≡ command_matched (rows_of (found_of matches.now))) }
 {
-    command_allowed(matches.get_str("command")?, matches)
-}
-
-/// The command with this name, where what stands on the line goes with it.
-fn command_allowed(name: &str, matches: &ArgMatches<'_>) -> Option<Command>
-    ensures { result ≡ command_allowed (rows_of (found_of matches.now)) name.now }
-{
-    if stands_amiss(name, matches) {
-        None
-    } else {
-        command_named(name, matches)
+    match matches.get_str("command") {
+        Some(name) => command_allowed(alloc, name, matches),
+        None => Ok(None),
     }
 }
 
-/// Whether an option of `run` or of `draw` stands with another command, or a number with one that takes none.
+/// The command with this name, where what stands on the line goes with it. The error is want of memory.
+fn command_allowed(
+    alloc: Global,
+    name: &str,
+    matches: &ArgMatches<'_>,
+) -> Result<Option<Command>, AllocError>
+    ensures { IfOk result (λ c. c ≡ command_allowed (rows_of (found_of matches.now)) name.now) }
+{
+    if stands_amiss(name, matches) {
+        Ok(None)
+    } else {
+        command_named(alloc, name, matches)
+    }
+}
+
+/// Whether an option stands with a command that it doesn't go with, or a number with one that takes none.
 fn stands_amiss(name: &str, matches: &ArgMatches<'_>) -> bool
     ensures { result ≡ stands_amiss name.now (rows_of (found_of matches.now)) }
 {
-    (has_run_option(matches) && name != "run")
+    (stands(matches, "workers") && name != "run")
+        || (has_choice_option(matches) && name != "run" && name != "storm")
         || (has_window_option(matches) && name != "draw")
+        || (has_storm_option(matches) && name != "storm")
         || (stands(matches, "number") && !takes_number(name))
 }
 
@@ -50,9 +65,24 @@ fn takes_number(name: &str) -> bool
     name == "gen" || name == "drill" || name == "why" || name == "draw"
 }
 
-/// The command with this name.
-fn command_named(name: &str, matches: &ArgMatches<'_>) -> Option<Command>
-    ensures { result ≡ command_named name.now (rows_of (found_of matches.now)) }
+/// The command with this name. The error is want of memory.
+fn command_named(
+    alloc: Global,
+    name: &str,
+    matches: &ArgMatches<'_>,
+) -> Result<Option<Command>, AllocError>
+    ensures { IfOk result (λ c. c ≡ command_named name.now (rows_of (found_of matches.now))) }
+{
+    if name == "storm" {
+        storm_of(alloc, matches)
+    } else {
+        Ok(plain_named(name, matches))
+    }
+}
+
+/// The command with this name, where it has at most numbers.
+fn plain_named(name: &str, matches: &ArgMatches<'_>) -> Option<Command>
+    ensures { result ≡ plain_named name.now (rows_of (found_of matches.now)) }
 {
     match name {
         "run" => run_of(matches),
@@ -101,11 +131,11 @@ pub fn journal_matched(matches: &ArgMatches<'_>) -> Option<JournalCommand>
     journal_allowed(matches.get_str("command")?, matches)
 }
 
-/// The command over a journal with this name, where no number and no option of `draw` stands on the line.
+/// The command over a journal with this name, where no number and no option of `draw` or `storm` alone stands on the line.
 fn journal_allowed(name: &str, matches: &ArgMatches<'_>) -> Option<JournalCommand>
     ensures { result ≡ journal_allowed (rows_of (found_of matches.now)) name.now }
 {
-    if has_window_option(matches) || stands(matches, "number") {
+    if has_window_option(matches) || has_storm_option(matches) || stands(matches, "number") {
         None
     } else {
         journal_named(name, matches)
@@ -142,14 +172,24 @@ fn draw_of(matches: &ArgMatches<'_>) -> Option<Command>
     })
 }
 
-/// Whether an option of `run` stands on the line.
-fn has_run_option(matches: &ArgMatches<'_>) -> bool
-    ensures { result ≡ has_run_option (rows_of (found_of matches.now)) }
+/// Whether an option of both `run` and `storm` stands on the line.
+fn has_choice_option(matches: &ArgMatches<'_>) -> bool
+    ensures { result ≡ has_choice_option (rows_of (found_of matches.now)) }
 {
-    stands(matches, "workers")
-        || stands(matches, "jobs")
-        || stands(matches, "seed")
-        || stands(matches, "steps")
+    stands(matches, "jobs") || stands(matches, "seed") || stands(matches, "steps")
+}
+
+/// Whether an option of `storm` alone stands on the line.
+fn has_storm_option(matches: &ArgMatches<'_>) -> bool
+    ensures { result ≡ has_storm_option (rows_of (found_of matches.now)) }
+{
+    stands(matches, "seeds")
+        || stands(matches, "fails")
+        || stands(matches, "losses")
+        || stands(matches, "repeats")
+        || stands(matches, "every")
+        || stands(matches, "claim")
+        || stands(matches, "show")
 }
 
 /// Whether an option of `draw` stands on the line.
@@ -173,14 +213,14 @@ fn is_from_words(source: Option<ValueSource>) -> bool
 }
 
 /// The number of 32 bits that an argument has.
-fn short_number(matches: &ArgMatches<'_>, id: &str) -> Option<u32>
+pub(crate) fn short_number(matches: &ArgMatches<'_>, id: &str) -> Option<u32>
     ensures { result ≡ number_of 32 id.now (rows_of (found_of matches.now)) }
 {
     matches.get_one::<u32>(id)
 }
 
 /// The number of 64 bits that an argument has.
-fn long_number(matches: &ArgMatches<'_>, id: &str) -> Option<u64>
+pub(crate) fn long_number(matches: &ArgMatches<'_>, id: &str) -> Option<u64>
     ensures { result ≡ number_of 64 id.now (rows_of (found_of matches.now)) }
 {
     matches.get_one::<u64>(id)

@@ -4,7 +4,7 @@ use Rattle.clap.specs.Simple.{app_of_fields, on_top}
 use Rattle.clap.specs.Words.{AddsArg, App, Rule, app_of, new_app, rule_of, with_rule}
 use Rattle.clap.specs.declared.builder.arg.Arg.{Arg}
 use Rattle.clap.specs.declared.builder.command.Command.{Command}
-use Rattle.tau_command.specs.Arguments.{tau_command, command_rule, number_rule, workers_rule, jobs_rule, seed_rule, steps_rule, from_rule, to_rule}
+use Rattle.tau_command.specs.Arguments.{tau_command, command_rule, number_rule, workers_rule, jobs_rule, seed_rule, steps_rule, from_rule, to_rule, seeds_rule, fails_rule, losses_rule, repeats_rule, every_rule, claim_rule, show_rule}
 use Rattle.tau_command.proofs.arguments.tau_command.Goals as goal
 
 -- a command with one more argument
@@ -28,5 +28,12 @@ returns c =
     let fifth = added _ _ _ _ seed_rule c.in_ok-arg-5.ensures c.seed_argument.ensures.local c.seed_argument.ensures.rule fourth in
     let sixth = added _ _ _ _ steps_rule c.in_ok-arg-6.ensures c.steps_argument.ensures.local c.steps_argument.ensures.rule fifth in
     let seventh = added _ _ _ _ from_rule c.in_ok-arg-7.ensures c.from_argument.ensures.local c.from_argument.ensures.rule sixth in
-    IfOk-weaker c.arg-8.result _ _
-    (λ r adds. added _ _ r _ to_rule adds c.to_argument.ensures.local c.to_argument.ensures.rule seventh) c.arg-8.ensures
+    let eighth = added _ _ _ _ to_rule c.in_ok-arg-8.ensures c.to_argument.ensures.local c.to_argument.ensures.rule seventh in
+    let ninth = added _ _ _ _ seeds_rule c.in_ok-arg-9.ensures c.seeds_argument.ensures.local c.seeds_argument.ensures.rule eighth in
+    let tenth = added _ _ _ _ fails_rule c.in_ok-arg-10.ensures c.fails_argument.ensures.local c.fails_argument.ensures.rule ninth in
+    let eleventh = added _ _ _ _ losses_rule c.in_ok-arg-11.ensures c.losses_argument.ensures.local c.losses_argument.ensures.rule tenth in
+    let twelfth = added _ _ _ _ repeats_rule c.in_ok-arg-12.ensures c.repeats_argument.ensures.local c.repeats_argument.ensures.rule eleventh in
+    let thirteenth = added _ _ _ _ every_rule c.in_ok-arg-13.ensures c.every_argument.ensures.local c.every_argument.ensures.rule twelfth in
+    let fourteenth = added _ _ _ _ claim_rule c.in_ok-arg-14.ensures c.claim_argument.ensures.local c.claim_argument.ensures.rule thirteenth in
+    IfOk-weaker c.arg-15.result _ _
+    (λ r adds. added _ _ r _ show_rule adds c.show_argument.ensures.local c.show_argument.ensures.rule fourteenth) c.arg-15.ensures

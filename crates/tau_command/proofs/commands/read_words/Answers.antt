@@ -11,20 +11,20 @@ returns-in_err-matches-clause-words c = λ is. refused _ (c.in_err-matches.ensur
 pub returns-clause-command : goal.returns-clause-command
 returns-clause-command c =
     let matched = c.in_ok-matches.ensures.matched in
-    let named : command_of c.args.words.now ≡ c.command_matched.result =
-    accepted _ matched.0 ∙ (ap command_matched (sym matched.1) ∙ sym c.command_matched.ensures) in
+    let named : command_of c.args.words.now ≡ c.in_ok-command.command =
+    accepted _ matched.0 ∙ (ap command_matched (sym matched.1) ∙ sym c.in_ok-command.ensures) in
     rw named (search rules)
 
 pub returns-clause-words : goal.returns-clause-words
 returns-clause-words c =
     let matched = c.in_ok-matches.ensures.matched in
-    let named : command_of c.args.words.now ≡ c.command_matched.result =
-    accepted _ matched.0 ∙ (ap command_matched (sym matched.1) ∙ sym c.command_matched.ensures) in
+    let named : command_of c.args.words.now ≡ c.in_ok-command.command =
+    accepted _ matched.0 ∙ (ap command_matched (sym matched.1) ∙ sym c.in_ok-command.ensures) in
     rw named (search rules)
 
 pub returns-clause-ranges : goal.returns-clause-ranges
 returns-clause-ranges c =
     let matched = c.in_ok-matches.ensures.matched in
-    let named : command_of c.args.words.now ≡ c.command_matched.result =
-    accepted _ matched.0 ∙ (ap command_matched (sym matched.1) ∙ sym c.command_matched.ensures) in
-    ok_in_range c.args.words.now c.command_matched.result _ c.ok_or.result c.ok_or.ensures.value named
+    let named : command_of c.args.words.now ≡ c.in_ok-command.command =
+    accepted _ matched.0 ∙ (ap command_matched (sym matched.1) ∙ sym c.in_ok-command.ensures) in
+    ok_in_range c.args.words.now c.in_ok-command.command _ c.ok_or.result c.ok_or.ensures.value named

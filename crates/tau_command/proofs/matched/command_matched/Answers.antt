@@ -1,4 +1,5 @@
 use Rattle.std.proofs.Common.{◌≡◌, ◌∙◌, List, Option, ap, sym, codes}
+use Rattle.std.proofs.lemmas.Result.{IfOk-weaker}
 use Rattle.std.specs.Prelude.{option_and_then, option_map}
 use Rattle.std.specs.Borrow.{Bor}
 use Rattle.clap.specs.Words.{Row, Text, first_of, found_of, rows_of}
@@ -13,12 +14,12 @@ by_name rows name o found is =
     ap (λ (n : Option (Bor Text)). option_and_then (command_allowed rows) (option_map (λ s. s.now) n)) (sym is)
     ∙ ap (option_and_then (command_allowed rows)) found
 
-pub returns-in_err-get_str : goal.returns-in_err-get_str
-returns-in_err-get_str c =
+pub returns-in-Some : goal.returns-in-Some
+returns-in-Some c =
     let found = c.get_str.ensures ∙ first_value-rows (found_of c.args.matches.now) (codes "command") in
-    c.from_residual.ensures ∙ by_name (rows_of (found_of c.args.matches.now)) _ _ found c.in_err-get_str.was
+    IfOk-weaker c.command_allowed.result _ _ (λ o e. e ∙ by_name (rows_of (found_of c.args.matches.now)) _ _ found c.in-Some.is) c.command_allowed.ensures
 
-pub returns : goal.returns
-returns c =
+pub returns-in-None : goal.returns-in-None
+returns-in-None c =
     let found = c.get_str.ensures ∙ first_value-rows (found_of c.args.matches.now) (codes "command") in
-    c.command_allowed.ensures ∙ by_name (rows_of (found_of c.args.matches.now)) _ _ found c.in_ok-get_str.was
+    by_name (rows_of (found_of c.args.matches.now)) _ _ found c.in-None.is

@@ -3,7 +3,7 @@ use Rattle.std.specs.Prelude.{option_and_then}
 use Rattle.std.specs.Str.Parse.{ExplainsUnsignedError, HasUnsignedDigitsIfOk, ParsesUnsigned}
 use Rattle.clap.specs.Words.{found_of}
 use Rattle.clap.proofs.WalkLemmas.{one_text-rows}
-use Rattle.tau_command.specs.Commands.{number_in}
+use Rattle.tau_command.specs.Numbers.{number_in}
 use Rattle.tau_command.proofs.NumberLemmas.{number_got}
 use Rattle.tau_command.proofs.matched.short_number.Goals as goal
 
