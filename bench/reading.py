@@ -20,7 +20,7 @@ from pathlib import Path
 ROOT = Path(__file__).resolve().parent.parent
 CRATES = ROOT / "crates"
 DOCUMENT = ROOT / "docs" / "reading.md"
-USE = re.compile(r"^\s*(?:ghost )?use Rattle\.(\w+)\.specs\.([\w.]+?)(?:\.\{([^}]*)\}| as (\w+));?\s*$", re.M)
+USE = re.compile(r"^\s*(?:ghost |pub )?use Rattle\.(\w+)\.specs\.([\w.]+?)(?:\.\{([^}]*)\}| as (\w+));?\s*$", re.M)
 RUST_USE = re.compile(r"^use (\w+)::(?:\w+::)*(?:\{([^}]*)\}|(\w+));", re.M)
 HEAD = re.compile(r"^(?:(?:abbrev|unfoldable)(?: pub)?|(?:pub )?(?:data|record)) (?P<kind>\S+)|^(?:pub )?(?P<law>\S+) :|^mutual$")
 INNER_HEAD = re.compile(r"^  pub (?:data |record )?(\S+) ", re.M)
@@ -102,7 +102,7 @@ def blocks_of(text):
     """The blocks of a file of definitions."""
     blocks = []
     for line in text.splitlines():
-        if not line.strip() or line.startswith("use ") or line.lstrip().startswith("--"):
+        if not line.strip() or line.startswith(("use ", "pub use ")) or line.lstrip().startswith("--"):
             continue
         head = HEAD.match(line)
         if head:

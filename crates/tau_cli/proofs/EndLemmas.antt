@@ -3,7 +3,7 @@ use Rattle.std.proofs.Common.{◌≡◌, ◌≢◌, ◌⊎◌, inl, inr, ℕ, Li
 use Rattle.std.specs.Io.KnownBytes.{Appends}
 use Rattle.tau_io.specs.Put.{AppendsFront}
 use Rattle.tau_command.specs.declared.commands.Command.{Command}
-use Rattle.tau_command.specs.declared.commands.Command.TheVariants.{Run, Check, Audit, Report, Print, Gen, Drill, Migrate, Why, Cut, Draw}
+use Rattle.tau_command.specs.declared.commands.Command.TheVariants.{Run, Check, Audit, Report, Print, Gen, Drill, Migrate, Why, Cut, Draw, Storm}
 use Rattle.tau_command.specs.Commands.{command_of}
 use Rattle.tau_output.specs.declared.outputs.End.{End}
 use Rattle.tau_output.specs.declared.outputs.End.TheVariants as ends
@@ -11,15 +11,18 @@ use Rattle.tau_output.specs.declared.outputs.Output.{Output}
 use Rattle.tau_output.specs.declared.refusals.Refusal.{Refusal}
 use Rattle.tau_output.specs.declared.refusals.Refusal.TheVariants as refusals
 use Rattle.tau_output.specs.Faults.{reads_input, IsInputFault, too_long, within}
-use Rattle.tau_output.specs.Refusals.{TellsFault, TellsNotAsked}
+use Rattle.tau_output.specs.declared.refusals.Wanted.{Wanted}
+use Rattle.tau_output.specs.declared.refusals.Wanted.TheVariants as wants
+use Rattle.tau_output.specs.Refusals.{TellsFault, TellsLacking}
 use Rattle.tau_output.specs.Asking.{AsksInVain}
 use Rattle.tau_cli.specs.declared.calls.Asked.{Asked}
 use Rattle.tau_cli.specs.declared.statuses.Status.{Status}
-use Rattle.tau_cli.specs.declared.statuses.Status.TheVariants.{Words, Input, ReadFault, WriteFault, NoMemory, Place}
-use Rattle.tau_cli.specs.Status.{of_end, of_refusal, IsRefusal, IsResult, TellsOfDisk}
+use Rattle.tau_cli.specs.declared.statuses.Status.TheVariants.{Words, Input, ReadFault, WriteFault, NoMemory}
+use Rattle.tau_cli.specs.Status.{of_end, of_refusal, of_wanted, IsRefusal, IsResult, TellsOfDisk}
 use Rattle.tau_cli.specs.Output.{Writing, IsEndOf, IsOutput, Stops, IsUnlessUnread}
-use Rattle.tau_cli.specs.Ends.{Effect, Asks, Tells, Ends}
-use Rattle.tau_cli.proofs.OutputLemmas.{Refuses, asked_reads, output_left, left_told, never_told, place_told, stops_without_fault, stops_no_disk}
+use Rattle.tau_cli.specs.Ends.{Effect, Ends}
+use Rattle.tau_cli.specs.Halves.{Asks, Tells}
+use Rattle.tau_cli.proofs.OutputLemmas.{Refuses, asked_reads, output_left, left_told, never_told, wanted_told, wanted_other, wanted_no_result, stops_lacking, stops_without_fault, stops_no_disk}
 
 -- What a command that has a fault reads.
 faulty_reads : (command : Command) (bytes : List ℕ) (fault at : ℕ) → IsInputFault command bytes fault at → IsTrue (reads_input command)
@@ -35,6 +38,7 @@ faulty_reads Migrate bytes fault at (within l h) = refl
 faulty_reads (Why place) bytes fault at (within l h) = refl
 faulty_reads Cut bytes fault at (within l h) = refl
 faulty_reads (Draw from to ask) bytes fault at (within l h) = refl
+faulty_reads (Storm numbers question) bytes fault at (within l h) = refl
 
 -- The status of a text that was written.
 end_result : (end : End) → IsResult (of_end end)
@@ -42,18 +46,21 @@ end_result ends.Done = tt
 end_result ends.Stopped = tt
 end_result (ends.Bad place) = tt
 end_result (ends.Broken checkpoint point fall) = tt
+end_result ends.Claimed = tt
 
 end_unrefused : (end : End) → ¬ IsRefusal (of_end end)
 end_unrefused ends.Done h = absurd h
 end_unrefused ends.Stopped h = absurd h
 end_unrefused (ends.Bad place) h = absurd h
 end_unrefused (ends.Broken checkpoint point fall) h = absurd h
+end_unrefused ends.Claimed h = absurd h
 
 end_no_disk : (end : End) → ¬ TellsOfDisk (of_end end)
 end_no_disk ends.Done h = absurd h
 end_no_disk ends.Stopped h = absurd h
 end_no_disk (ends.Bad place) h = absurd h
 end_no_disk (ends.Broken checkpoint point fall) h = absurd h
+end_no_disk ends.Claimed h = absurd h
 
 -- that a call refuses with this fault, or wants memory
 abbrev pub TellsOf : Result Output Refusal → ℕ → ℕ → Type 0
@@ -68,8 +75,8 @@ pub record Finds (W : Writing) (command : Command) (bytes : List ℕ) (r : Resul
   pub output : IfOk r (λ o. W command bytes o.end o.text.items)
   pub fault : IfErr r (TellsFault (IsInputFault command bytes))
   pub faulty : (fault at : ℕ) → IsInputFault command bytes fault at → TellsOf r fault at
-  pub not_asked : IfErr r (TellsNotAsked (AsksInVain command bytes))
-  pub unasked : (place : ℕ) → AsksInVain command bytes place → Refuses r place
+  pub lacking : IfErr r (TellsLacking (AsksInVain command bytes))
+  pub in_vain : (wanted : Wanted) → AsksInVain command bytes wanted → Refuses r wanted
 
 module _ (W : Writing) (line : List (List ℕ)) (source sink : Effect) where
   -- nothing was asked
@@ -83,7 +90,7 @@ module _ (W : Writing) (line : List (List ℕ)) (source sink : Effect) where
     untouched = search rules;
     input = search rules;
     faulty = search rules;
-    place = search rules;
+    lacking = λ wanted is. stops_lacking s line source.before source.Stayed source.Failed wanted a.status is;
     unasked = a.unasked;
     unwritten = search rules;
     written = search rules;
@@ -111,16 +118,16 @@ module _ (W : Writing) (line : List (List ℕ)) (source sink : Effect) where
         subst (λ c. IsInputFault c asked.bytes.items fault at) (sym (named command e))
         (subst (λ b. IsInputFault command b fault at) (sym (read command bytes e l (faulty_reads command bytes fault at h))) h)
 
-    unasked_read : (command : Command) (bytes : List ℕ) (place : ℕ) → command_of line ≡ Some command → source.before ≡ Some bytes → AsksInVain command bytes place
-        → AsksInVain asked.command asked.bytes.items place
-    unasked_read command bytes place e l h =
-        subst (λ c. AsksInVain c asked.bytes.items place) (sym (named command e))
-        (subst (λ b. AsksInVain command b place) (sym (read command bytes e l (asked_reads command place h.asks))) h)
+    unasked_read : (command : Command) (bytes : List ℕ) (wanted : Wanted) → command_of line ≡ Some command → source.before ≡ Some bytes → AsksInVain command bytes wanted
+        → AsksInVain asked.command asked.bytes.items wanted
+    unasked_read command bytes wanted e l h =
+        subst (λ c. AsksInVain c asked.bytes.items wanted) (sym (named command e))
+        (subst (λ b. AsksInVain command b wanted) (sym (read command bytes e l (asked_reads command wanted h.wants))) h)
 
     -- and an output was found
     module _ (o : Output) (w : W asked.command asked.bytes.items o.end o.text.items) (ends : IsEndOf asked.command (of_end o.end))
         (faultless : (fault at : ℕ) → IsInputFault asked.command asked.bytes.items fault at → TellsOf (Ok o) fault at)
-        (decided : (place : ℕ) → AsksInVain asked.command asked.bytes.items place → Refuses (Ok o) place) where
+        (decided : (wanted : Wanted) → AsksInVain asked.command asked.bytes.items wanted → Refuses (Ok o) wanted) where
       output : IsOutput W line source.before (of_end o.end) o.text.items
       output = output_left W line source.before asked.command asked.bytes.items o.end o.text.items a.command a.left w
 
@@ -130,8 +137,8 @@ module _ (W : Writing) (line : List (List ℕ)) (source sink : Effect) where
         never (inl x) = cc
         never (inr x) = cc
 
-      no_place : (command : Command) (bytes : List ℕ) (place : ℕ) → command_of line ≡ Some command → source.before ≡ Some bytes → AsksInVain command bytes place → ⊥
-      no_place command bytes place e l h = never_told o place (decided place (unasked_read command bytes place e l h))
+      no_lack : (command : Command) (bytes : List ℕ) (wanted : Wanted) → command_of line ≡ Some command → source.before ≡ Some bytes → AsksInVain command bytes wanted → ⊥
+      no_lack command bytes wanted e l h = never_told o wanted (decided wanted (unasked_read command bytes wanted e l h))
 
       other : (s : Status) → ¬ IsResult s → of_end o.end ≢ s
       other s none e = none (subst IsResult e (end_result o.end))
@@ -146,8 +153,8 @@ module _ (W : Writing) (line : List (List ℕ)) (source sink : Effect) where
         untouched = λ command e r. (a.untouched command e r, other ReadFault (λ x. x));
         input = λ fault at e. absurd (other (Input fault at) (λ x. x) e);
         faulty = λ command bytes fault at e l h. absurd (no_fault command bytes fault at e l h);
-        place = λ place e. absurd (other (Place place) (λ x. x) e);
-        unasked = λ command bytes place e l h. absurd (no_place command bytes place e l h);
+        lacking = λ wanted e. absurd (other (of_wanted wanted) (wanted_no_result wanted) e);
+        unasked = λ command bytes wanted e l h. absurd (no_lack command bytes wanted e l h);
         unwritten = λ is. absurd (end_unrefused o.end is);
         written = λ is. (o.text.items, output, appended);
         write_fault = λ e. absurd (other WriteFault (λ x. x) e);
@@ -166,8 +173,8 @@ module _ (W : Writing) (line : List (List ℕ)) (source sink : Effect) where
         untouched = λ command e r. (a.untouched command e r, λ x. absurd (cc));
         input = λ fault at e. absurd (cc);
         faulty = λ command bytes fault at e l h. absurd (no_fault command bytes fault at e l h);
-        place = λ place e. absurd (cc);
-        unasked = λ command bytes place e l h. absurd (no_place command bytes place e l h);
+        lacking = λ wanted e. absurd (wanted_other wanted WriteFault (λ x. x) (sym e));
+        unasked = λ command bytes wanted e l h. absurd (no_lack command bytes wanted e l h);
         unwritten = λ is. absurd is;
         written = λ is. absurd is;
         write_fault = λ e. fails;
@@ -186,8 +193,8 @@ module _ (W : Writing) (line : List (List ℕ)) (source sink : Effect) where
         untouched = λ command e r. (a.untouched command e r, λ x. absurd (cc));
         input = λ fault at e. absurd (cc);
         faulty = λ command bytes fault at e l h. inr (inr refl);
-        place = λ place e. absurd (cc);
-        unasked = λ command bytes place e l h. inr (inr refl);
+        lacking = λ wanted e. absurd (wanted_other wanted NoMemory (λ x. x) (sym e));
+        unasked = λ command bytes wanted e l h. inr (inr refl);
         unwritten = λ is. absurd is;
         written = λ is. absurd is;
         write_fault = λ e. absurd (cc);
@@ -197,30 +204,34 @@ module _ (W : Writing) (line : List (List ℕ)) (source sink : Effect) where
       }
 
     -- why a refusal stops
-    refusal_stops : (e : Refusal) → TellsFault (IsInputFault asked.command asked.bytes.items) e → TellsNotAsked (AsksInVain asked.command asked.bytes.items) e
+    refusal_stops : (e : Refusal) → TellsFault (IsInputFault asked.command asked.bytes.items) e → TellsLacking (AsksInVain asked.command asked.bytes.items) e
         → Stops line source.before source.Stayed source.Failed (of_refusal e)
     refusal_stops (refusals.Fault fault at) h n =
         record { command = asked.command; is_command = a.command; bytes = asked.bytes.items; are_left = a.left (faulty_reads asked.command asked.bytes.items fault at h); has_fault = h }
-    refusal_stops (refusals.NotAsked place) h n =
-        record { command = asked.command; is_command = a.command; bytes = asked.bytes.items; are_left = a.left (asked_reads asked.command place n.asks); in_vain = n }
+    refusal_stops (refusals.Lacking (wants.Step place)) h n =
+        record { command = asked.command; is_command = a.command; bytes = asked.bytes.items; are_left = a.left (asked_reads asked.command (wants.Step place) n.wants); in_vain = n }
+    refusal_stops (refusals.Lacking wants.Behaviour) h n =
+        record { command = asked.command; is_command = a.command; bytes = asked.bytes.items; are_left = a.left (asked_reads asked.command wants.Behaviour n.wants); in_vain = n }
+    refusal_stops (refusals.Lacking wants.Outcome) h n =
+        record { command = asked.command; is_command = a.command; bytes = asked.bytes.items; are_left = a.left (asked_reads asked.command wants.Outcome n.wants); in_vain = n }
     refusal_stops refusals.NoMemory h n = tt
 
   -- what was told
   pub told : (asked : Asked) (r : Result Output Refusal) (status : Status) → Asks line source (Ok asked) → Finds W asked.command asked.bytes.items r
       → ((end : End) (text : List ℕ) → W asked.command asked.bytes.items end text → IsEndOf asked.command (of_end end)) → Tells r sink status → Ends W line source sink status
   told asked (Ok o) status a f ends (inl t) =
-      subst (Ends W line source sink) (sym t.0) (whole asked a o f.output (ends o.end o.text.items f.output) f.faulty f.unasked t.1)
+      subst (Ends W line source sink) (sym t.0) (whole asked a o f.output (ends o.end o.text.items f.output) f.faulty f.in_vain t.1)
   told asked (Ok o) status a f ends (inr (inl t)) =
-      subst (Ends W line source sink) (sym t.0) (failed asked a o f.output (ends o.end o.text.items f.output) f.faulty f.unasked t.1 t.2)
+      subst (Ends W line source sink) (sym t.0) (failed asked a o f.output (ends o.end o.text.items f.output) f.faulty f.in_vain t.1 t.2)
   told asked (Ok o) status a f ends (inr (inr t)) =
-      subst (Ends W line source sink) (sym t.0) (short asked a o f.output (ends o.end o.text.items f.output) f.faulty f.unasked t.1)
+      subst (Ends W line source sink) (sym t.0) (short asked a o f.output (ends o.end o.text.items f.output) f.faulty f.in_vain t.1)
   told asked (Err e) status a f ends t = subst (Ends W line source sink) (sym t.0) (stopped (of_refusal e) (record {
     command = tt;
     limit = tt;
     left = tt;
     few = tt;
-    status = refusal_stops asked a e f.fault f.not_asked;
+    status = refusal_stops asked a e f.fault f.lacking;
     untouched = a.untouched;
     faulty = λ command bytes fault at c l h. fault_told e fault at (f.faulty fault at (fault_read asked a command bytes fault at c l h));
-    unasked = λ command bytes place c l h. place_told e (of_refusal e) place refl (f.unasked place (unasked_read asked a command bytes place c l h));
+    unasked = λ command bytes wanted c l h. wanted_told e (of_refusal e) wanted refl (f.in_vain wanted (unasked_read asked a command bytes wanted c l h));
   }) t.1)

@@ -1,3 +1,4 @@
 pub mod Status
 pub mod Output
 pub mod Ends
+pub mod Halves

@@ -2,16 +2,19 @@
 use Rattle.std.specs.Prelude.{◌≡◌, ◌⊎◌, ℕ, ◌<◌, IsTrue, List, length, Option, Some, None}
 use Rattle.tau_points.specs.declared.point.Point.{Point}
 use Rattle.tau_command.specs.declared.commands.Command.{Command}
-use Rattle.tau_command.specs.declared.commands.Command.TheVariants.{Run, Check, Audit, Report, Print, Gen, Drill, Migrate, Why, Cut, Draw}
+use Rattle.tau_command.specs.declared.commands.Command.TheVariants.{Run, Check, Audit, Report, Print, Gen, Drill, Migrate, Why, Cut, Draw, Storm}
 use Rattle.tau_command.specs.Commands.{command_of}
 use Rattle.tau_output.specs.declared.outputs.End.{End}
 use Rattle.tau_output.specs.Faults.{input_limit, reads_input, IsInputFault}
 use Rattle.tau_output.specs.Asking.{AsksInVain}
+use Rattle.tau_output.specs.declared.refusals.Wanted.{Wanted}
+use Rattle.tau_output.specs.declared.refusals.Wanted.TheVariants.{Step, Behaviour, Outcome}
+use Rattle.tau_command.specs.declared.storms.Question.TheVariants.{Outcomes, Claim, Show}
 use Rattle.tau_cli.specs.declared.statuses.Status.{Status}
-use Rattle.tau_cli.specs.declared.statuses.Status.TheVariants.{Done, Stopped, Words, Input, Bad, ReadFault, NoMemory, Broken, Place}
+use Rattle.tau_cli.specs.declared.statuses.Status.TheVariants.{Done, Stopped, Words, Input, Bad, ReadFault, NoMemory, Broken, Place, Claim as Broken_claim, NoClaim, NoOutcome}
 use Rattle.tau_cli.specs.Status.{of_end}
 
--- how a command ends where its input has no fault and nothing fails; `why` and `draw` may ask in vain for a place
+-- how a command ends where its input has no fault and nothing fails; `why`, `draw` and `storm` may ask in vain
 abbrev pub IsEndOf : Command → Status → Type 0
 IsEndOf (Run workers jobs seed steps) status = (status ≡ Done) ⊎ (status ≡ Stopped)
 IsEndOf Check status = (status ≡ Done) ⊎ ((place : ℕ) × (status ≡ Bad place))
@@ -24,6 +27,9 @@ IsEndOf Migrate status = (status ≡ Done) ⊎ ((place : ℕ) × (status ≡ Bad
 IsEndOf (Why place) status = (status ≡ Done) ⊎ (status ≡ Place place)
 IsEndOf Cut status = status ≡ Done
 IsEndOf (Draw from to ask) status = (status ≡ Done) ⊎ ((place : ℕ) × (ask ≡ Some place) × (status ≡ Place place))
+IsEndOf (Storm numbers Outcomes) status = status ≡ Done
+IsEndOf (Storm numbers (Claim name)) status = (status ≡ Done) ⊎ ((status ≡ Broken_claim) ⊎ (status ≡ NoClaim))
+IsEndOf (Storm numbers (Show outcome)) status = (status ≡ Done) ⊎ (status ≡ NoOutcome)
 
 -- the bytes are those that a source had left, where it tells them
 abbrev pub AreLeft : Option (List ℕ) → List ℕ → Type 0
@@ -58,13 +64,13 @@ pub record IsFaulty (words : List (List ℕ)) (left : Option (List ℕ)) (fault 
   pub are_left : AreLeft left bytes
   pub has_fault : IsInputFault command bytes fault at
 
--- the command of the words asks for this place in vain, in the run that the source had left
-pub record IsUnasked (words : List (List ℕ)) (left : Option (List ℕ)) (place : ℕ) : Type 0 where
+-- the command of the words wants this in vain of the bytes that the source had left
+pub record IsUnasked (words : List (List ℕ)) (left : Option (List ℕ)) (wanted : Wanted) : Type 0 where
   pub command : Command
   pub is_command : command_of words ≡ Some command
   pub bytes : List ℕ
   pub are_left : AreLeft left bytes
-  pub in_vain : AsksInVain command bytes place
+  pub in_vain : AsksInVain command bytes wanted
 
 -- the words name a command that reads an input
 pub record NamesReader (words : List (List ℕ)) : Type 0 where
@@ -77,7 +83,9 @@ abbrev pub Stops : List (List ℕ) → Option (List ℕ) → Type 0 → Type 0 �
 Stops words left Unread Failed Words = (command_of words ≡ None) × Unread
 Stops words left Unread Failed (Input fault at) = IsFaulty words left fault at
 Stops words left Unread Failed ReadFault = NamesReader words × Failed
-Stops words left Unread Failed (Place place) = IsUnasked words left place
+Stops words left Unread Failed (Place place) = IsUnasked words left (Step place)
+Stops words left Unread Failed NoClaim = IsUnasked words left Behaviour
+Stops words left Unread Failed NoOutcome = IsUnasked words left Outcome
 Stops words left Unread Failed NoMemory = Unit {0}
 Stops words left Unread Failed status = ⊥
 

@@ -3,7 +3,8 @@ ghost use Rattle.std.specs.Prelude.{◌≡◌, ◌<◌, ◌≤◌, false, IfOk, 
 ghost use Rattle.tau_io.specs.Faults.{HasRisen};
 ghost use Rattle.tau_output.specs.Faults.{input_limit, reads_input as reads};
 ghost use Rattle.tau_output.specs.Writing.{Writes, WritesSerially};
-ghost use Rattle.tau_cli.specs.Ends.{Ends, Asks, Tells, effect_on};
+ghost use Rattle.tau_cli.specs.Ends.{Ends, effect_on};
+ghost use Rattle.tau_cli.specs.Halves.{Asks, Tells};
 ghost use Rattle.tau_cli.specs.Output.{AreLeft, IsTooLong};
 
 use crate::Status;
@@ -12,8 +13,7 @@ use std::sync::Wait;
 use std::thread::Threads;
 use tau_command::{Command, Words, read_words};
 use tau_io::{ReadError, Sink, Source, WriteError, read_all, write_all_of};
-use tau_output::{INPUT_LIMIT, Output, Refusal, output_by_workers, output_of, reads_input};
-use tau_workers::Gate;
+use tau_output::{Gate, INPUT_LIMIT, Output, Refusal, output_by_workers, output_of, reads_input};
 
 /// Does what the words of a command line ask for: reads the input of their command, which is at most 16 MiB, and writes
 /// its text, in one call of `write_all_of`. It does all on the caller's thread, and starts no other.
@@ -22,8 +22,9 @@ use tau_workers::Gate;
 /// `resume` don't in this call, which has no disk, and then
 /// nothing is read; `ReadFault` only where the source's count of faults rose; `Input` exactly where the input has a fault,
 /// the first one (docs/formats.md, "Input faults"); `Place` exactly where `why` asks for a place at which no Hold, Drop or Fall stands,
-/// or `draw` for one at which no Checkpoint stands either that can't be kept. After these nothing is written. `Done`, `Stopped`, `Bad`
-/// and `Broken` where the whole text was written: with `run` the run text of the input's program and a legal run, which is complete
+/// or `draw` for one at which no Checkpoint stands either that can't be kept; `NoClaim` exactly where `storm` claims a behaviour that the
+/// program hasn't, and `NoOutcome` where it is to show an outcome that there isn't. After these nothing is written. `Done`, `Stopped`,
+/// `Bad`, `Broken` and `Claim` where the whole text was written: with `run` the run text of the input's program and a legal run, which is complete
 /// with `Done`, and has exactly as many steps as its limit and isn't complete with `Stopped`; with `check` the line for the
 /// first step that isn't legal with `Bad`, and with `audit` the line for the first checkpoint that isn't safe with `Broken`; with
 /// `migrate` the run text of the same steps in version 2, where each is legal, and with `Bad` the line for the first that isn't; with

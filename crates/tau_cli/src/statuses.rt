@@ -7,7 +7,7 @@ use std::fmt;
 use tau_command::WordsError;
 use tau_io::ReadError;
 use tau_journal::JournalError;
-use tau_output::{End, INPUT_LIMIT, Refusal};
+use tau_output::{End, INPUT_LIMIT, Refusal, Wanted};
 use tau_points::Point;
 use tau_text::{InputError, InputFault};
 
@@ -53,6 +53,12 @@ pub enum Status {
     Place {
         place: u64,
     },
+    /// The whole text was written, of a storm: the claim is broken at an end, whose run text it is.
+    Claim,
+    /// The program of a storm has no behaviour with the name of the claim; nothing was written.
+    NoClaim,
+    /// The storm has no outcome with the number that is asked for; nothing was written.
+    NoOutcome,
 }
 
 /// The number of a status, with which the process ends (docs/formats.md, "Statuses").
@@ -72,6 +78,8 @@ pub fn number(status: &Status) -> u8
         Status::Journal { .. } => 9,
         Status::DiskFault => 10,
         Status::Place { .. } => 11,
+        Status::Claim => 12,
+        Status::NoClaim | Status::NoOutcome => 13,
     }
 }
 
@@ -95,6 +103,7 @@ impl From<End> for Status {
                 point,
                 fall,
             },
+            End::Claimed => Status::Claim,
         }
     }
 }
@@ -180,8 +189,23 @@ impl From<Refusal> for Status {
     fn from(refusal: Refusal) -> Status {
         match refusal {
             Refusal::Fault { fault, at } => Status::Input { fault, at },
-            Refusal::NotAsked { place } => Status::Place { place },
+            Refusal::Lacking { wanted } => Status::from(wanted),
             Refusal::NoMemory => Status::NoMemory,
+        }
+    }
+}
+
+impl From<Wanted> for Status {
+    ghost use Rattle.std.specs.Prelude.{◌≡◌};
+    ghost use Rattle.tau_cli.specs.Status.{of_wanted};
+
+    ghost from_gives = { λ wanted s. s ≡ of_wanted wanted };
+
+    fn from(wanted: Wanted) -> Status {
+        match wanted {
+            Wanted::Step { place } => Status::Place { place },
+            Wanted::Behaviour => Status::NoClaim,
+            Wanted::Outcome => Status::NoOutcome,
         }
     }
 }
@@ -197,7 +221,7 @@ impl fmt::Display for Status {
             Status::Done => Ok(()),
             Status::Stopped => f.write_str("tau: stopped at the step limit"),
             Status::Words => f.write_str(
-                "tau: usage: tau run|check|audit|report|print|gen N|drill N|migrate|keep|resume|why N|cut|draw",
+                "tau: usage: tau run|check|audit|report|print|gen N|drill N|migrate|keep|resume|why N|cut|draw|storm",
             ),
             Status::Input { fault, at } => write!(f, "tau: input fault {fault} at {at}"),
             Status::Bad { .. } => f.write_str("tau: a step is not legal"),
@@ -208,6 +232,9 @@ impl fmt::Display for Status {
             Status::Journal { fault, at } => write!(f, "tau: journal fault {fault} at {at}"),
             Status::DiskFault => f.write_str("tau: the disk failed"),
             Status::Place { place } => write!(f, "tau: no such decision at {place}"),
+            Status::Claim => f.write_str("tau: the claim is broken"),
+            Status::NoClaim => f.write_str("tau: no such claim"),
+            Status::NoOutcome => f.write_str("tau: no such outcome"),
         }
     }
 }

@@ -11,7 +11,8 @@ use Rattle.tau_cli.specs.declared.statuses.Status.{Status}
 use Rattle.tau_cli.specs.declared.statuses.Status.TheVariants.{Input, ReadFault, WriteFault, NoMemory, Journal, DiskFault}
 use Rattle.tau_cli.specs.Status.{of_end, IsResult}
 use Rattle.tau_cli.specs.Output.{Writing}
-use Rattle.tau_cli.specs.Ends.{Effect, Asks, Tells, Ends}
+use Rattle.tau_cli.specs.Ends.{Effect, Ends}
+use Rattle.tau_cli.specs.Halves.{Asks, Tells}
 use Rattle.tau_cli.proofs.EndLemmas.{stopped}
 use Rattle.tau_kept.specs.Disks.{DiskEffect, IsUnwritten}
 use Rattle.tau_kept.specs.Texts.{IsKeptText, IsResumedText, WritesText}

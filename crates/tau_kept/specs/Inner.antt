@@ -10,7 +10,8 @@ use Rattle.tau_recording.specs.Resumed.{StandsForResumed}
 use Rattle.tau_output.specs.declared.outputs.Output.{Output}
 use Rattle.tau_cli.specs.declared.statuses.Status.{Status}
 use Rattle.tau_cli.specs.Status.{of_end}
-use Rattle.tau_cli.specs.Ends.{Effect, Tells}
+use Rattle.tau_cli.specs.Ends.{Effect}
+use Rattle.tau_cli.specs.Halves.{Tells}
 use Rattle.tau_kept.specs.Disks.{DiskEffect, IsUnwritten}
 use Rattle.tau_kept.specs.Texts.{IsBlankOrOfInput, IsKeptText, IsResumedText}
 use Rattle.tau_kept.specs.Ends.{IsKeepRefusal, IsResumeRefusal, KeepRefusals, ResumeRefusals, ResumeStays}

@@ -9,10 +9,11 @@ use Rattle.tau_text.specs.declared.errors.InputError.{InputError}
 use Rattle.tau_text.specs.declared.errors.InputError.TheVariants as inputs
 use Rattle.tau_text.specs.Errors.{TellsInputFault}
 use Rattle.tau_output.specs.declared.refusals.Refusal.{Refusal}
+use Rattle.tau_output.specs.declared.refusals.Wanted.{Wanted}
 use Rattle.tau_output.specs.declared.refusals.Refusal.TheVariants.{NoMemory}
-use Rattle.tau_output.specs.Refusals.{of_input_error, TellsFault, TellsNotAsked}
+use Rattle.tau_output.specs.Refusals.{of_input_error, TellsFault, TellsLacking}
 use Rattle.tau_output.specs.Inner.Ends.{is_not_asked}
-use Rattle.tau_output.proofs.LawLemmas.{tells_no_place}
+use Rattle.tau_output.proofs.LawLemmas.{tells_no_lack}
 
 -- a decision stands at the place where an answer says no other
 pub is_asked : (T : Run) (k : ℕ) (answer : Why) → IsWhy T k answer → is_not_asked answer ≡ false → IsDecision T k
@@ -35,15 +36,15 @@ pub from_input : {A : Type 0} (F : ℕ → ℕ → Type 0) (r : Result A Refusal
 from_input F (Ok a) e h t = tt
 from_input F (Err x) e h t = subst (TellsFault F) (sym h) (tells_fault F e t)
 
-pub from_input_no_place : {A : Type 0} (U : ℕ → Type 0) (r : Result A Refusal) (e : InputError) → IsErrAnd r (λ x. x ≡ of_input_error e) → IfErr r (TellsNotAsked U)
-from_input_no_place U (Ok a) e h = tt
-from_input_no_place U (Err x) e h = subst (TellsNotAsked U) (sym h) (tells_no_place U e)
+pub from_input_no_lack : {A : Type 0} (U : Wanted → Type 0) (r : Result A Refusal) (e : InputError) → IsErrAnd r (λ x. x ≡ of_input_error e) → IfErr r (TellsLacking U)
+from_input_no_lack U (Ok a) e h = tt
+from_input_no_lack U (Err x) e h = subst (TellsLacking U) (sym h) (tells_no_lack U e)
 
 -- want of memory tells nothing
 pub from_memory : {A : Type 0} (F : ℕ → ℕ → Type 0) (r : Result A Refusal) → IsErrAnd r (λ x. x ≡ NoMemory) → IfErr r (TellsFault F)
 from_memory F (Ok a) h = tt
 from_memory F (Err x) h = subst (TellsFault F) (sym h) tt
 
-pub from_memory_no_place : {A : Type 0} (U : ℕ → Type 0) (r : Result A Refusal) → IsErrAnd r (λ x. x ≡ NoMemory) → IfErr r (TellsNotAsked U)
-from_memory_no_place U (Ok a) h = tt
-from_memory_no_place U (Err x) h = subst (TellsNotAsked U) (sym h) tt
+pub from_memory_no_lack : {A : Type 0} (U : Wanted → Type 0) (r : Result A Refusal) → IsErrAnd r (λ x. x ≡ NoMemory) → IfErr r (TellsLacking U)
+from_memory_no_lack U (Ok a) h = tt
+from_memory_no_lack U (Err x) h = subst (TellsLacking U) (sym h) tt

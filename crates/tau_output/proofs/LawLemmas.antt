@@ -19,7 +19,7 @@ use Rattle.tau_cut.proofs.OneCut.{cut_text_once}
 use Rattle.tau_picture.specs.Pictures.{IsPictureText}
 use Rattle.tau_picture.proofs.OnePicture.{picture_text_once}
 use Rattle.tau_command.specs.declared.commands.Command.{Command}
-use Rattle.tau_command.specs.declared.commands.Command.TheVariants.{Run as RunCommand, Check, Audit, Report, Print, Gen, Drill, Migrate, Why, Cut, Draw}
+use Rattle.tau_command.specs.declared.commands.Command.TheVariants.{Run as RunCommand, Check, Audit, Report, Print, Gen, Drill, Migrate, Why, Cut, Draw, Storm}
 use Rattle.tau_text.specs.declared.errors.InputError.{InputError}
 use Rattle.tau_text.specs.declared.errors.InputError.TheVariants as inputs
 use Rattle.tau_text.specs.Errors.{TellsInputFault}
@@ -28,12 +28,17 @@ use Rattle.tau_text.specs.Meaning.{IsRunInput}
 use Rattle.tau_text.proofs.FaultLemmas.{program_unique, run_unique, print_unique}
 use Rattle.tau_output.specs.declared.outputs.End.{End}
 use Rattle.tau_output.specs.declared.outputs.Output.{Output}
-use Rattle.tau_output.specs.declared.outputs.End.TheVariants.{Done, Stopped, Bad, Broken}
+use Rattle.tau_output.specs.declared.outputs.End.TheVariants.{Done, Stopped, Bad, Broken, Claimed}
 use Rattle.tau_output.specs.declared.refusals.Refusal.{Refusal}
-use Rattle.tau_output.specs.declared.refusals.Refusal.TheVariants.{Fault, NotAsked, NoMemory}
-use Rattle.tau_output.specs.Refusals.{of_input_error, TellsFault, TellsNotAsked}
+use Rattle.tau_output.specs.declared.refusals.Refusal.TheVariants.{Fault, Lacking, NoMemory}
+use Rattle.tau_output.specs.declared.refusals.Wanted.{Wanted}
+use Rattle.tau_command.specs.declared.storms.Question.TheVariants.{Outcomes, Claim, Show}
+use Rattle.tau_output.specs.Refusals.{of_input_error, TellsFault, TellsLacking}
 use Rattle.tau_output.specs.Faults.{input_limit, reads_input, IsFaultOf, IsInputFault, too_long, within}
-use Rattle.tau_output.specs.Asking.{place_asked, MayAsk, AsksInVain}
+use Rattle.tau_explain.specs.Decisions.{IsDecision}
+use Rattle.tau_picture.specs.Asking.{Allows}
+use Rattle.tau_output.specs.Asking.{wanted_by, Lacks, IsRunWithout, AsksInVain}
+use Rattle.tau_output.proofs.StormLaws.{claim_is_there, outcome_is_there, storms_once}
 use Rattle.tau_output.specs.Explaining.{ExplainsAs}
 use Rattle.tau_output.specs.Cutting.{CutsAs}
 use Rattle.tau_output.specs.Drawing.{DrawsAs}
@@ -60,6 +65,7 @@ one_fault_of Migrate bytes a b c d f g = (run_unique bytes).one_fault a b c d f 
 one_fault_of (Why place) bytes a b c d f g = (run_unique bytes).one_fault a b c d f g
 one_fault_of Cut bytes a b c d f g = (run_unique bytes).one_fault a b c d f g
 one_fault_of (Draw from to ask) bytes a b c d f g = (run_unique bytes).one_fault a b c d f g
+one_fault_of (Storm numbers question) bytes a b c d f g = (program_unique bytes).one_fault a b c d f g
 
 pub fails_once : (bytes : List ℕ) → FailsOnce bytes
 fails_once bytes command a b c d (too_long r l p q) (too_long s m v w) = (p ∙ sym v, q ∙ sym w)
@@ -80,78 +86,87 @@ clean Migrate bytes end text a b w f = (run_unique bytes).not_both (w.program, w
 clean (Why place) bytes end text a b w f = (run_unique bytes).not_both (w.0.program, w.0.run) a b w.0.read f
 clean Cut bytes end text a b w f = (run_unique bytes).not_both (w.0.program, w.0.run) a b w.0.read f
 clean (Draw from to ask) bytes end text a b w f = (run_unique bytes).not_both (w.0.program, w.0.run) a b w.0.read f
+clean (Storm numbers Outcomes) bytes end text a b w f = (program_unique bytes).not_both w.has.storm.program a b w.has.storm.spelled f
+clean (Storm numbers (Claim name)) bytes end text a b w f = (program_unique bytes).not_both w.has.storm.program a b w.has.storm.spelled f
+clean (Storm numbers (Show outcome)) bytes end text a b w f = (program_unique bytes).not_both w.has.storm.program a b w.has.storm.spelled f
 
 pub writes_without_fault : (bytes : List ℕ) → WritesWithoutFault bytes
 writes_without_fault bytes command end text a b w (too_long r l p q) = let few : length bytes ≤ input_limit = w.few r in omega arith
 writes_without_fault bytes command end text a b w (within l f) = clean command bytes end text a b w.answers f
 
 -- nor where a command asks in vain
-not_both_asked : (command : Command) (bytes : List ℕ) (P : Program) (T : Run) (place : ℕ) → IsRunInput bytes P T → MayAsk command T → AsksInVain command bytes place → ⊥
-not_both_asked command bytes P T place read may n =
+not_without : (Allowed : Run → Type 0) (bytes : List ℕ) (P : Program) (T : Run) → IsRunInput bytes P T → Allowed T → IsRunWithout Allowed bytes → ⊥
+not_without Allowed bytes P T read allowed n =
     let same = (run_unique bytes).one_meaning (P, T) (n.program, n.run) read n.read in
-    n.in_vain (subst (λ (x : Program × Run). MayAsk command x.1) same may)
+    n.in_vain (subst (λ (x : Program × Run). Allowed x.1) same allowed)
 
-answers_where_asked : (command : Command) (bytes : List ℕ) (end : End) (text : List ℕ) (place : ℕ) → Answers command bytes end text → AsksInVain command bytes place → ⊥
-answers_where_asked (Why asked) bytes end text place w n = not_both_asked (Why asked) bytes w.0.program w.0.run place w.0.read w.0.asked n
-answers_where_asked (Draw from to ask) bytes end text place w n = not_both_asked (Draw from to ask) bytes w.0.program w.0.run place w.0.read w.0.asked n
-answers_where_asked command bytes end text place w n = n.in_vain tt
+answers_where_asked : (command : Command) (bytes : List ℕ) (end : End) (text : List ℕ) → Answers command bytes end text → Lacks command bytes → ⊥
+answers_where_asked (Why asked) bytes end text w n = not_without (λ T. IsDecision T asked) bytes w.0.program w.0.run w.0.read w.0.asked n
+answers_where_asked (Draw from to ask) bytes end text w n = not_without (λ T. Allows T ask) bytes w.0.program w.0.run w.0.read w.0.asked n
+answers_where_asked (Storm numbers Outcomes) bytes end text w n = absurd n
+answers_where_asked (Storm numbers (Claim name)) bytes end text w n = claim_is_there numbers name bytes end text w n
+answers_where_asked (Storm numbers (Show outcome)) bytes end text w n = outcome_is_there numbers outcome bytes end text w n
+answers_where_asked command bytes end text w n = absurd n
 
 pub writes_where_asked : (bytes : List ℕ) → WritesWhereAsked bytes
-writes_where_asked bytes command end text place w n = answers_where_asked command bytes end text place w.answers n
+writes_where_asked bytes command end text wanted w n = answers_where_asked command bytes end text w.answers n.lacks
 
--- and a command that asks for no step doesn't
-pub asks_none : (command kind : Command) (bytes : List ℕ) (place : ℕ) → command ≡ kind → place_asked kind ≡ None → AsksInVain command bytes place → ⊥
-asks_none command kind bytes place same none asked =
-    let never : None ≡ Some place = sym none ∙ (ap place_asked (sym same) ∙ asked.asks) in
+-- and a command that wants nothing doesn't
+pub asks_none : (command kind : Command) (bytes : List ℕ) (wanted : Wanted) → command ≡ kind → wanted_by kind ≡ None → AsksInVain command bytes wanted → ⊥
+asks_none command kind bytes wanted same none asked =
+    let never : None ≡ Some wanted = sym none ∙ (ap wanted_by (sym same) ∙ asked.wants) in
     absurd (cc)
 
 -- and an input of which a command asks in vain has no fault
-run_fault : (command : Command) (bytes : List ℕ) (place a b : ℕ) → place_asked command ≡ Some place → IsFaultOf command bytes a b → IsRunFault bytes a b
-run_fault (Why asked) bytes place a b e f = f
-run_fault (Draw from to ask) bytes place a b e f = f
-run_fault command bytes place a b e f = absurd (cc)
+lacks_without_fault : (command : Command) (bytes : List ℕ) (a b : ℕ) → Lacks command bytes → IsFaultOf command bytes a b → ⊥
+lacks_without_fault (Why asked) bytes a b n f = (run_unique bytes).not_both (n.program, n.run) a b n.read f
+lacks_without_fault (Draw from to ask) bytes a b n f = (run_unique bytes).not_both (n.program, n.run) a b n.read f
+lacks_without_fault (Storm numbers Outcomes) bytes a b n f = absurd n
+lacks_without_fault (Storm numbers (Claim name)) bytes a b n f = (program_unique bytes).not_both n.program a b n.spelled f
+lacks_without_fault (Storm numbers (Show outcome)) bytes a b n f = (program_unique bytes).not_both n.has.storm.program a b n.has.storm.spelled f
+lacks_without_fault command bytes a b n f = absurd n
 
-asked_in_vain : (command : Command) (bytes : List ℕ) (place a b : ℕ) → AsksInVain command bytes place → IsInputFault command bytes a b → ⊥
-asked_in_vain command bytes place a b n (too_long r l p q) = let few : length bytes ≤ input_limit = n.few in omega arith
-asked_in_vain command bytes place a b n (within l f) = (run_unique bytes).not_both (n.program, n.run) a b n.read (run_fault command bytes place a b n.asks f)
+asked_in_vain : (command : Command) (bytes : List ℕ) (wanted : Wanted) (a b : ℕ) → AsksInVain command bytes wanted → IsInputFault command bytes a b → ⊥
+asked_in_vain command bytes wanted a b n (too_long r l p q) = let few : length bytes ≤ input_limit = n.few in omega arith
+asked_in_vain command bytes wanted a b n (within l f) = lacks_without_fault command bytes a b n.lacks f
 
 -- a refusal of an input with a fault tells the fault, or want of memory
-pub told_once : (command : Command) (bytes : List ℕ) (e : Refusal) (a b : ℕ) → TellsFault (IsInputFault command bytes) e → TellsNotAsked (AsksInVain command bytes) e → IsInputFault command bytes a b
+pub told_once : (command : Command) (bytes : List ℕ) (e : Refusal) (a b : ℕ) → TellsFault (IsInputFault command bytes) e → TellsLacking (AsksInVain command bytes) e → IsInputFault command bytes a b
     → (e ≡ Fault a b) ⊎ (e ≡ NoMemory)
 told_once command bytes (Fault c d) a b t n f = let same = fails_once bytes command c d a b t f in inl (ap (λ x. Fault x d) same.0 ∙ ap (λ x. Fault a x) same.1)
-told_once command bytes (NotAsked place) a b t n f = absurd (asked_in_vain command bytes place a b n f)
+told_once command bytes (Lacking wanted) a b t n f = absurd (asked_in_vain command bytes wanted a b n f)
 told_once command bytes NoMemory a b t n f = inr refl
 
--- and one of a command that asks in vain tells the place, or want of memory
-told_place : (command : Command) (bytes : List ℕ) (e : Refusal) (place : ℕ) → TellsFault (IsInputFault command bytes) e → TellsNotAsked (AsksInVain command bytes) e → AsksInVain command bytes place
-    → (e ≡ NotAsked place) ⊎ (e ≡ NoMemory)
-told_place command bytes (Fault c d) place t n asked = absurd (asked_in_vain command bytes place c d asked t)
-told_place command bytes (NotAsked k) place t n asked =
-    let both : Some k ≡ Some place = sym n.asks ∙ asked.asks in
-    let k_is : k ≡ place = cc in
-    inl (ap NotAsked k_is)
-told_place command bytes NoMemory place t n asked = inr refl
+-- and one of a command that asks in vain tells what is lacking, or want of memory
+told_wanted : (command : Command) (bytes : List ℕ) (e : Refusal) (wanted : Wanted) → TellsFault (IsInputFault command bytes) e → TellsLacking (AsksInVain command bytes) e → AsksInVain command bytes wanted
+    → (e ≡ Lacking wanted) ⊎ (e ≡ NoMemory)
+told_wanted command bytes (Fault c d) wanted t n asked = absurd (asked_in_vain command bytes wanted c d asked t)
+told_wanted command bytes (Lacking k) wanted t n asked =
+    let both : Some k ≡ Some wanted = sym n.wants ∙ asked.wants in
+    let k_is : k ≡ wanted = cc in
+    inl (ap Lacking k_is)
+told_wanted command bytes NoMemory wanted t n asked = inr refl
 
 -- what a command gives for bytes: its text and end, or a refusal that tells exactly what is wrong
 pub record Gives (command : Command) (bytes : List ℕ) (found : Result Output Refusal) : Type 0 where
   pub fault : IfErr found (TellsFault (IsInputFault command bytes))
   pub faulty : (a b : ℕ) → IsInputFault command bytes a b → (found ≡ Err (Fault a b)) ⊎ (found ≡ Err NoMemory)
-  pub not_asked : IfErr found (TellsNotAsked (AsksInVain command bytes))
-  pub unasked : (place : ℕ) → AsksInVain command bytes place → (found ≡ Err (NotAsked place)) ⊎ (found ≡ Err NoMemory)
+  pub lacking : IfErr found (TellsLacking (AsksInVain command bytes))
+  pub in_vain : (wanted : Wanted) → AsksInVain command bytes wanted → (found ≡ Err (Lacking wanted)) ⊎ (found ≡ Err NoMemory)
 
 pub gives : (command : Command) (bytes : List ℕ) (found : Result Output Refusal) → IfOk found (λ o. Writes command bytes o.end o.text.items) → IfErr found (TellsFault (IsInputFault command bytes))
-    → IfErr found (TellsNotAsked (AsksInVain command bytes)) → Gives command bytes found
+    → IfErr found (TellsLacking (AsksInVain command bytes)) → Gives command bytes found
 gives command bytes (Ok o) w t n = record {
   fault = tt;
   faulty = λ a b f. absurd (writes_without_fault bytes command o.end o.text.items a b w f);
-  not_asked = tt;
-  unasked = λ place asked. absurd (writes_where_asked bytes command o.end o.text.items place w asked);
+  lacking = tt;
+  in_vain = λ wanted asked. absurd (writes_where_asked bytes command o.end o.text.items wanted w asked);
 }
 gives command bytes (Err e) w t n = record {
   fault = t;
   faulty = λ a b f. elim (told_once command bytes e a b t n f) [ inl same ↦ inl (ap Err same) | inr same ↦ inr (ap Err same) ];
-  not_asked = n;
-  unasked = λ place asked. elim (told_place command bytes e place t n asked) [ inl is ↦ inl (ap Err is) | inr is ↦ inr (ap Err is) ];
+  lacking = n;
+  in_vain = λ wanted asked. elim (told_wanted command bytes e wanted t n asked) [ inl is ↦ inl (ap Err is) | inr is ↦ inr (ap Err is) ];
 }
 
 -- the refusal for an error tells the fault that the error tells, and no place
@@ -159,18 +174,18 @@ pub tells_within : (command : Command) (bytes : List ℕ) (e : InputError) → l
 tells_within command bytes (inputs.Fault a b) l t = within l t
 tells_within command bytes inputs.NoMemory l t = tt
 
-pub tells_no_place : (U : ℕ → Type 0) (e : InputError) → TellsNotAsked U (of_input_error e)
-tells_no_place U (inputs.Fault a b) = tt
-tells_no_place U inputs.NoMemory = tt
+pub tells_no_lack : (U : Wanted → Type 0) (e : InputError) → TellsLacking U (of_input_error e)
+tells_no_lack U (inputs.Fault a b) = tt
+tells_no_lack U inputs.NoMemory = tt
 
 pub fault_within : (command : Command) (bytes : List ℕ) (r : Result Output InputError) → length bytes ≤ input_limit → IfErr r (TellsInputFault (IsFaultOf command bytes))
     → IfErr (refused_by r) (TellsFault (IsInputFault command bytes))
 fault_within command bytes (Ok o) l t = tt
 fault_within command bytes (Err e) l t = tells_within command bytes e l t
 
-pub no_place : (U : ℕ → Type 0) (r : Result Output InputError) → IfErr (refused_by r) (TellsNotAsked U)
-no_place U (Ok o) = tt
-no_place U (Err e) = tells_no_place U e
+pub no_lack : (U : Wanted → Type 0) (r : Result Output InputError) → IfErr (refused_by r) (TellsLacking U)
+no_lack U (Ok o) = tt
+no_lack U (Err e) = tells_no_lack U e
 
 pub ok_refused : (P : Output → Type 0) (r : Result Output InputError) → IfOk r P → IfOk (refused_by r) P
 ok_refused P (Ok o) h = h
@@ -189,6 +204,7 @@ serially_answered Migrate bytes end text w = w
 serially_answered (Why place) bytes end text w = w
 serially_answered Cut bytes end text w = w
 serially_answered (Draw from to ask) bytes end text w = w
+serially_answered (Storm numbers question) bytes end text w = w
 
 -- a command on one thread reads an input where the command reads one
 same_reading : (command : Command) → IsTrue (reads_input command) → IsTrue (reads_input (by_one_worker command))
@@ -203,6 +219,7 @@ same_reading Migrate reads = reads
 same_reading (Why place) reads = reads
 same_reading Cut reads = reads
 same_reading (Draw from to ask) reads = reads
+same_reading (Storm numbers question) reads = reads
 
 pub serially_written : (command : Command) (bytes : List ℕ) (found : Result Output Refusal) → IfOk found (λ o. WritesSerially command bytes o.end o.text.items) → IfOk found (λ o. Writes command bytes o.end o.text.items)
 serially_written command bytes (Ok o) w =
@@ -219,7 +236,7 @@ pub record GivesSerially (command : Command) (bytes : List ℕ) (found : Result 
   pub gives : Gives command bytes found
 
 pub given : (command kind : Command) (bytes : List ℕ) (found : Result Output Refusal) → command ≡ kind → length bytes ≤ input_limit → IfOk found (λ o. Answers (by_one_worker kind) bytes o.end o.text.items)
-    → IfErr found (TellsFault (IsInputFault kind bytes)) → IfErr found (TellsNotAsked (AsksInVain kind bytes)) → GivesSerially command bytes found
+    → IfErr found (TellsFault (IsInputFault kind bytes)) → IfErr found (TellsLacking (AsksInVain kind bytes)) → GivesSerially command bytes found
 unfolding gives
 given command kind bytes found same l w t n =
     let written : IfOk found (λ o. WritesSerially kind bytes o.end o.text.items) = answered (by_one_worker kind) bytes found l w in
@@ -230,17 +247,17 @@ pub answer_told : (command kind : Command) (bytes : List ℕ) (r : Result Output
     → IfOk r (λ o. Answers (by_one_worker kind) bytes o.end o.text.items) → IfErr r (TellsInputFault (IsFaultOf kind bytes)) → GivesSerially command bytes found
 unfolding given
 answer_told command kind bytes r found same is l w t = subst (GivesSerially command bytes) (sym is)
-    (given command kind bytes (refused_by r) same l (ok_refused (λ o. Answers (by_one_worker kind) bytes o.end o.text.items) r w) (fault_within kind bytes r l t) (no_place (AsksInVain kind bytes) r))
+    (given command kind bytes (refused_by r) same l (ok_refused (λ o. Answers (by_one_worker kind) bytes o.end o.text.items) r w) (fault_within kind bytes r l t) (no_lack (AsksInVain kind bytes) r))
 
 -- what a command gives that tells itself which step it is asked for in vain
 refusal_within : (kind : Command) (bytes : List ℕ) (found : Result Output Refusal) → length bytes ≤ input_limit → IfErr found (TellsFault (IsFaultOf kind bytes)) → IfErr found (TellsFault (IsInputFault kind bytes))
 refusal_within kind bytes (Ok o) l t = tt
 refusal_within kind bytes (Err (Fault a b)) l t = within l t
-refusal_within kind bytes (Err (NotAsked k)) l t = tt
+refusal_within kind bytes (Err (Lacking k)) l t = tt
 refusal_within kind bytes (Err NoMemory) l t = tt
 
 pub refusal_told : (command kind : Command) (bytes : List ℕ) (found : Result Output Refusal) → command ≡ kind → length bytes ≤ input_limit → IfOk found (λ o. Answers (by_one_worker kind) bytes o.end o.text.items)
-    → IfErr found (TellsFault (IsFaultOf kind bytes)) → IfErr found (TellsNotAsked (AsksInVain kind bytes)) → GivesSerially command bytes found
+    → IfErr found (TellsFault (IsFaultOf kind bytes)) → IfErr found (TellsLacking (AsksInVain kind bytes)) → GivesSerially command bytes found
 unfolding given
 refusal_told command kind bytes found same l w t n = given command kind bytes found same l w (refusal_within kind bytes found l t) n
 
@@ -265,10 +282,13 @@ checked_once P T (Bad j) (Bad k) text other h i =
     (ap Bad same, h.1 ∙ ap bad_line same ∙ sym i.1)
 checked_once P T Done Stopped text other h i = absurd i
 checked_once P T Done (Broken c p f) text other h i = absurd i
+checked_once P T Done Claimed text other h i = absurd i
 checked_once P T (Bad j) Stopped text other h i = absurd i
 checked_once P T (Bad j) (Broken c p f) text other h i = absurd i
+checked_once P T (Bad j) Claimed text other h i = absurd i
 checked_once P T Stopped another text other h i = absurd h
 checked_once P T (Broken c p f) another text other h i = absurd h
+checked_once P T Claimed another text other h i = absurd h
 
 -- ---- audits
 
@@ -300,10 +320,13 @@ audited_once T (Broken c p f) (Broken d q g) text other h k =
     )
 audited_once T Done Stopped text other h k = absurd k
 audited_once T Done (Bad j) text other h k = absurd k
+audited_once T Done Claimed text other h k = absurd k
 audited_once T (Broken c p f) Stopped text other h k = absurd k
 audited_once T (Broken c p f) (Bad j) text other h k = absurd k
+audited_once T (Broken c p f) Claimed text other h k = absurd k
 audited_once T Stopped another text other h k = absurd h
 audited_once T (Bad j) another text other h k = absurd h
+audited_once T Claimed another text other h k = absurd h
 
 -- ---- each command
 
@@ -338,10 +361,13 @@ rewritten_once P T (Bad j) (Bad k) text other h i =
     (ap Bad same, h.1 ∙ ap bad_line same ∙ sym i.1)
 rewritten_once P T Done Stopped text other h i = absurd i
 rewritten_once P T Done (Broken c p f) text other h i = absurd i
+rewritten_once P T Done Claimed text other h i = absurd i
 rewritten_once P T (Bad j) Stopped text other h i = absurd i
 rewritten_once P T (Bad j) (Broken c p f) text other h i = absurd i
+rewritten_once P T (Bad j) Claimed text other h i = absurd i
 rewritten_once P T Stopped another text other h i = absurd h
 rewritten_once P T (Broken c p f) another text other h i = absurd h
+rewritten_once P T Claimed another text other h i = absurd h
 
 migrate_once : (bytes : List ℕ) (end another : End) (text other : List ℕ) → MigratesAs bytes end text → MigratesAs bytes another other → (end ≡ another) × (text ≡ other)
 migrate_once bytes end another text other v w =
@@ -380,6 +406,7 @@ answers_once Migrate bytes end another text other v w = migrate_once bytes end a
 answers_once (Why place) bytes end another text other v w = (v.1 ∙ sym w.1, explain_once place bytes text other v.0 w.0)
 answers_once Cut bytes end another text other v w = (v.1 ∙ sym w.1, cut_once bytes text other v.0 w.0)
 answers_once (Draw from to ask) bytes end another text other v w = (v.1 ∙ sym w.1, draw_once from to ask bytes text other v.0 w.0)
+answers_once (Storm numbers question) bytes end another text other v w = storms_once numbers question bytes end another text other v w
 
 pub writes_once : (bytes : List ℕ) → WritesOnce bytes
 writes_once bytes command end another text other v w = answers_once command bytes end another text other v.answers w.answers

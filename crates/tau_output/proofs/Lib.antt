@@ -1,6 +1,8 @@
 pub mod RunLemmas
 pub mod CheckLemmas
 pub mod AuditLemmas
+pub mod StormLaws
+pub mod StormLemmas
 pub mod LawLemmas
 pub mod GroundLemmas
 pub mod ExplainLemmas

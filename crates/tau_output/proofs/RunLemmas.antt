@@ -3,6 +3,7 @@ use Rattle.std.proofs.Common.{◌≡◌, inl, inr, ℕ, Bool, true, false, List,
 use Rattle.std.proofs.lemmas.List.Elements.{All-nil, All-cons, All-append}
 use Rattle.tau_sexpr.specs.Tree.{Tree}
 use Rattle.tau_tree.specs.declared.programs.Program.{Program}
+use Rattle.tau_tree.specs.Sound.{Sound}
 use Rattle.tau_trace.specs.declared.step.Step.TheVariants.{Take, Drop, Fall, Checkpoint, Hold, Heed}
 use Rattle.tau_trace.specs.Run.{Run}
 use Rattle.tau_legal.specs.Traces.{Legal}
@@ -24,7 +25,7 @@ use Rattle.tau_output.specs.Checks.{IsChecked}
 use Rattle.tau_output.specs.Laws.{TextsTellRuns, RunTextsAreAccepted, line_after}
 
 -- each step of a legal run is decided by what was heard
-decided : (P : Program) (T : Run) → Legal P T → IsDecided T
+pub decided : (P : Program) (T : Run) → Legal P T → IsDecided T
 decided P T l = record {
   checkpoints = λ t k e. (l.steps k (Checkpoint t) e).fits.1;
   holds = λ t k e. (l.steps k (Hold t) e).fits.1;
@@ -52,12 +53,13 @@ ends limit P T true e = e.complete refl
 ends limit P T false e = e.stopped refl
 
 -- what is written for a program is the text of a legal run of it
-pub runs_as : (limit : ℕ) (P : Program) (T : Run) (is_complete : Bool) (bytes text : List ℕ) → IsProgram bytes P → EndsAt limit P T is_complete → IsRunText P T text → IsReadBack P T text
+pub runs_as : (limit : ℕ) (P : Program) (T : Run) (is_complete : Bool) (bytes text : List ℕ) → IsProgram bytes P → Sound P → EndsAt limit P T is_complete → IsRunText P T text → IsReadBack P T text
     → (r : RunsAs limit bytes (end_of_run is_complete) text) × (r.program ≡ P) × (r.run ≡ T)
-runs_as limit P T is_complete bytes text spelled e is_text read_back = (
+runs_as limit P T is_complete bytes text spelled sound e is_text read_back = (
   record {
     program = P;
     spelled = spelled;
+    sound = sound;
     run = T;
     well_formed = e.well_formed;
     is_text = is_text;
@@ -114,6 +116,7 @@ run_texts_accepted limit bytes end text one l =
     let tells : TellsRun P T text = record { well_formed = one.well_formed; opening = one.legal.opening; read_back = one.read_back } in
     let back = run_texts_read_back P T text tells in
     record {
+      read = back.0;
       check = record {
         few = λ reads. l;
         answers = record { program = P; run = T; read = back.0; checked = checked_after limit P T end one.legal one.safe one.ends };

@@ -38,7 +38,7 @@ forms_once P T fs gs a b =
 pub text_once : (P : Program) (T : Run) (text other : List ℕ) → IsRunText P T text → IsRunText P T other → text ≡ other
 text_once P T text other a b = a.is ∙ ap printed (forms_once P T a.forms b.forms a.are b.are) ∙ sym b.is
 
-text_of_same : (P Q : Program) (T U : Run) (text other : List ℕ) → P ≡ Q → T ≡ U → IsRunText P T text → IsRunText Q U other → text ≡ other
+pub text_of_same : (P Q : Program) (T U : Run) (text other : List ℕ) → P ≡ Q → T ≡ U → IsRunText P T text → IsRunText Q U other → text ≡ other
 text_of_same P Q T U text other p t a b =
     text_once P T text other a (subst (λ X. IsRunText X T other) (sym p) (subst (λ X. IsRunText Q X other) (sym t) b))
 

@@ -15,7 +15,7 @@ use Rattle.tau_output.specs.Faults.{input_limit, IsInputFault, too_long, within}
 use Rattle.tau_output.specs.Asking.{AsksInVain}
 use Rattle.tau_output.specs.Runs.{RunsAs}
 use Rattle.tau_output.specs.Inner.Ends.{refused_by}
-use Rattle.tau_output.proofs.LawLemmas.{told_once, tells_within, tells_no_place}
+use Rattle.tau_output.proofs.LawLemmas.{told_once, tells_within, tells_no_lack}
 
 -- several workers write nothing for an input with a fault
 clean_together : (workers jobs seed steps : ℕ) (bytes : List ℕ) (end : End) (text : List ℕ) → length bytes ≤ input_limit → RunsAs steps bytes end text → (a b : ℕ)
@@ -28,7 +28,7 @@ told_together : (workers jobs seed steps : ℕ) (bytes : List ℕ) (r : Result O
 told_together workers jobs seed steps bytes (Ok o) few runs t a b f = absurd (clean_together workers jobs seed steps bytes o.end o.text.items few runs a b f)
 told_together workers jobs seed steps bytes (Err e) few runs t a b f =
     let kind = RunCommand workers jobs seed steps in
-    elim (told_once kind bytes (of_input_error e) a b (tells_within kind bytes e few t) (tells_no_place (AsksInVain kind bytes) e) f) [ inl same ↦ inl (ap Err same) | inr same ↦ inr (ap Err same) ]
+    elim (told_once kind bytes (of_input_error e) a b (tells_within kind bytes e few t) (tells_no_lack (AsksInVain kind bytes) e) f) [ inl same ↦ inl (ap Err same) | inr same ↦ inr (ap Err same) ]
 
 -- and an answer for such an input tells the fault, or want of memory
 pub together_told : (command : Command) (workers jobs seed steps : ℕ) (bytes : List ℕ) (r : Result Output InputError) (found : Result Output Refusal) → command ≡ RunCommand workers jobs seed steps → found ≡ refused_by r

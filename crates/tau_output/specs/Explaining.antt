@@ -1,13 +1,11 @@
 -- What the command `why` writes (docs/formats.md, "Chains").
-use Rattle.std.specs.Prelude.{◌≡◌, ◌≢◌, ℕ, List}
+use Rattle.std.specs.Prelude.{◌≡◌, ℕ, List}
 use Rattle.tau_sexpr.specs.Printing.{printed}
 use Rattle.tau_tree.specs.declared.programs.Program.{Program}
 use Rattle.tau_trace.specs.Run.{Run}
-use Rattle.tau_legal.specs.Traces.{Legal}
 use Rattle.tau_explain.specs.Decisions.{IsDecision, IsWhy}
 use Rattle.tau_explain.specs.Texts.{why_forms}
 use Rattle.tau_explain.specs.declared.answers.Why.{Why}
-use Rattle.tau_explain.specs.declared.answers.Why.TheVariants.{NoChain}
 use Rattle.tau_text.specs.Meaning.{IsRunInput}
 
 -- for an input of these bytes and this place `why` writes this text
@@ -20,7 +18,5 @@ pub record ExplainsAs (place : ℕ) (bytes text : List ℕ) : Type 0 where
   -- the answer is the first of the shortest chains to a cause of it, or that there is none
   pub answer : Why
   pub explains : IsWhy run place answer
-  -- in a legal run there is one
-  pub grounded : Legal program run → answer ≢ NoChain
   -- the text has the points of the chain, or the word none
   pub is_text : text ≡ printed (why_forms run.opening answer)

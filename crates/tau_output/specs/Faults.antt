@@ -1,7 +1,7 @@
 -- The fault of the input of a command (docs/formats.md, "Input faults").
 use Rattle.std.specs.Prelude.{◌≡◌, ℕ, ◌<◌, ◌≤◌, Bool, true, false, IsTrue, List, length}
 use Rattle.tau_command.specs.declared.commands.Command.{Command}
-use Rattle.tau_command.specs.declared.commands.Command.TheVariants.{Run, Check, Audit, Report, Print, Gen, Drill, Migrate, Why, Cut, Draw}
+use Rattle.tau_command.specs.declared.commands.Command.TheVariants.{Run, Check, Audit, Report, Print, Gen, Drill, Migrate, Why, Cut, Draw, Storm}
 use Rattle.tau_text.specs.FaultNumbers.{fault_number}
 use Rattle.tau_text.specs.declared.faults.InputFault.TheVariants.{TooLong}
 use Rattle.tau_text.specs.Faults.{IsProgramFault, IsRunFault, IsPrintFault}
@@ -23,6 +23,7 @@ reads_input Migrate = true
 reads_input (Why place) = true
 reads_input Cut = true
 reads_input (Draw from to ask) = true
+reads_input (Storm numbers question) = true
 
 -- the first fault of bytes as the command takes them
 abbrev pub IsFaultOf : Command → List ℕ → ℕ → ℕ → Type 0
@@ -37,6 +38,7 @@ IsFaultOf Migrate bytes fault at = IsRunFault bytes fault at
 IsFaultOf (Why place) bytes fault at = IsRunFault bytes fault at
 IsFaultOf Cut bytes fault at = IsRunFault bytes fault at
 IsFaultOf (Draw from to ask) bytes fault at = IsRunFault bytes fault at
+IsFaultOf (Storm numbers question) bytes fault at = IsProgramFault bytes fault at
 
 -- the input of a command has this fault at this place: too many bytes first
 pub data IsInputFault (command : Command) (bytes : List ℕ) (fault at : ℕ) : Type 0 where

@@ -1,2 +1,3 @@
 -- What contracts of inner functions say; no clause of a public call rests on these.
 pub mod Ends
+pub mod Storms

@@ -1,16 +1,21 @@
 -- What holds of all inputs: a command writes one text, none for an input with a fault or where it asks in vain, an input has one
--- fault, what `run` writes determines its program and its run, and what `run` and `migrate` write is accepted by the other commands.
+-- fault, what `run` writes determines its program and its run, what `run` and `migrate` write is accepted by the other commands, and
+-- each decision of a legal run has its ground.
 use Rattle.std.specs.Prelude.{◌≡◌, ℕ, ◌≤◌, List, [], length, codes}
 use Rattle.tau_sexpr.specs.Printing.{printed}
 use Rattle.tau_forms.specs.Printed as forms
 use Rattle.tau_command.specs.declared.commands.Command.{Command}
 use Rattle.tau_command.specs.declared.commands.Command.TheVariants.{Check, Audit, Print, Migrate}
-use Rattle.tau_trace.specs.Run.{second}
-use Rattle.tau_legal.specs.Traces.{Complete}
+use Rattle.tau_tree.specs.declared.programs.Program.{Program}
+use Rattle.tau_trace.specs.Run.{Run, second}
+use Rattle.tau_explain.specs.declared.answers.Why.TheVariants.{NoChain}
+use Rattle.tau_explain.specs.Decisions.{IsGrounded, IsWhy}
+use Rattle.tau_legal.specs.Traces.{Legal, Complete}
 use Rattle.tau_text.specs.Meaning.{IsRunInput}
 use Rattle.tau_output.specs.declared.outputs.End.{End}
 use Rattle.tau_output.specs.declared.outputs.End.TheVariants.{Done, Stopped}
 use Rattle.tau_output.specs.Faults.{input_limit, IsInputFault}
+use Rattle.tau_output.specs.declared.refusals.Wanted.{Wanted}
 use Rattle.tau_output.specs.Asking.{AsksInVain}
 use Rattle.tau_output.specs.Runs.{RunsAs}
 use Rattle.tau_output.specs.Migrating.{second_program, MigratesAs}
@@ -26,7 +31,7 @@ WritesWithoutFault bytes = (command : Command) (end : End) (text : List ℕ) (fa
 
 -- a command writes nothing for bytes of which it asks in vain
 abbrev pub WritesWhereAsked : List ℕ → Type 0
-WritesWhereAsked bytes = (command : Command) (end : End) (text : List ℕ) (place : ℕ) → Writes command bytes end text → ¬ AsksInVain command bytes place
+WritesWhereAsked bytes = (command : Command) (end : End) (text : List ℕ) (wanted : Wanted) → Writes command bytes end text → ¬ AsksInVain command bytes wanted
 
 -- the bytes of an input have one fault at most
 abbrev pub FailsOnce : List ℕ → Type 0
@@ -47,9 +52,10 @@ line_after Done = codes "legal complete\n"
 line_after Stopped = codes "legal open\n"
 line_after end = []
 
--- of a text that `run` writes `check` says that it is legal, and complete where the run was, `audit` that it is safe, and `print`
--- writes its program
+-- a text that `run` writes is read back as its program and its run; of it `check` says that it is legal, and complete where the run
+-- was, `audit` that it is safe, and `print` writes its program
 pub record IsAccepted {limit : ℕ} {bytes : List ℕ} {end : End} {text : List ℕ} (one : RunsAs limit bytes end text) : Type 0 where
+  pub read : IsRunInput text one.program one.run
   pub check : Writes Check text Done (line_after end)
   pub audit : Writes Audit text Done (codes "safe\n")
   pub print : Writes Print text Done (printed (forms.printed one.program))
@@ -72,3 +78,8 @@ pub record IsMigrationAccepted {bytes text : List ℕ} (one : MigratesAs bytes D
 -- so it is where the text isn't longer than an input may be
 abbrev pub MigratedTextsAreAccepted : Type 0
 MigratedTextsAreAccepted = (bytes text : List ℕ) (one : MigratesAs bytes Done text) → length text ≤ input_limit → IsMigrationAccepted one
+
+-- each Hold, Drop and Fall of a legal run has its ground, and `why` never answers of one that there is no chain to a cause
+pub record LegalRunsAreGrounded : Type 0 where
+  pub grounded : (P : Program) (T : Run) → Legal P T → IsGrounded T
+  pub chained : (P : Program) (T : Run) (place : ℕ) → Legal P T → ¬ IsWhy T place NoChain

@@ -7,6 +7,7 @@ pub mod Printing
 pub mod Drills
 pub mod Migrating
 pub mod Refusals
+pub mod Storming
 pub mod Asking
 pub mod Explaining
 pub mod Cutting

@@ -2,6 +2,7 @@
 use Rattle.std.specs.Prelude.{◌≡◌, ◌⊎◌, ℕ, ◌≤◌, List, Some, All}
 use Rattle.tau_sexpr.specs.Tree.{Tree}
 use Rattle.tau_tree.specs.declared.programs.Program.{Program}
+use Rattle.tau_tree.specs.Sound.{Sound}
 use Rattle.tau_trace.specs.declared.step.Step.TheVariants.{Take, Drop, Fall, Checkpoint, Hold, Heed}
 use Rattle.tau_trace.specs.Run.{Run, len, step_at}
 use Rattle.tau_trace.specs.Known.{WellFormed}
@@ -41,9 +42,10 @@ IsReportLine P T form = (form ≡ counts_form T) ⊎ ((t : ℕ) × IsSavedForm P
 
 -- for an input of these bytes `run`, with so many steps at most, writes this text and ends so
 pub record RunsAs (steps : ℕ) (bytes : List ℕ) (end : End) (text : List ℕ) : Type 0 where
-  -- there is a program, which is the one that the bytes spell
+  -- there is a program, which is the one that the bytes spell, and sound
   pub program : Program
   pub spelled : IsProgram bytes program
+  pub sound : Sound program
   -- there is a run, each step of which names what exists before it
   pub run : Run
   pub well_formed : WellFormed run

@@ -3,7 +3,7 @@ use Rattle.std.specs.Prelude.{◌≡◌, ℕ, ◌≤◌, IsTrue, List, length}
 use Rattle.tau_value.specs.declared.limits.TheConstants.{STEP_LIMIT}
 use Rattle.tau_book.specs.declared.limits.TheConstants.{JOB_LIMIT}
 use Rattle.tau_command.specs.declared.commands.Command.{Command}
-use Rattle.tau_command.specs.declared.commands.Command.TheVariants.{Run, Check, Audit, Report, Print, Gen, Drill, Migrate, Why, Cut, Draw}
+use Rattle.tau_command.specs.declared.commands.Command.TheVariants.{Run, Check, Audit, Report, Print, Gen, Drill, Migrate, Why, Cut, Draw, Storm}
 use Rattle.tau_output.specs.declared.outputs.End.{End}
 use Rattle.tau_output.specs.declared.outputs.End.TheVariants.{Done}
 use Rattle.tau_output.specs.Faults.{input_limit, reads_input}
@@ -17,6 +17,8 @@ use Rattle.tau_output.specs.Migrating.{MigratesAs}
 use Rattle.tau_output.specs.Explaining.{ExplainsAs}
 use Rattle.tau_output.specs.Cutting.{CutsAs}
 use Rattle.tau_output.specs.Drawing.{DrawsAs}
+use Rattle.tau_output.specs.Storming.{StormsAs, setting_of}
+use Rattle.tau_faults.specs.Visits.{IsSetting}
 
 -- the text that a command writes for bytes, and how it then ends
 abbrev pub Answers : Command → List ℕ → End → List ℕ → Type 0
@@ -31,6 +33,7 @@ Answers Migrate bytes end text = MigratesAs bytes end text
 Answers (Why place) bytes end text = ExplainsAs place bytes text × (end ≡ Done)
 Answers Cut bytes end text = CutsAs bytes text × (end ≡ Done)
 Answers (Draw from to ask) bytes end text = DrawsAs from to ask bytes text × (end ≡ Done)
+Answers (Storm numbers question) bytes end text = StormsAs numbers question bytes end text
 
 -- and so for an input of these bytes, which are not too many where the command reads any
 pub record Writes (command : Command) (bytes : List ℕ) (end : End) (text : List ℕ) : Type 0 where
@@ -50,12 +53,15 @@ by_one_worker Migrate = Migrate
 by_one_worker (Why place) = Why place
 by_one_worker Cut = Cut
 by_one_worker (Draw from to ask) = Draw from to ask
+by_one_worker (Storm numbers question) = Storm numbers question
 
 -- what a command writes on one thread
 abbrev pub WritesSerially : Command → List ℕ → End → List ℕ → Type 0
 WritesSerially command bytes end text = Writes (by_one_worker command) bytes end text
 
--- some workers, a number of jobs that a worker can hold, and a limit of steps that a trace can have
+-- some workers, a number of jobs that a worker can hold, and a limit of steps that a trace can have; and for a storm numbers that its runs
+-- can have
 abbrev pub HasLimit : Command → Type 0
 HasLimit (Run workers jobs seed steps) = (1 ≤ workers) × (1 ≤ jobs) × (jobs ≤ JOB_LIMIT) × (steps ≤ STEP_LIMIT)
+HasLimit (Storm numbers question) = IsSetting (setting_of numbers)
 HasLimit command = Unit {0}

@@ -3,11 +3,11 @@ ghost use Rattle.std.specs.Prelude.{◌≡◌, ◌≤◌, length, IfOk, IfErr};
 ghost use Rattle.tau_command.specs.declared.commands.Command.TheVariants.{Draw};
 ghost use Rattle.tau_text.specs.Faults.{IsRunFault};
 ghost use Rattle.tau_output.specs.Faults.{input_limit};
-ghost use Rattle.tau_output.specs.Refusals.{TellsFault, TellsNotAsked};
+ghost use Rattle.tau_output.specs.Refusals.{TellsFault, TellsLacking};
 ghost use Rattle.tau_output.specs.Asking.{AsksInVain};
 ghost use Rattle.tau_output.specs.Drawing.{DrawsAs};
 
-use crate::{End, Output, Refusal};
+use crate::{End, Output, Refusal, Wanted};
 use std::alloc::Global;
 use tau_picture::{Drawn, draw};
 use tau_text::read_run_text;
@@ -24,7 +24,7 @@ pub(crate) fn draw_run(
     requires { length bytes.now ≤ input_limit }
     ensures output { IfOk result (λ o. DrawsAs from to ask bytes.now o.text.items × (o.end ≡ End.Done)) }
     ensures fault { IfErr result (TellsFault (IsRunFault bytes.now)) }
-    ensures not_asked { IfErr result (TellsNotAsked (AsksInVain (Draw from to ask) bytes.now)) }
+    ensures lacking { IfErr result (TellsLacking (AsksInVain (Draw from to ask) bytes.now)) }
 {
     let input = read_run_text(alloc, bytes)?;
     // Its contract says that the trace is well-formed.
@@ -35,7 +35,9 @@ pub(crate) fn draw_run(
             end: End::Done,
         }),
         Drawn::NotAsked => match ask {
-            Some(place) => Err(Refusal::NotAsked { place }),
+            Some(place) => Err(Refusal::Lacking {
+                wanted: Wanted::Step { place },
+            }),
             None => unreachable!(),
         },
     }

@@ -1,5 +1,5 @@
 //! Laws of inputs and of what is written. The calls do nothing: what they ensure holds of all bytes.
-ghost use Rattle.tau_output.specs.Laws.{WritesOnce, WritesWithoutFault, WritesWhereAsked, FailsOnce, TextsTellRuns, RunTextsAreAccepted, MigratedTextsAreAccepted};
+ghost use Rattle.tau_output.specs.Laws.{WritesOnce, WritesWithoutFault, WritesWhereAsked, FailsOnce, TextsTellRuns, RunTextsAreAccepted, MigratedTextsAreAccepted, LegalRunsAreGrounded};
 
 /// For an input a command writes one text on one thread, or the input has one fault, and not both (docs/formats.md, "Input
 /// faults"); nor does a command write that asks in vain. So `run` with one worker writes the same each time, and so does `drill`.
@@ -15,8 +15,8 @@ pub fn run_texts_tell()
     ensures { TextsTellRuns }
 {}
 
-/// Of a text that `run` writes, which isn't longer than an input may be, `check` says that it is legal, `audit` that it is
-/// safe, and `print` writes its program (docs/formats.md, "Command line").
+/// A text that `run` writes, and that isn't longer than an input may be, is read back as its program and its run; of it `check` says
+/// that it is legal, `audit` that it is safe, and `print` writes its program (docs/formats.md, "Command line").
 pub fn run_texts_are_accepted()
     ensures { RunTextsAreAccepted }
 {}
@@ -26,4 +26,9 @@ pub fn run_texts_are_accepted()
 /// again (docs/formats.md, "Migration").
 pub fn migrated_texts_are_accepted()
     ensures { MigratedTextsAreAccepted }
+{}
+
+/// Each Hold, Drop and Fall of a legal run has its ground, so `why` writes `none` of no legal run (docs/definitions.md, "Cause").
+pub fn legal_runs_are_grounded()
+    ensures { LegalRunsAreGrounded }
 {}

@@ -15,12 +15,15 @@ mod printing;
 mod refusals;
 mod reporting;
 mod running;
+mod storming;
 mod together;
 
 pub use laws::{
-    migrated_texts_are_accepted, output_is_unique, run_texts_are_accepted, run_texts_tell,
+    legal_runs_are_grounded, migrated_texts_are_accepted, output_is_unique, run_texts_are_accepted,
+    run_texts_tell,
 };
 pub use outputs::{End, INPUT_LIMIT, Output, output_of, reads_input};
-pub use refusals::Refusal;
+pub use refusals::{Refusal, Wanted};
 pub use running::write_run;
+pub use tau_workers::{Gate, OpenGate};
 pub use together::output_by_workers;

@@ -1,7 +1,8 @@
 //! What commands write.
 ghost use Rattle.std.specs.Prelude.{◌≡◌, ◌⊎◌, ℕ, ◌≤◌, length, IfOk, IfErr, Ok, Err};
 ghost use Rattle.tau_output.specs.Faults.{input_limit, reads_input as reads, IsInputFault};
-ghost use Rattle.tau_output.specs.Refusals.{TellsFault, TellsNotAsked};
+ghost use Rattle.tau_output.specs.Refusals.{TellsFault, TellsLacking};
+ghost use Rattle.tau_output.specs.declared.refusals.Wanted.{Wanted};
 ghost use Rattle.tau_output.specs.Asking.{AsksInVain};
 ghost use Rattle.tau_output.specs.Writing.{WritesSerially, HasLimit};
 ghost use Rattle.tau_output.specs.Inner.Ends.{refused_by};
@@ -18,6 +19,7 @@ use crate::migrating::migrate_run;
 use crate::printing::print_program;
 use crate::reporting::report_run;
 use crate::running::write_serial_run;
+use crate::storming::storm_program;
 use std::alloc::{AllocError, Global};
 use tau_command::Command;
 use tau_points::Point;
@@ -44,6 +46,8 @@ pub enum End {
         point: Point,
         fall: u32,
     },
+    /// A claim is broken at an end of the storm.
+    Claimed,
 }
 
 /// The text that a command writes, and how it ends then.
@@ -69,14 +73,15 @@ pub fn reads_input(command: &Command) -> bool
         Command::Why { .. } => true,
         Command::Cut => true,
         Command::Draw { .. } => true,
+        Command::Storm { .. } => true,
     }
 }
 
 /// What a command writes on one thread for the bytes of its input (docs/formats.md, "Command line"): `run` with one worker,
 /// however many it is told. The bytes are passed over where it reads none.
-/// `Fault` comes exactly where the input has a fault, with the first one (docs/formats.md, "Input faults"), and `NotAsked` exactly
+/// `Fault` comes exactly where the input has a fault, with the first one (docs/formats.md, "Input faults"), and `Lacking` exactly
 /// where the input has none and the command asks in vain: `why` for a place at which no Hold, Drop or Fall stands, `draw` for one at
-/// which no Checkpoint stands either that can't be kept.
+/// which no Checkpoint stands either that can't be kept, `storm` for a behaviour that the program hasn't or an outcome that there isn't.
 pub fn output_of(alloc: Global, command: Command, bytes: &[u8]) -> Result<Output, Refusal>
     requires bytes { length bytes.now ≤ input_limit }
     requires limit { HasLimit command }
@@ -86,9 +91,9 @@ pub fn output_of(alloc: Global, command: Command, bytes: &[u8]) -> Result<Output
     ensures faulty { (fault at : ℕ) → IsInputFault command bytes.now fault at
         → (result ≡ Err (Refusal.Fault fault at)) ⊎ (result ≡ Err Refusal.NoMemory) }
 
-    ensures not_asked { IfErr result (TellsNotAsked (AsksInVain command bytes.now)) }
-    ensures unasked { (place : ℕ) → AsksInVain command bytes.now place
-        → (result ≡ Err (Refusal.NotAsked place)) ⊎ (result ≡ Err Refusal.NoMemory) }
+    ensures lacking { IfErr result (TellsLacking (AsksInVain command bytes.now)) }
+    ensures in_vain { (wanted : Wanted) → AsksInVain command bytes.now wanted
+        → (result ≡ Err (Refusal.Lacking wanted)) ⊎ (result ≡ Err Refusal.NoMemory) }
 {
     match command {
         Command::Run {
@@ -107,6 +112,7 @@ pub fn output_of(alloc: Global, command: Command, bytes: &[u8]) -> Result<Output
         Command::Why { place } => explain_run(alloc, bytes, place),
         Command::Cut => refused_by(cut_run(alloc, bytes)),
         Command::Draw { from, to, ask } => draw_run(alloc, bytes, from, to, ask),
+        Command::Storm { numbers, question } => storm_program(alloc, bytes, &numbers, &question),
     }
 }
 

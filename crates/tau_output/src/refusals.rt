@@ -3,15 +3,26 @@ use std::alloc::AllocError;
 use tau_text::InputError;
 use thiserror::Error;
 
+/// What a command wants of its input that this may lack (docs/formats.md, "Statuses").
+#[derive(Clone, Copy, Debug, PartialEq, Eq)]
+pub enum Wanted {
+    /// That the step at this place of the run is one of those that the command may be asked for.
+    Step { place: u64 },
+    /// That the program has the behaviour that is claimed.
+    Behaviour,
+    /// That the storm has the outcome that is to be shown.
+    Outcome,
+}
+
 /// Why a command writes nothing for the bytes of its input (docs/formats.md, "Statuses").
 #[derive(Clone, Copy, Debug, PartialEq, Eq, Error)]
 pub enum Refusal {
     /// The input has the fault with this number, at this place (docs/formats.md, "Input faults").
     #[error("input fault {fault} at {at}")]
     Fault { fault: u8, at: u64 },
-    /// The step at this place of the run is none of those that the command may be asked for (docs/formats.md, "Statuses").
-    #[error("no such decision at {place}")]
-    NotAsked { place: u64 },
+    /// The input lacks what the command wants of it (docs/formats.md, "Statuses").
+    #[error("the input lacks what is asked for")]
+    Lacking { wanted: Wanted },
     #[error("out of memory")]
     NoMemory,
 }

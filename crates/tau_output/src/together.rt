@@ -7,7 +7,8 @@ ghost use Rattle.tau_text.specs.Meaning.{IsProgram};
 ghost use Rattle.tau_tree.specs.Sound.{Sound};
 ghost use Rattle.tau_book.specs.declared.limits.TheConstants.{JOB_LIMIT};
 ghost use Rattle.tau_output.specs.Faults.{input_limit, IsInputFault};
-ghost use Rattle.tau_output.specs.Refusals.{TellsFault, TellsNotAsked};
+ghost use Rattle.tau_output.specs.Refusals.{TellsFault, TellsLacking};
+ghost use Rattle.tau_output.specs.declared.refusals.Wanted.{Wanted};
 ghost use Rattle.tau_output.specs.Asking.{AsksInVain};
 ghost use Rattle.tau_output.specs.Runs.{RunsAs};
 ghost use Rattle.tau_output.specs.Writing.{Writes, HasLimit};
@@ -40,9 +41,9 @@ pub fn output_by_workers<R: Threads + Wait + Sync, G: Gate + Sync>(
     ensures faulty { (fault at : ℕ) → IsInputFault command bytes.now fault at
         → (result ≡ Err (Refusal.Fault fault at)) ⊎ (result ≡ Err Refusal.NoMemory) }
 
-    ensures not_asked { IfErr result (TellsNotAsked (AsksInVain command bytes.now)) }
-    ensures unasked { (place : ℕ) → AsksInVain command bytes.now place
-        → (result ≡ Err (Refusal.NotAsked place)) ⊎ (result ≡ Err Refusal.NoMemory) }
+    ensures lacking { IfErr result (TellsLacking (AsksInVain command bytes.now)) }
+    ensures in_vain { (wanted : Wanted) → AsksInVain command bytes.now wanted
+        → (result ≡ Err (Refusal.Lacking wanted)) ⊎ (result ≡ Err Refusal.NoMemory) }
 {
     match command {
         Command::Run {

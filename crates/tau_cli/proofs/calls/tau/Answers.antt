@@ -12,7 +12,7 @@ returns-in-Ok g c =
     told Writes c.args.words.now (effect_on g.I.Source.left g.I.Source.faults c.args.input.now c.ask.new.input) (effect_on g.O.Sink.held g.O.Sink.faults c.args.output.now c.tell.new.output)
     asked c.output_by_workers.result c.tell.result c.in-Ok.ensures
     (subst (λ bytes. Finds Writes asked.command bytes c.output_by_workers.result) c.deref.ensures.value
-    (record { output = found.output; fault = found.fault; faulty = found.faulty; not_asked = found.not_asked; unasked = found.unasked }))
+    (record { output = found.output; fault = found.fault; faulty = found.faulty; lacking = found.lacking; in_vain = found.in_vain }))
     (writes_end asked.command asked.bytes.items) c.tell.ensures
 
 pub returns-in-Err : goal.returns-in-Err

@@ -1,4 +1,4 @@
-use Rattle.tau_command.specs.declared.commands.Command.TheVariants.{Run, Check, Audit, Report, Print, Migrate, Why, Cut, Draw}
+use Rattle.tau_command.specs.declared.commands.Command.TheVariants.{Run, Check, Audit, Report, Print, Migrate, Why, Cut, Draw, Storm}
 use Rattle.tau_output.proofs.LawLemmas.{answer_told, refusal_told}
 use Rattle.tau_output.proofs.outputs.output_of.Goals as goal
 
@@ -33,16 +33,24 @@ returns-in-Migrate-clause-faulty c =
 
 pub returns-in-Why-clause-faulty : goal.returns-in-Why-clause-faulty
 returns-in-Why-clause-faulty c =
-    (refusal_told c.args.command (Why c.in-Why.place) c.args.bytes.now c.explain_run.result c.in-Why.is c.requires.bytes c.explain_run.ensures.output c.explain_run.ensures.fault c.explain_run.ensures.not_asked).gives.faulty
+    (refusal_told c.args.command (Why c.in-Why.place) c.args.bytes.now c.explain_run.result c.in-Why.is c.requires.bytes c.explain_run.ensures.output c.explain_run.ensures.fault c.explain_run.ensures.lacking).gives.faulty
 
-pub returns-in-Why-clause-unasked : goal.returns-in-Why-clause-unasked
-returns-in-Why-clause-unasked c =
-    (refusal_told c.args.command (Why c.in-Why.place) c.args.bytes.now c.explain_run.result c.in-Why.is c.requires.bytes c.explain_run.ensures.output c.explain_run.ensures.fault c.explain_run.ensures.not_asked).gives.unasked
+pub returns-in-Why-clause-in_vain : goal.returns-in-Why-clause-in_vain
+returns-in-Why-clause-in_vain c =
+    (refusal_told c.args.command (Why c.in-Why.place) c.args.bytes.now c.explain_run.result c.in-Why.is c.requires.bytes c.explain_run.ensures.output c.explain_run.ensures.fault c.explain_run.ensures.lacking).gives.in_vain
 
 pub returns-in-Draw-clause-faulty : goal.returns-in-Draw-clause-faulty
 returns-in-Draw-clause-faulty c =
-    (refusal_told c.args.command (Draw c.in-Draw.from c.in-Draw.to c.in-Draw.ask) c.args.bytes.now c.draw_run.result c.in-Draw.is c.requires.bytes c.draw_run.ensures.output c.draw_run.ensures.fault c.draw_run.ensures.not_asked).gives.faulty
+    (refusal_told c.args.command (Draw c.in-Draw.from c.in-Draw.to c.in-Draw.ask) c.args.bytes.now c.draw_run.result c.in-Draw.is c.requires.bytes c.draw_run.ensures.output c.draw_run.ensures.fault c.draw_run.ensures.lacking).gives.faulty
 
-pub returns-in-Draw-clause-unasked : goal.returns-in-Draw-clause-unasked
-returns-in-Draw-clause-unasked c =
-    (refusal_told c.args.command (Draw c.in-Draw.from c.in-Draw.to c.in-Draw.ask) c.args.bytes.now c.draw_run.result c.in-Draw.is c.requires.bytes c.draw_run.ensures.output c.draw_run.ensures.fault c.draw_run.ensures.not_asked).gives.unasked
+pub returns-in-Draw-clause-in_vain : goal.returns-in-Draw-clause-in_vain
+returns-in-Draw-clause-in_vain c =
+    (refusal_told c.args.command (Draw c.in-Draw.from c.in-Draw.to c.in-Draw.ask) c.args.bytes.now c.draw_run.result c.in-Draw.is c.requires.bytes c.draw_run.ensures.output c.draw_run.ensures.fault c.draw_run.ensures.lacking).gives.in_vain
+
+pub returns-in-Storm-clause-faulty : goal.returns-in-Storm-clause-faulty
+returns-in-Storm-clause-faulty c =
+    (refusal_told c.args.command (Storm c.in-Storm.numbers c.in-Storm.question) c.args.bytes.now c.storm_program.result c.in-Storm.is c.requires.bytes c.storm_program.ensures.output c.storm_program.ensures.fault c.storm_program.ensures.lacking).gives.faulty
+
+pub returns-in-Storm-clause-in_vain : goal.returns-in-Storm-clause-in_vain
+returns-in-Storm-clause-in_vain c =
+    (refusal_told c.args.command (Storm c.in-Storm.numbers c.in-Storm.question) c.args.bytes.now c.storm_program.result c.in-Storm.is c.requires.bytes c.storm_program.ensures.output c.storm_program.ensures.fault c.storm_program.ensures.lacking).gives.in_vain

@@ -1,6 +1,7 @@
 use Rattle.std.proofs.Common.{◌≡◌, ◌⊎◌, ◌∙◌, ℕ, Err, sym, IfOk, subst}
 use Rattle.tau_command.specs.declared.commands.Command.{Command}
-use Rattle.tau_output.specs.declared.refusals.Refusal.TheVariants.{NotAsked, NoMemory}
+use Rattle.tau_output.specs.declared.refusals.Refusal.TheVariants.{Lacking, NoMemory}
+use Rattle.tau_output.specs.declared.refusals.Wanted.{Wanted}
 use Rattle.tau_output.specs.Asking.{AsksInVain}
 use Rattle.tau_output.specs.Writing.{WritesSerially}
 use Rattle.tau_output.proofs.LawLemmas.{serially_written}
@@ -21,10 +22,10 @@ returns-in_default-clause-output g c =
       | in_default-via-in_default w ↦ subst Told w.command-is c.output_of.ensures.output
     ])
 
-pub returns-in_default-clause-unasked : goal.returns-in_default-clause-unasked
-returns-in_default-clause-unasked g c =
-    let Told : Command → Type 0 = λ x. (place : ℕ) → AsksInVain x c.args.bytes.now place → (c.output_of.result ≡ Err (NotAsked place)) ⊎ (c.output_of.result ≡ Err NoMemory) in
+pub returns-in_default-clause-in_vain : goal.returns-in_default-clause-in_vain
+returns-in_default-clause-in_vain g c =
+    let Told : Command → Type 0 = λ x. (wanted : Wanted) → AsksInVain x c.args.bytes.now wanted → (c.output_of.result ≡ Err (Lacking wanted)) ⊎ (c.output_of.result ≡ Err NoMemory) in
     elim c.in_default.branch [
-      | in_default-via-in-Run+else-workers-gt1 w ↦ subst Told (w.command-is ∙ sym w.in-Run.is) c.output_of.ensures.unasked
-      | in_default-via-in_default w ↦ subst Told w.command-is c.output_of.ensures.unasked
+      | in_default-via-in-Run+else-workers-gt1 w ↦ subst Told (w.command-is ∙ sym w.in-Run.is) c.output_of.ensures.in_vain
+      | in_default-via-in_default w ↦ subst Told w.command-is c.output_of.ensures.in_vain
     ]
