@@ -27,7 +27,7 @@ overview() {
     echo
     echo "\`bin/tau help COMMAND\` tells of one command. Where to read on, in $root:"
     echo
-    echo "    docs/tutorial.md   eight steps, each a program with a failure"
+    echo "    docs/tutorial.md   nine steps, each a program with a failure"
     echo "    docs/patterns.md   what is often asked then, and six patterns"
     echo "    docs/manual.md     words, statuses, faults of inputs, and each command"
     echo "    docs/language.md   the language of behaviours"
@@ -37,7 +37,7 @@ help_on() {
     case $1 in
     help | version | decisions | prove) section bin/tau ;;
     *)
-        if ! has "$commands" "$1"; then
+        if ! has "$commands gather atlas " "$1"; then
             say "\`$1\` is no command; \`bin/tau help\` tells which there are"
             exit 2
         fi

@@ -62,11 +62,11 @@ blame() {
 
 # The value of an option, or the number of a command.
 look_at_value() {
-    if [ -z "$2" ]; then
-        blame "the number behind $1 is missing"
-    else
-        is_in_range "$1" "$2" || blame "$1 wants a number from $(range_of "$1"), and \`$2\` is none"
-    fi
+    case $(range_of "$1"):$2 in
+    [0-9]*:) blame "the number behind $1 is missing" ;;
+    *:) blame "the name behind $1 is missing" ;;
+    [0-9]*) is_in_range "$1" "$2" || blame "$1 wants a number from $(range_of "$1"), and \`$2\` is none" ;;
+    esac
 }
 
 # An option, and its value where that stands in the same word.
@@ -112,13 +112,14 @@ look_at_word() {
 
 # What is missing, and options that don't stand with this command.
 look_at_whole() {
-    if [ -n "$wants" ]; then blame "the number behind $wants is missing"; fi
+    if [ -n "$wants" ]; then look_at_value "$wants" ""; fi
     if [ -z "$command" ]; then blame "no command stands here"; fi
     if has "$needing" "$command" && [ -z "$number" ]; then blame "the number behind $command is missing"; fi
     if [ "$is_over" -eq 1 ] && [ "$command" != keep ]; then blame "--over stands with keep alone"; fi
     for option in $given; do
         has "$pairs" "$command:$option" || blame "$option doesn't stand with $command"
     done
+    if has "$given " --claim && has "$given " --show; then blame "--claim and --show don't stand together"; fi
 }
 
 # Sets `command`, `wrong` (what is wrong with the words, as far as this script can tell) and `file`, the last word where it is one to be read.
@@ -126,7 +127,7 @@ look() {
     command='' number='' given='' wants='' wrong='' file=''
     place=0 is_last=0 is_open=1 is_over=0
     # (commands that bin/tau answers itself come here with words too many)
-    own=' help version prove decisions '
+    own=' help version prove decisions gather atlas '
     for word; do
         place=$((place + 1))
         [ "$place" -lt "$#" ] || is_last=1

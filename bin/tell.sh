@@ -93,6 +93,21 @@ tell_disk() {
     say "tau.journal can't be opened, written or synced here, or another process has it open; \`bin/tau help $command\` tells more"
 }
 
+# Which behaviours there are, where a claim names none; or where it is told how many outcomes there are.
+tell_absent() {
+    case $line in
+    *outcome) say "\`bin/tau storm\` without --show tells which outcomes there are; the first has the number 0" ;;
+    *)
+        if [ -n "$input" ]; then
+            names=$(LC_ALL=C tr '\000' '\001' <"$input" | LC_ALL=C awk -f "$root/share/scan.awk" -f "$root/share/behaviours.awk")
+            say "behaviours here: ${names:-none}"
+        else
+            say "with the input in a file (< FILE) the behaviours that there are are told too"
+        fi
+        ;;
+    esac
+}
+
 tell() {
     case $status in
     2) tell_words ;;
@@ -101,5 +116,7 @@ tell() {
     9) tell_journal ;;
     10) tell_disk ;;
     11) tell_vain ;;
+    12) say "the run text of a simplest run that breaks the claim was written; \`| bin/tau draw\` shows it" ;;
+    13) tell_absent ;;
     esac
 }

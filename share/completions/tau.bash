@@ -2,11 +2,11 @@
 # shellcheck shell=bash
 
 _tau() {
-    local word=${COMP_WORDS[COMP_CWORD]} before=${COMP_WORDS[COMP_CWORD-1]} commands="run check audit report print gen drill migrate keep resume why cut draw" options="" command="" number="" at
-    local needing=" gen drill why " reading=" run check audit report print migrate keep why cut draw decisions "
+    local word=${COMP_WORDS[COMP_CWORD]} before=${COMP_WORDS[COMP_CWORD-1]} commands="run check audit report print gen drill migrate keep resume why cut draw storm" options="" command="" number="" at
+    local needing=" gen drill why " reading=" run check audit report print migrate keep why cut draw storm decisions gather atlas "
     COMPREPLY=()
     if [[ $COMP_CWORD -eq 1 ]]; then
-        mapfile -t COMPREPLY < <(compgen -W "$commands help version decisions prove" -- "$word")
+        mapfile -t COMPREPLY < <(compgen -W "$commands help version decisions gather atlas prove" -- "$word")
         return
     fi
     for ((at = 1; at < COMP_CWORD; at++)); do
@@ -25,6 +25,8 @@ _tau() {
     keep) options="--workers --jobs --seed --steps --over" ;;
     resume) options="--workers --jobs --seed --steps" ;;
     draw) options="--from --to" ;;
+    storm) options="--claim --show --jobs --seed --seeds --fails --losses --repeats --every --steps" ;;
+    atlas) options="--claim --jobs --seed --seeds --fails --losses --repeats --every --steps" ;;
     help)
         [[ $COMP_CWORD -gt 2 ]] || mapfile -t COMPREPLY < <(compgen -W "$commands" -- "$word")
         return
