@@ -28,6 +28,7 @@ text_status limit P T ends.Done h = tt
 text_status limit P T ends.Stopped h = tt
 text_status limit P T (ends.Bad place) h = absurd h
 text_status limit P T (ends.Broken checkpoint point fall) h = absurd h
+text_status limit P T ends.Claimed h = absurd h
 
 -- an end is no refusal, and stands for no failure
 pub end_is_result : (end : End) → IsResult (of_end end)
@@ -35,12 +36,14 @@ end_is_result ends.Done = tt
 end_is_result ends.Stopped = tt
 end_is_result (ends.Bad place) = tt
 end_is_result (ends.Broken checkpoint point fall) = tt
+end_is_result ends.Claimed = tt
 
 pub end_unrefused : (end : End) → ¬ IsRefusal (of_end end)
 end_unrefused ends.Done h = absurd h
 end_unrefused ends.Stopped h = absurd h
 end_unrefused (ends.Bad place) h = absurd h
 end_unrefused (ends.Broken checkpoint point fall) h = absurd h
+end_unrefused ends.Claimed h = absurd h
 
 pub end_is_not : (end : End) (t : Status) → ¬ IsResult t → of_end end ≢ t
 end_is_not end t none same = none (subst IsResult same (end_is_result end))
