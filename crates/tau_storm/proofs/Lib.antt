@@ -9,3 +9,5 @@ pub mod Visiting
 pub mod OneStorm
 pub mod ClaimLemmas
 pub mod StormLemmas
+pub mod DealLemmas
+pub mod Sends

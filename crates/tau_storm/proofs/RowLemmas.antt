@@ -1,5 +1,5 @@
 -- Rows of a map, by the bytes of their keys.
-use Rattle.std.proofs.Common.{◌≡◌, ◌≢◌, ℕ, Bool, true, false, cond, List, [], ◌∷◌, ◌++◌, get_or, All, Some, None, ⊎_elim, refl, sym, ap, ◌∙◌, subst, arith}
+use Rattle.std.proofs.Common.{◌≡◌, ◌≢◌, ℕ, Bool, true, false, cond, List, [], ◌∷◌, get_or, All, Some, None, ⊎_elim, refl, sym, ap, ◌∙◌, subst, arith}
 use Rattle.std.specs.Prelude.{position}
 use Rattle.std.specs.Str.{bytes_eq}
 use Rattle.std.specs.declared.alloc.Global.{Global}
@@ -12,14 +12,13 @@ use Rattle.std.proofs.lemmas.Option.{slice_get_cases}
 use Rattle.std.proofs.lemmas.Slice.Eq.{bytes_eq-Decides}
 use Rattle.indexmap.specs.IndexMap.{IndexMap, get_by, insert_entry}
 use Rattle.indexmap.proofs.CallerLemmas.{insert_entry-new}
-use Rattle.tau_tree.specs.declared.entries.Entry.{Entry}
 use Rattle.tau_storm.specs.declared.rows.Row.{Row}
-use Rattle.tau_storm.specs.Inner.Counting.{first_row, CountsAt, NotesLines, there, missing}
+use Rattle.tau_storm.specs.Inner.Counting.{AddsAt, AddsRow, there, missing}
 
 -- a row that a search finds has the lines
-found_in : (p : Vec ℕ Global × Row) (rows : List (Vec ℕ Global × Row)) (lines key : List ℕ) (place seed faults steps : ℕ) (script : List Entry) (new : List (Vec ℕ Global × Row)) → key ≡ lines → position (λ (k : Vec ℕ Global). bytes_eq key k.items) (keys_of (p ∷ rows)) ≡ Some place
-    → CountsAt place seed faults steps script (p ∷ rows) new → NotesLines lines seed faults steps script (p ∷ rows) new
-found_in p rows lines key place seed faults steps script new key_is at counts =
+found_in : (p : Vec ℕ Global × Row) (rows : List (Vec ℕ Global × Row)) (lines key : List ℕ) (place : ℕ) (q : Row) (new : List (Vec ℕ Global × Row)) → key ≡ lines → position (λ (k : Vec ℕ Global). bytes_eq key k.items) (keys_of (p ∷ rows)) ≡ Some place
+    → AddsAt place q (p ∷ rows) new → AddsRow lines q (p ∷ rows) new
+found_in p rows lines key place q new key_is at counts =
     let old : List (Vec ℕ Global × Row) = p ∷ rows in
     let here = position-Some (λ (k : Vec ℕ Global). bytes_eq key k.items) (keys_of old) place p.0 at in
     ⊎_elim
@@ -31,9 +30,9 @@ found_in p rows lines key place seed faults steps script new key_is at counts =
     (λ x. absurd (omega (arith, here.0, x.0, length-map old (λ (q : Vec ℕ Global × Row). q.0))))
     (slice_get_cases old place).1
 
-pub found : (lines key : List ℕ) (place seed faults steps : ℕ) (script : List Entry) (old new : List (Vec ℕ Global × Row)) → key ≡ lines → Some place ≡ position (λ (k : Vec ℕ Global). bytes_eq key k.items) (keys_of old) → CountsAt place seed faults steps script old new → NotesLines lines seed faults steps script old new
-found lines key place seed faults steps script [] new key_is at counts = absurd (cc)
-found lines key place seed faults steps script (p ∷ rows) new key_is at counts = found_in p rows lines key place seed faults steps script new key_is (sym at) counts
+pub found : (lines key : List ℕ) (place : ℕ) (q : Row) (old new : List (Vec ℕ Global × Row)) → key ≡ lines → Some place ≡ position (λ (k : Vec ℕ Global). bytes_eq key k.items) (keys_of old) → AddsAt place q old new → AddsRow lines q old new
+found lines key place q [] new key_is at counts = absurd (cc)
+found lines key place q (p ∷ rows) new key_is at counts = found_in p rows lines key place q new key_is (sym at) counts
 
 -- where no row has them
 lacking : (lines : List ℕ) (rows : List (Vec ℕ Global × Row)) → lookup (λ (k : Vec ℕ Global). bytes_eq lines k.items) rows ≡ None → All (λ (p : Vec ℕ Global × Row). p.0.items ≢ lines) rows
@@ -45,9 +44,8 @@ lacking lines (p ∷ rows) e = by (bytes_eq lines p.0.items) refl (λ rest. lack
       let rest : lookup (λ (k : Vec ℕ Global). bytes_eq lines k.items) rows ≡ None = sym (ap (λ (b : Bool). cond b (Some p.1) (lookup (λ (k : Vec ℕ Global). bytes_eq lines k.items) rows)) f) ∙ e in
       All-cons (λ (q : Vec ℕ Global × Row). q.0.items ≢ lines) p rows (λ same. let both : true ≡ false = sym ((bytes_eq-Decides lines p.0.items).1 (sym same)) ∙ f in absurd (cc)) (later rest)
 
-pub absent : {S : Type 0} (m : IndexMap (Vec ℕ Global) Row S) (k : Vec ℕ Global) (key : List ℕ) (seed faults steps : ℕ) (script : List Entry) (row : Row) (new : List (Vec ℕ Global × Row)) → key ≡ k.items → get_by (λ (q : Vec ℕ Global). bytes_eq key q.items) m ≡ None → row ≡ first_row seed faults steps script
-    → new ≡ insert_entry (λ (a b : Vec ℕ Global). bytes_eq a.items b.items) m.entries k row → NotesLines k.items seed faults steps script m.entries new
-absent m k key seed faults steps script row new key_is none row_is is =
-    let nowhere : get_by (λ (q : Vec ℕ Global). bytes_eq k.items q.items) m ≡ None = subst (λ (l : List ℕ). get_by (λ (q : Vec ℕ Global). bytes_eq l q.items) m ≡ None) key_is none in
-    let pushed = insert_entry-new (λ (a b : Vec ℕ Global). bytes_eq a.items b.items) m k row nowhere in
-    missing k (lacking k.items m.entries nowhere) refl (is ∙ pushed ∙ ap (λ (r : Row). m.entries ++ (k, r) ∷ []) row_is)
+pub absent : {S : Type 0} (m : IndexMap (Vec ℕ Global) Row S) (k : Vec ℕ Global) (key : List ℕ) (q : Row) (new : List (Vec ℕ Global × Row)) → key ≡ k.items → get_by (λ (l : Vec ℕ Global). bytes_eq key l.items) m ≡ None
+    → new ≡ insert_entry (λ (a b : Vec ℕ Global). bytes_eq a.items b.items) m.entries k q → AddsRow k.items q m.entries new
+absent m k key q new key_is none is =
+    let nowhere : get_by (λ (l : Vec ℕ Global). bytes_eq k.items l.items) m ≡ None = subst (λ (l : List ℕ). get_by (λ (h : Vec ℕ Global). bytes_eq l h.items) m ≡ None) key_is none in
+    missing k (lacking k.items m.entries nowhere) refl (is ∙ insert_entry-new (λ (a b : Vec ℕ Global). bytes_eq a.items b.items) m k q nowhere)

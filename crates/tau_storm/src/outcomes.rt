@@ -88,6 +88,13 @@ impl Outcomes {
         Outcomes { items }
     }
 
+    /// The list of them.
+    pub(crate) fn into_vec(self) -> Vec<Outcome>
+        ensures { result.items ≡ self }
+    {
+        self.items
+    }
+
     /// How many there are.
     pub fn len(&self) -> usize
         ensures { result ≡ length self.now }

@@ -2,7 +2,7 @@
 ghost use Rattle.std.specs.Prelude.{◌≡◌, ◌<◌, IfOk, OnOk};
 ghost use Rattle.indexmap.specs.IndexMap.{index_map_len};
 ghost use Rattle.tau_storm.specs.Inner.Counting as counting;
-ghost use Rattle.tau_storm.specs.Inner.Counting.{first_row, row_after, CountsAt, NotesLines};
+ghost use Rattle.tau_storm.specs.Inner.Counting.{first_row, row_with, AddsAt, AddsRow};
 
 use crate::totals::added;
 use indexmap::IndexMap;
@@ -45,23 +45,16 @@ impl Row {
         faults < self.faults || faults == self.faults && steps < self.steps
     }
 
-    /// Counts an end more. It is kept where it is simpler.
-    fn note(
-        &mut self,
-        seed: u64,
-        faults: u32,
-        steps: u32,
-        script: &Script,
-    ) -> Result<(), AllocError>
-        ensures { OnOk result (self.new ≡ row_after self.old seed faults steps script.now) }
+    /// Adds the ends of another row that came behind. The simpler end is kept, of equals the earlier one. Where the count doesn't fit
+    /// 64 bits, the error is that of want of memory.
+    fn add(&mut self, later: Row) -> Result<(), AllocError>
+        ensures { OnOk result (self.new ≡ row_with self.old later) }
     {
-        self.runs = added(self.runs, 1)?;
-        if self.is_behind(faults, steps) {
-            self.seed = seed;
-            self.faults = faults;
-            self.steps = steps;
-            self.script = script.copy()?;
+        let runs = added(self.runs, later.runs)?;
+        if self.is_behind(later.faults, later.steps) {
+            *self = later;
         }
+        self.runs = runs;
         Ok(())
     }
 }
@@ -69,20 +62,26 @@ impl Row {
 /// The rows of a table, by the bytes of their lines.
 pub(crate) type Rows = IndexMap<Vec<u8>, Row>;
 
-/// Counts an end more in the row at a place.
-fn count_at(
-    rows: &mut Rows,
-    place: usize,
-    seed: u64,
-    faults: u32,
-    steps: u32,
-    script: &Script,
-) -> Result<(), AllocError>
+/// Adds a row to the one at a place.
+fn add_at(rows: &mut Rows, place: usize, later: Row) -> Result<(), AllocError>
     requires { place < index_map_len rows.old }
-    ensures { OnOk result (CountsAt place seed faults steps script.now rows.old.entries rows.new.entries) }
+    ensures { OnOk result (AddsAt place later rows.old.entries rows.new.entries) }
 {
     let (_, row) = rows.pair_mut(place);
-    row.note(seed, faults, steps, script)
+    row.add(later)
+}
+
+/// Adds a row to the one with the same lines, or behind the others where none has them.
+pub(crate) fn add(rows: &mut Rows, lines: Vec<u8>, row: Row) -> Result<(), AllocError>
+    ensures { OnOk result (AddsRow lines.items row rows.old.entries rows.new.entries) }
+{
+    match rows.get_index_of(lines.as_slice()) {
+        Some(place) => add_at(rows, place, row),
+        None => {
+            rows.insert(lines, row)?;
+            Ok(())
+        }
+    }
 }
 
 /// Notes an end with these lines.
@@ -94,14 +93,7 @@ pub(crate) fn note(
     steps: u32,
     script: &Script,
 ) -> Result<(), AllocError>
-    ensures { OnOk result (NotesLines lines.items seed faults steps script.now rows.old.entries rows.new.entries) }
+    ensures { OnOk result (AddsRow lines.items (first_row seed faults steps script.now) rows.old.entries rows.new.entries) }
 {
-    match rows.get_index_of(lines.as_slice()) {
-        Some(place) => count_at(rows, place, seed, faults, steps, script),
-        None => {
-            let row = Row::first(seed, faults, steps, script)?;
-            rows.insert(lines, row)?;
-            Ok(())
-        }
-    }
+    add(rows, lines, Row::first(seed, faults, steps, script)?)
 }

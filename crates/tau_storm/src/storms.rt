@@ -1,18 +1,20 @@
 //! The storm over several seeds.
-ghost use Rattle.std.specs.Prelude.{◌≡◌, List, IfOk, OnOk};
+ghost use Rattle.std.specs.Prelude.{◌≡◌, ℕ, List, IfOk, OnOk};
 ghost use Rattle.tau_tree.specs.Sound.{Sound};
 ghost use Rattle.tau_faults.specs.Visits.{IsSetting};
 ghost use Rattle.tau_faults.specs.Ends.{End};
-ghost use Rattle.tau_storm.specs.Order.{AreOrdered};
-ghost use Rattle.tau_storm.specs.Outcomes.{AreTotals};
+ghost use Rattle.tau_faults.specs.Inner.Walking.{HasSeen};
+ghost use Rattle.tau_storm.specs.Seeds.{AreEndsOfSeeds};
 ghost use Rattle.tau_storm.specs.Tables.{IsTable};
-ghost use Rattle.tau_storm.specs.Inner.Claiming.{IsFirstOf};
+ghost use Rattle.tau_storm.specs.Claims.{IsTried};
+ghost use Rattle.tau_storm.specs.Inner.Telling.{TellsEnds};
+ghost use Rattle.tau_storm.specs.Inner.Claiming.{IsTrial, IsFirstOf};
 ghost use Rattle.tau_storm.specs.Storms.{HasOutcomes, HasTried};
 
 use crate::trials::Trial;
 use crate::{Outcome, Outcomes, Table, Totals};
 use std::alloc::{AllocError, Global};
-use tau_faults::{Setting, visit_ends};
+use tau_faults::{Setting, Visit, visit_ends};
 use tau_tree::Program;
 
 /// What a storm comes to: its outcomes, in order, and what is counted over all its ends.
@@ -45,10 +47,7 @@ pub fn storm(
     ensures told { IfOk result (λ t. HasOutcomes setting.now program.old seed seeds t.outcomes t.totals) }
 {
     let mut table = Table::new(alloc);
-    for number in 0..seeds {
-        let seed = seed.wrapping_add(u64::from(number));
-        visit_ends(alloc, program, setting, seed, &mut table)?;
-    }
+    visit_seeds(alloc, program, setting, seed, seeds, &mut table)?;
     told_of(alloc, table)
 }
 
@@ -67,10 +66,36 @@ pub fn try_claim(
     ensures tried { IfOk result (λ t. HasTried setting.now program.old seed seeds behaviour t.told.outcomes t.told.totals t.broken) }
 {
     let mut trial = Trial::new(alloc, behaviour);
+    visit_seeds(alloc, program, setting, seed, seeds, &mut trial)?;
+    tried_of(alloc, trial)
+}
+
+/// Shows a visitor the ends of the storm of a program over so many seeds from this one on, seed by seed. The error is want of memory. The
+/// program is the same afterwards; after an error its script may be another.
+pub(crate) fn visit_seeds<V: Visit>(
+    alloc: Global,
+    program: &mut Program,
+    setting: &Setting,
+    seed: u64,
+    seeds: u32,
+    visitor: &mut V,
+) -> Result<(), AllocError>
+    requires sound { Sound program.old }
+    requires setting { IsSetting setting.now }
+    ensures program { OnOk result (program.new ≡ program.old) }
+    ensures ends { OnOk result (HasSeen V.visits (AreEndsOfSeeds setting.now program.old seed seeds) visitor.old visitor.new) }
+{
     for number in 0..seeds {
         let seed = seed.wrapping_add(u64::from(number));
-        visit_ends(alloc, program, setting, seed, &mut trial)?;
+        visit_ends(alloc, program, setting, seed, visitor)?;
     }
+    Ok(())
+}
+
+/// What a trial comes to. The error is want of memory.
+pub(crate) fn tried_of(alloc: Global, trial: Trial) -> Result<Tried, AllocError>
+    ensures { IfOk result (λ t. (behaviour : ℕ) (ends : List End) → IsTrial behaviour ends trial → TellsEnds ends t.told × IsTried behaviour ends t.broken) }
+{
     Ok(Tried {
         broken: first_of(alloc, trial.broken)?,
         told: told_of(alloc, trial.all)?,
@@ -78,8 +103,8 @@ pub fn try_claim(
 }
 
 /// The outcomes of a table, in order, and its totals.
-fn told_of(alloc: Global, table: Table) -> Result<Told, AllocError>
-    ensures { IfOk result (λ t. (ends : List End) → IsTable ends table → AreOrdered ends t.outcomes × AreTotals ends t.totals) }
+pub(crate) fn told_of(alloc: Global, table: Table) -> Result<Told, AllocError>
+    ensures { IfOk result (λ t. (ends : List End) → IsTable ends table → TellsEnds ends t) }
 {
     let totals = table.totals();
     Ok(Told {

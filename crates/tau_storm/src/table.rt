@@ -1,14 +1,16 @@
 //! The table of outcomes.
-ghost use Rattle.std.specs.Prelude.{◌≡◌, [], List, IfOk};
+ghost use Rattle.std.specs.Prelude.{◌≡◌, ◌++◌, [], List, IfOk, OnOk};
 ghost use Rattle.tau_faults.specs.Ends.{End};
 ghost use Rattle.tau_storm.specs.Order.{AreOrdered};
+ghost use Rattle.tau_storm.specs.Outcomes.{AreOutcomes, AreTotals};
 ghost use Rattle.tau_storm.specs.Tables.{IsTable};
 
 use crate::lines::lines_of;
 use crate::order::sort;
 use crate::outcomes::Outcomes;
 use crate::rows::{Rows, note};
-use crate::told::told;
+use crate::storms::Told;
+use crate::told::{add_told, told};
 use crate::totals::Totals;
 use indexmap::IndexMap;
 use std::alloc::{AllocError, Global};
@@ -51,6 +53,16 @@ impl Table {
         ensures { result ≡ self.now.totals }
     {
         self.totals
+    }
+
+    /// Adds what is told of ends that came behind: counts add, and of each outcome the simpler end is kept, of equals the earlier one.
+    /// The error is want of memory, or of numbers: a count that doesn't fit 64 bits.
+    pub fn append(&mut self, later: Told) -> Result<(), AllocError>
+        ensures { OnOk result ((ends more : List End) → IsTable ends self.old → AreOutcomes more later.outcomes → AreTotals more later.totals
+            → IsTable (ends ++ more) self.new) }
+    {
+        self.totals = self.totals.with(later.totals)?;
+        add_told(&mut self.rows, later.outcomes)
     }
 
     /// The outcomes of the ends, in order (docs/formats.md, "Storm"). The error is want of memory.

@@ -1,6 +1,6 @@
 //! What is counted over all ends.
 ghost use Rattle.std.specs.Prelude.{◌≡◌, ◌+◌, IfOk};
-ghost use Rattle.tau_storm.specs.Inner.Counting.{no_ends, totals_after};
+ghost use Rattle.tau_storm.specs.Inner.Counting.{no_ends, totals_after, totals_with};
 
 use std::alloc::AllocError;
 
@@ -39,6 +39,18 @@ impl Totals {
             complete: added(self.complete, u64::from(is_complete))?,
             stopped: added(self.stopped, u64::from(!is_complete))?,
             steps: added(self.steps, u64::from(steps))?,
+        })
+    }
+
+    /// The totals of these ends and of others. Where a count doesn't fit 64 bits, the error is that of want of memory.
+    pub(crate) fn with(self, more: Totals) -> Result<Totals, AllocError>
+        ensures { IfOk result (λ t. t ≡ totals_with self more) }
+    {
+        Ok(Totals {
+            runs: added(self.runs, more.runs)?,
+            complete: added(self.complete, more.complete)?,
+            stopped: added(self.stopped, more.stopped)?,
+            steps: added(self.steps, more.steps)?,
         })
     }
 }

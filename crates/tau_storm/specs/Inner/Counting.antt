@@ -1,4 +1,4 @@
--- How totals and rows change with an end more.
+-- How totals and rows change with more ends.
 use Rattle.std.specs.Prelude.{◌≡◌, ◌≢◌, ℕ, ◌+◌, ◌++◌, ◌∷◌, Bool, ◌||◌, ◌&&◌, ◌==◌, nat_lt, if◌then◌else◌, List, [], Some, All, slice_get, map}
 use Rattle.std.specs.declared.alloc.Global.{Global}
 use Rattle.std.specs.declared.vec.Vec.{Vec}
@@ -20,14 +20,21 @@ totals_after t is_complete steps = record {
   steps = t.steps + steps;
 }
 
+-- the totals of some ends and of others
+abbrev pub totals_with : Totals → Totals → Totals
+totals_with t u = record { runs = t.runs + u.runs; complete = t.complete + u.complete; stopped = t.stopped + u.stopped; steps = t.steps + u.steps }
+
 -- fewer faults, or as many and fewer steps
 abbrev pub is_simpler : ℕ → ℕ → Row → Bool
 is_simpler faults steps r = nat_lt faults r.faults || ((faults == r.faults) && nat_lt steps r.steps)
 
--- the row with an end more
-abbrev pub row_after : Row → ℕ → ℕ → ℕ → List Entry → Row
-row_after r seed faults steps script =
-    if is_simpler faults steps r then record { runs = r.runs + 1; seed = seed; faults = faults; steps = steps; script = script } else record r { runs = r.runs + 1 }
+-- the row of a first end
+abbrev pub first_row : ℕ → ℕ → ℕ → List Entry → Row
+first_row seed faults steps script = record { runs = 1; seed = seed; faults = faults; steps = steps; script = script }
+
+-- the row with the ends of another that came behind
+abbrev pub row_with : Row → Row → Row
+row_with r q = if is_simpler q.faults q.steps r then record q { runs = r.runs + q.runs } else record r { runs = r.runs + q.runs }
 
 -- the outcome that a row tells
 abbrev pub outcome_of : List ℕ → Row → Outcome
@@ -36,15 +43,11 @@ outcome_of lines r = record { lines = lines; runs = r.runs; seed = r.seed; fault
 abbrev pub outcomes_of : List (Vec ℕ Global × Row) → List Outcome
 outcomes_of rows = map (λ p. outcome_of p.0.items p.1) rows
 
--- the row of a first end
-abbrev pub first_row : ℕ → ℕ → ℕ → List Entry → Row
-first_row seed faults steps script = record { runs = 1; seed = seed; faults = faults; steps = steps; script = script }
+-- a row is added to the one with its lines, or behind the others where none has them
+pub data AddsRow (lines : List ℕ) (q : Row) (old new : List (Vec ℕ Global × Row)) : Type 0 where
+  there : (place : ℕ) (k : Vec ℕ Global) (r : Row) → slice_get old place ≡ Some (k, r) → k.items ≡ lines → new ≡ set_value_at old place (row_with r q) → AddsRow lines q old new
+  missing : (k : Vec ℕ Global) → All (λ p. p.0.items ≢ lines) old → k.items ≡ lines → new ≡ old ++ (k, q) ∷ [] → AddsRow lines q old new
 
--- an end is noted in the row with its lines, or in a new one behind the others where no row has them
-pub data NotesLines (lines : List ℕ) (seed faults steps : ℕ) (script : List Entry) (old new : List (Vec ℕ Global × Row)) : Type 0 where
-  there : (place : ℕ) (k : Vec ℕ Global) (r : Row) → slice_get old place ≡ Some (k, r) → k.items ≡ lines → new ≡ set_value_at old place (row_after r seed faults steps script) → NotesLines lines seed faults steps script old new
-  missing : (k : Vec ℕ Global) → All (λ p. p.0.items ≢ lines) old → k.items ≡ lines → new ≡ old ++ (k, first_row seed faults steps script) ∷ [] → NotesLines lines seed faults steps script old new
-
--- so it is counted in the row at a place
-abbrev pub CountsAt : ℕ → ℕ → ℕ → ℕ → List Entry → List (Vec ℕ Global × Row) → List (Vec ℕ Global × Row) → Type 0
-CountsAt place seed faults steps script old new = (k : Vec ℕ Global) (r : Row) → slice_get old place ≡ Some (k, r) → new ≡ set_value_at old place (row_after r seed faults steps script)
+-- so it is added to the row at a place
+abbrev pub AddsAt : ℕ → Row → List (Vec ℕ Global × Row) → List (Vec ℕ Global × Row) → Type 0
+AddsAt place q old new = (k : Vec ℕ Global) (r : Row) → slice_get old place ≡ Some (k, r) → new ≡ set_value_at old place (row_with r q)

@@ -1,7 +1,0 @@
-use Rattle.std.proofs.Common.{◌≡◌}
-use Rattle.tau_storm.specs.Tables.{IsTable}
-use Rattle.tau_storm.proofs.StormLemmas.{TellsSeeds}
-use Rattle.tau_storm.proofs.storms.storm.Given as goal
-
-abbrev pub invariant-loop-number : goal.invariant-loop-number
-invariant-loop-number l = (l.program ≡ l.fn.program) × TellsSeeds IsTable l.setting l.fn.program l.fn.seed l.number l.table
