@@ -4,7 +4,7 @@ ghost use Rattle.tau_io.specs.Faults.{HasRisen};
 
 use std::alloc::{AllocError, Global};
 use std::sync::atomic::{AtomicU32, Ordering};
-use tau_disk::{Disk, DiskError};
+use tau_journal::disk::{Disk, DiskError};
 use tau_kept::Gate;
 
 /// A gate that counts the evaluations that have begun.
@@ -105,7 +105,7 @@ fn add_begun(events: &mut String, count: u32) -> Result<(), AllocError> {
 
 impl Disk for NotingDisk<'_> {
     ghost use Rattle.std.specs.Prelude.{None};
-    ghost use Rattle.tau_disk.specs.Bytes.{AnyBytes};
+    ghost use Rattle.tau_journal.specs.Disk.Bytes.{AnyBytes};
 
     ghost bytes = { λ _. None };
 

@@ -3,8 +3,8 @@ use crate::answers::add_status;
 use crate::events::{CountingGate, NotingDisk};
 use crate::words::words_of;
 use std::alloc::{AllocError, Global};
-use tau_disk::MemoryDisk;
 use tau_io::{MemorySink, SteadySink, SteadySource};
+use tau_journal::disk::MemoryDisk;
 use tau_kept::{OpenGate, Status, kept_still, number};
 
 /// The most calls of a disk of which one fails in turn.

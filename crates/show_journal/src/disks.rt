@@ -1,7 +1,7 @@
 //! Disks in memory.
 use crate::playing::look;
 use std::alloc::{AllocError, Global};
-use tau_disk::MemoryDisk;
+use tau_journal::disk::MemoryDisk;
 
 /// The number that a word spells; 0 where it spells none.
 fn number_of(word: &str) -> u32 {

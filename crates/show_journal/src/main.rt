@@ -40,8 +40,8 @@ use std::alloc::{AllocError, Global};
 use std::fs::File;
 use std::process::ExitCode;
 use std::rt::Files;
-use tau_disk::FileDisk;
 use tau_io::{StdSink, StdSource, read_all, write_all_of};
+use tau_journal::disk::FileDisk;
 
 fn main(rt: HostRuntime) -> ExitCode {
     let alloc = rt.alloc();

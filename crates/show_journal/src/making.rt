@@ -5,8 +5,8 @@ ghost use Rattle.tau_journal.specs.Gates.{gate_of};
 
 use crate::playing::made;
 use std::alloc::{AllocError, Global};
-use tau_disk::Disk;
 use tau_journal::Journal;
+use tau_journal::disk::Disk;
 use tau_text::{InputError, read_program};
 
 /// Makes a journal of a program.
@@ -19,7 +19,7 @@ pub(crate) fn create<D: Disk>(
     ensures { IfOk result (λ o. IfSome o (λ j. IsAtRest (D.bytes disk.new) (D.images disk.new) (gate_of j))) }
 {
     match read_program(alloc, forms.as_bytes()) {
-        Ok(program) => made(text, tau_keeping::create(alloc, disk, &program)),
+        Ok(program) => made(text, tau_run_journal::create(alloc, disk, &program)),
         Err(error) => no_program(text, error),
     }
 }

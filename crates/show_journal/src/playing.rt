@@ -9,9 +9,9 @@ use crate::records::records;
 use crate::runs::{find, keep, read, revive_found};
 use crate::texts::{full_of, lines_of};
 use std::alloc::{AllocError, Global};
-use tau_disk::Disk;
+use tau_journal::disk::Disk;
 use tau_journal::{Journal, JournalError};
-use tau_keeping::keep_mark;
+use tau_run_journal::keep_mark;
 
 /// Makes the call of each line on a disk, and adds what it answers.
 pub(crate) fn play<D: Disk>(

@@ -6,9 +6,9 @@ use crate::making::no_program;
 use crate::runs::{add_judged, none};
 use std::alloc::{AllocError, Global};
 use tau_book::{OpenGate, Ran};
-use tau_disk::Disk;
 use tau_journal::Journal;
-use tau_recording::{keep_run, resume_run};
+use tau_journal::disk::Disk;
+use tau_journaling::{keep_run, resume_run};
 use tau_text::read_program;
 use tau_tree::Program;
 

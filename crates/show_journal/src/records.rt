@@ -6,7 +6,7 @@ ghost use Rattle.tau_journal.specs.Gates.{gate_of};
 use crate::playing::made;
 use crate::texts::add_lines;
 use std::alloc::{AllocError, Global};
-use tau_disk::Disk;
+use tau_journal::disk::Disk;
 use tau_journal::{Journal, Records};
 
 /// Adds the records that are found on a disk, whatever they are, or why none are.

@@ -7,10 +7,10 @@ ghost use Rattle.tau_journal.specs.Gates.{gate_of};
 use crate::playing::made;
 use crate::texts::{add_program, add_run};
 use std::alloc::{AllocError, Global};
-use tau_disk::Disk;
+use tau_journal::disk::Disk;
 use tau_journal::{Journal, JournalError};
-use tau_keeping::keep_step;
-use tau_resuming::{find_legal, revive};
+use tau_journaling::found::{find_legal, revive};
+use tau_run_journal::keep_step;
 use tau_script::opening_of;
 use tau_sexpr::{Form, FormError, Forms, read_forms};
 use tau_steps::{StepError, form_of_step, steps_of};
@@ -65,7 +65,7 @@ pub(crate) fn read<D: Disk>(
 ) -> Result<Option<Journal>, AllocError>
     ensures { IfOk result (λ o. IfSome o (λ j. IsAtRest (D.bytes disk.new) (D.images disk.new) (gate_of j))) }
 {
-    match tau_keeping::find(alloc, disk) {
+    match tau_run_journal::find(alloc, disk) {
         Ok(found) => {
             add_run(alloc, text, &found.program, &found.trace)?;
             made(text, Ok(found.journal))

@@ -6,7 +6,7 @@
 use crate::calls::{Call, Part, number_of};
 use crate::points::{add_point, add_points, pairs_of, points_of};
 use std::alloc::{AllocError, Global};
-use tau_chains::{Chain, Chained, Places, Points, shortest};
+use tau_explain::chains::{Chain, Chained, Places, Points, shortest};
 use tau_points::{PointSet, Relation};
 
 /// What finds chains.

@@ -5,7 +5,7 @@
 //! - `numbers K` writes the numbers, `number K WHO` that of a transactor.
 use crate::calls::{Call, Part, number_of};
 use std::alloc::{AllocError, Global};
-use tau_numbers::Numbers;
+use tau_versions::numbers::Numbers;
 
 /// Lists of numbers in the order in which they were made.
 #[derive(Drop)]

@@ -5,10 +5,10 @@ use crate::showing::{
     Shown, add_freedom, add_history_line, add_standing_or_state, add_verdict, add_view,
 };
 use std::alloc::{AllocError, Global};
-use tau_clean::MarkedHearing;
-use tau_fate::Verdict;
 use tau_rules::System;
+use tau_verdicts::MarkedHearing;
 use tau_view::View;
+use tau_view::fate::Verdict;
 use tau_views::Views;
 
 /// Adds what a call asks for, as `show_viewed` does.

@@ -22,12 +22,12 @@ use crate::showing::Shown;
 use crate::viewed::show_viewed;
 use std::alloc::{AllocError, Global};
 use std::process::ExitCode;
-use tau_clean::MarkedHearing;
 use tau_compact::PrunedView;
 use tau_forms::program_of;
 use tau_io::{StdSink, StdSource, read_all, write_all_of};
 use tau_sexpr::read_forms;
 use tau_tree::Program;
+use tau_verdicts::MarkedHearing;
 use tau_view::FullView;
 use tau_views::Views;
 

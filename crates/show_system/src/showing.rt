@@ -4,7 +4,6 @@ ghost use Rattle.tau_trace.specs.Run.{len};
 
 use std::alloc::{AllocError, Global};
 use tau_compact::PrunedView;
-use tau_fate::{Freedom, Verdict, free};
 use tau_history::History;
 use tau_knowledge::Knowledge;
 use tau_points::{Point, PointSet, Relation};
@@ -13,6 +12,7 @@ use tau_sexpr::{Forms, print_forms};
 use tau_steps::form_of_step;
 use tau_trace::Trace;
 use tau_value::Value;
+use tau_view::fate::{Freedom, Verdict, free};
 use tau_view::{FullView, View};
 
 /// A view whose edges can be shown.

@@ -6,8 +6,8 @@ use crate::showing::{
     Shown, add_freedom, add_history_line, add_standing_or_state, add_verdict, add_view, point_of,
 };
 use std::alloc::{AllocError, Global};
-use tau_fate::{Verdict, judge};
 use tau_rules::System;
+use tau_view::fate::{Verdict, judge};
 use tau_views::Views;
 
 /// Adds what a call asks for: the standing, state, saved state, history or view of a transactor, whether it is free, the view

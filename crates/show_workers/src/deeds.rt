@@ -8,9 +8,9 @@ use crate::rest::add_rest;
 use crate::side::{Side, Who, ask, bring, give_back, leave, seat_of};
 use std::alloc::{AllocError, Global};
 use std::sync::Wait;
-use tau_clean::MarkedHearing;
 use tau_seat::SeatBook;
 use tau_tree::Program;
+use tau_verdicts::MarkedHearing;
 
 /// What a hand does.
 #[derive(Clone, Copy)]

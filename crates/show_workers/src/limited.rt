@@ -3,8 +3,8 @@
 use std::alloc::AllocError;
 use std::sync::Wait;
 use tau_book::{Hand, Next, StepPlace, Told};
-use tau_clean::MarkedHearing;
 use tau_eval::Pending;
+use tau_verdicts::MarkedHearing;
 use tau_workers::LockedBook;
 
 /// A place on a book under a lock that has so many answers left, and then tells want of memory.

@@ -8,8 +8,8 @@ use std::alloc::{AllocError, Global};
 use std::sync::Wait;
 use std::thread::Threads;
 use tau_book::{Book, Hand, Ran};
-use tau_clean::MarkedHearing;
 use tau_tree::Program;
+use tau_verdicts::MarkedHearing;
 use tau_workers::{LockedBook, OpenGate, Settings, Worker, finish, run};
 
 /// More answers than a run asks for.

@@ -6,9 +6,9 @@ ghost use Rattle.show_workers.specs.Seats.{IsAt};
 use crate::side::{Side, Who, side_of};
 use std::alloc::{AllocError, Global};
 use tau_book::{Book, Hand};
-use tau_clean::MarkedHearing;
 use tau_seat::{BookSeat, SeatBook};
 use tau_tree::Program;
+use tau_verdicts::MarkedHearing;
 
 /// A table that keeps a book, and a hand at each of its two seats.
 #[derive(Drop)]

@@ -2,8 +2,8 @@
 use crate::side::Who;
 use std::alloc::{AllocError, Global};
 use tau_book::Book;
-use tau_clean::MarkedHearing;
 use tau_trace::{Step, Trace};
+use tau_verdicts::MarkedHearing;
 use tau_workers::finish;
 
 /// Adds how many jobs the book adopts, and how many once more, and its steps once a last hand has gone on alone, each with the hand that

@@ -7,9 +7,9 @@ use std::alloc::{AllocError, Global};
 use std::mem;
 use std::sync::Wait;
 use tau_book::{Hand, Next, Told};
-use tau_clean::MarkedHearing;
 use tau_eval::{Job, Pending};
 use tau_seat::{BookSeat, SeatBook};
+use tau_verdicts::MarkedHearing;
 
 /// One of the two hands.
 #[derive(Clone, Copy)]

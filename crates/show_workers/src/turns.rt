@@ -6,9 +6,9 @@ use crate::pair::{Pair, book_of, open_pair};
 use crate::side::{Side, seat_of, take_turn};
 use std::alloc::{AllocError, Global};
 use std::sync::Wait;
-use tau_clean::MarkedHearing;
 use tau_seat::SeatBook;
 use tau_tree::Program;
+use tau_verdicts::MarkedHearing;
 
 /// Lets one seat take so many turns at the book of a program, in each of which it gives back the jobs of an empty hand, and adds how many
 /// steps the book has that comes back.

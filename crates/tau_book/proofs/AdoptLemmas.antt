@@ -15,9 +15,9 @@ use Rattle.tau_rules.specs.System.{Core}
 use Rattle.tau_rules.specs.Answers.{IsOpenJob, IsJobOf}
 use Rattle.tau_rules.specs.Inner.Acting.{IsTaker}
 use Rattle.tau_rules.proofs.ActLemmas.{one_open_turn}
-use Rattle.tau_scripted.specs.OpenTurns.{IsOpenFrom, AreOpenTurns}
-use Rattle.tau_scripted.specs.ScriptedRun.{ScriptedRun}
-use Rattle.tau_scripted.proofs.Members.{contains_here, contains_there, contains_filter, filter_contains, contains_map, map_contains}
+use Rattle.tau_queue.specs.OpenTurns.{IsOpenFrom, AreOpenTurns}
+use Rattle.tau_queue.specs.ScriptedRun.{ScriptedRun}
+use Rattle.tau_queue.proofs.Members.{contains_here, contains_there, contains_filter, filter_contains, contains_map, map_contains}
 use Rattle.tau_book.specs.Hands.{Held, is_of}
 use Rattle.tau_book.specs.Books.{Booked, booked, AreOfDifferentTurns}
 use Rattle.tau_book.specs.Offers.{open_jobs, jobs_with, stored}

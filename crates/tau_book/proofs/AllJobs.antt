@@ -22,7 +22,7 @@ use Rattle.tau_rules.specs.declared.answers.Delivered.TheVariants.{Began, Droppe
 use Rattle.tau_check.proofs.Turns.{BeginsNone, of_turn_begins_none, earlier, ended}
 use Rattle.tau_check.proofs.Endings.{legal_fits, last_fits}
 use Rattle.tau_check.proofs.Receipts.{IsByIdle, by_idle}
-use Rattle.tau_scripted.proofs.Members.{contains_here, contains_filter}
+use Rattle.tau_queue.proofs.Members.{contains_here, contains_filter}
 use Rattle.tau_book.specs.Hands.{Held, IsNumbered}
 use Rattle.tau_book.specs.Books.{Booked, IsBook}
 use Rattle.tau_book.specs.Offers.{Offer, open_jobs, taken_up, jobs_with, store_without, options, number_drawn, generator_after}

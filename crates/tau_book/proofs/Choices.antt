@@ -15,12 +15,12 @@ use Rattle.tau_rules.specs.System.{Core}
 use Rattle.tau_rules.specs.Answers.{IsDelivered}
 use Rattle.tau_rules.specs.declared.answers.Delivered.{Delivered}
 use Rattle.tau_rules.specs.declared.answers.Delivered.TheVariants.{Began, Dropped, Fell, Voided, Echoed, Heeded}
-use Rattle.tau_scripted.specs.OpenTurns.{AreOpenTurns}
-use Rattle.tau_scripted.specs.Flight.{IsDeliverable, AreDeliverable}
-use Rattle.tau_scripted.specs.ScriptedRun.{ScriptedRun}
-use Rattle.tau_scripted.proofs.Members.{contains_nothing, contains_here}
+use Rattle.tau_queue.specs.OpenTurns.{AreOpenTurns}
+use Rattle.tau_queue.specs.Flight.{IsDeliverable, AreDeliverable}
+use Rattle.tau_queue.specs.ScriptedRun.{ScriptedRun}
+use Rattle.tau_queue.proofs.Members.{contains_nothing, contains_here}
 use Rattle.tau_legal.proofs.ReceiverLemmas.{receivers_of_fitting}
-use Rattle.tau_scripted.proofs.Homes.{at_place}
+use Rattle.tau_queue.proofs.Homes.{at_place}
 use Rattle.tau_book.specs.Hands.{Held, IsNumbered}
 use Rattle.tau_book.specs.Books.{booked, GoesOn}
 use Rattle.tau_book.specs.Offers.{Offer, jobs_with, store_without, options, number_drawn, generator_after}

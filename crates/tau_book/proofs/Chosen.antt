@@ -13,8 +13,8 @@ use Rattle.tau_tree.specs.declared.programs.Program.{Program}
 use Rattle.tau_trace.specs.Run.{Run}
 use Rattle.tau_eval.specs.Turn as jobs
 use Rattle.tau_rules.specs.Answers.{IsOpenJob}
-use Rattle.tau_scripted.specs.OpenTurns.{IsOpenFrom, AreOpenTurns}
-use Rattle.tau_scripted.proofs.Members.{contains_nothing, contains_here, contains_there, contains_cases, contains_filter, filter_contains, contains_map, map_contains}
+use Rattle.tau_queue.specs.OpenTurns.{IsOpenFrom, AreOpenTurns}
+use Rattle.tau_queue.proofs.Members.{contains_nothing, contains_here, contains_there, contains_cases, contains_filter, filter_contains, contains_map, map_contains}
 use Rattle.tau_book.specs.Hands.{Held, is_earlier, is_of, IsNumbered}
 use Rattle.tau_book.specs.Offers.{open_jobs, without, taken_up, jobs_with, store_without, options}
 use Rattle.tau_book.specs.SerialRun.{Choosable, turn, message}

@@ -5,8 +5,8 @@ use Rattle.std.specs.Option.{option_to_list}
 use Rattle.std.proofs.lemmas.List.Elements.{Contains-append_left}
 use Rattle.tau_eval.specs.Turn.{TurnSoFar}
 use Rattle.tau_trace.specs.Run.{Run}
-use Rattle.tau_scripted.specs.OpenTurns.{IsOpenFrom}
-use Rattle.tau_scripted.proofs.Members.{contains_nothing, contains_here, contains_there, contains_filter}
+use Rattle.tau_queue.specs.OpenTurns.{IsOpenFrom}
+use Rattle.tau_queue.proofs.Members.{contains_nothing, contains_here, contains_there, contains_filter}
 use Rattle.tau_book.specs.declared.answers.Next.{Next}
 use Rattle.tau_book.specs.declared.answers.Next.TheVariants.{Idle}
 use Rattle.tau_book.specs.Hands.{Held}

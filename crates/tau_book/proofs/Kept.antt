@@ -17,7 +17,7 @@ use Rattle.tau_rules.proofs.ActLemmas.{one_open_turn}
 use Rattle.tau_check.proofs.Once.{same_taker}
 use Rattle.tau_check.proofs.Turns.{BeginsNone, earlier, ended}
 use Rattle.tau_check.proofs.JobLemmas.{job_kept}
-use Rattle.tau_scripted.specs.OpenTurns.{IsOpenFrom}
+use Rattle.tau_queue.specs.OpenTurns.{IsOpenFrom}
 use Rattle.tau_book.specs.Adopted.{HasJobFrom}
 use Rattle.tau_book.specs.Working.{AreJobs}
 use Rattle.tau_book.specs.Inner.Working.{AreOpenJobs, AreOtherJobs}

@@ -14,7 +14,7 @@ use Rattle.tau_rules.specs.declared.answers.Delivered.{Delivered}
 use Rattle.tau_rules.specs.declared.answers.Delivered.TheVariants.{Began, Dropped, Fell, Voided, Echoed, Heeded}
 use Rattle.tau_rules.specs.KnownJobs.{WasOpenJob}
 use Rattle.tau_rules.proofs.KnownJobs.{known_longer, open_known}
-use Rattle.tau_scripted.proofs.Members.{contains_here}
+use Rattle.tau_queue.proofs.Members.{contains_here}
 use Rattle.tau_book.specs.declared.answers.Next.TheVariants as nexts
 use Rattle.tau_book.specs.declared.answers.Told.TheVariants as tolds
 use Rattle.tau_book.specs.Hands.{Held, IsNumbered}

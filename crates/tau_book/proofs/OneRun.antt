@@ -19,7 +19,7 @@ use Rattle.tau_check.specs.Families.{turn_of}
 use Rattle.tau_check.proofs.FamilyLemmas.{one_receipt, one_turn_step}
 use Rattle.tau_check.proofs.Once.{same_taker}
 use Rattle.tau_check.proofs.TurnSteps.{acts_in_turn}
-use Rattle.tau_scripted.proofs.Members.{contains_nothing, contains_here, contains_there, contains_cases}
+use Rattle.tau_queue.proofs.Members.{contains_nothing, contains_here, contains_there, contains_cases}
 use Rattle.tau_book.specs.Laws.{SerialRunIsUnique}
 use Rattle.tau_book.specs.SerialRun.{IsSerialRun, ComesAbout, begins, due, chooses, Choosable, turn, message, AreOptions, IsReceipt, take, drop, fall, void, echo, heed, IsStepOf, of_turn, of_message}
 use Rattle.tau_book.proofs.Chosen.{options_of}

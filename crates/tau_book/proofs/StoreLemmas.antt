@@ -9,8 +9,8 @@ use Rattle.std.proofs.lemmas.List.Elements.{All-push, All-contains, Contains-get
 use Rattle.tau_mailbox.proofs.Lists.{length-filter-le}
 use Rattle.tau_mailbox.specs.MailState.{is_not}
 use Rattle.tau_eval.specs.Turn.{TurnSoFar}
-use Rattle.tau_scripted.proofs.Members.{contains_nothing, contains_here, contains_there, contains_cases, contains_filter, filter_contains, map_contains}
-use Rattle.tau_scripted.proofs.DeliverableLemmas.{contains_any}
+use Rattle.tau_queue.proofs.Members.{contains_nothing, contains_here, contains_there, contains_cases, contains_filter, filter_contains, map_contains}
+use Rattle.tau_queue.proofs.DeliverableLemmas.{contains_any}
 use Rattle.tau_book.specs.Hands.{is_of}
 use Rattle.tau_book.specs.Books.{AreOfDifferentTurns}
 use Rattle.tau_book.specs.Offers.{open_jobs, without}

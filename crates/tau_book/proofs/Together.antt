@@ -9,8 +9,8 @@ use Rattle.std.proofs.lemmas.List.Elements.{filter-append, Contains-append_left,
 use Rattle.tau_tree.specs.declared.programs.Program.{Program}
 use Rattle.tau_trace.specs.Run.{Run}
 use Rattle.tau_eval.specs.Turn.{TurnSoFar}
-use Rattle.tau_scripted.specs.OpenTurns.{AreOpenTurns}
-use Rattle.tau_scripted.proofs.Members.{contains_nothing, contains_here, contains_there, contains_cases, contains_filter, filter_contains}
+use Rattle.tau_queue.specs.OpenTurns.{AreOpenTurns}
+use Rattle.tau_queue.proofs.Members.{contains_nothing, contains_here, contains_there, contains_cases, contains_filter, filter_contains}
 use Rattle.tau_book.specs.Hands.{Held, is_of}
 use Rattle.tau_book.specs.Offers.{open_jobs, earlier_of, earliest, without, taken_up, jobs_with, store_without}
 use Rattle.tau_book.specs.Adopted.{HasJobFrom}

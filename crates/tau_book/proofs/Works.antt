@@ -17,7 +17,7 @@ use Rattle.tau_rules.specs.Answers.{IsStepped, IsDelivered}
 use Rattle.tau_rules.specs.declared.answers.Delivered.{Delivered}
 use Rattle.tau_rules.specs.declared.answers.Delivered.TheVariants.{Began, Dropped, Fell, Voided, Echoed, Heeded}
 use Rattle.tau_check.proofs.Endings.{legal_fits, last_fits}
-use Rattle.tau_scripted.proofs.Members.{contains_nothing}
+use Rattle.tau_queue.proofs.Members.{contains_nothing}
 use Rattle.tau_book.specs.Hands.{Held, IsNumbered}
 use Rattle.tau_book.specs.Books.{Booked, IsBook, IsAtLimit, IsComplete}
 use Rattle.tau_book.specs.Offers.{Offer, open_jobs, jobs_with, store_without, options, number_drawn, generator_after}

@@ -5,7 +5,7 @@ use Rattle.tau_tree.specs.declared.programs.Program.{Program}
 use Rattle.tau_trace.specs.Run.{Run}
 use Rattle.tau_eval.specs.Turn.{TurnSoFar}
 use Rattle.tau_rules.specs.Answers.{IsOpenJob}
-use Rattle.tau_scripted.specs.OpenTurns.{IsOpenFrom, AreOpenTurns}
+use Rattle.tau_queue.specs.OpenTurns.{IsOpenFrom, AreOpenTurns}
 use Rattle.tau_book.specs.Hands.{is_of}
 use Rattle.tau_book.specs.Books.{Booked, AreOfDifferentTurns}
 use Rattle.tau_book.specs.Offers.{open_jobs}

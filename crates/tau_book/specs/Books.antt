@@ -12,8 +12,8 @@ use Rattle.tau_script.specs.Scripts.{NoneDue}
 use Rattle.tau_legal.specs.Traces.{Legal, Complete}
 use Rattle.tau_eval.specs.Turn.{TurnSoFar}
 use Rattle.tau_rules.specs.System.{Core, with_step}
-use Rattle.tau_scripted.specs.Flight.{AreInFlight}
-use Rattle.tau_scripted.specs.ScriptedRun.{ScriptedRun}
+use Rattle.tau_queue.specs.Flight.{AreInFlight}
+use Rattle.tau_queue.specs.ScriptedRun.{ScriptedRun}
 
 -- the system, the letters of the messages in flight, the cursor of the script, the limit of steps, and the returned jobs
 pub record Booked : Type 0 where

@@ -5,8 +5,8 @@ use Rattle.std.specs.Option.{option_to_list}
 use Rattle.rand_pcg.specs.Lcg.{Lcg}
 use Rattle.rand_pcg.specs.Pcg.{pcg32}
 use Rattle.tau_eval.specs.Turn.{TurnSoFar}
-use Rattle.tau_scripted.specs.OpenTurns.{AreOpenTurns}
-use Rattle.tau_scripted.specs.Flight.{IsDeliverable, AreDeliverable}
+use Rattle.tau_queue.specs.OpenTurns.{AreOpenTurns}
+use Rattle.tau_queue.specs.Flight.{IsDeliverable, AreDeliverable}
 use Rattle.tau_book.specs.Hands.{Held, is_of}
 use Rattle.tau_book.specs.Books.{Booked}
 

@@ -12,8 +12,8 @@ use Rattle.tau_script.specs.Openings.{program_opening}
 use Rattle.tau_script.specs.Scripts.{DueStep, NoneDue}
 use Rattle.tau_legal.specs.Fits.{Fits, IsStepOfTurn}
 use Rattle.tau_legal.specs.Traces.{Complete}
-use Rattle.tau_scripted.specs.OpenTurns.{AreOpenTurns}
-use Rattle.tau_scripted.specs.Flight.{AreDeliverable}
+use Rattle.tau_queue.specs.OpenTurns.{AreOpenTurns}
+use Rattle.tau_queue.specs.Flight.{AreDeliverable}
 
 -- what a serial run goes on with: the open turn from a place, or a message in flight
 pub data Choosable : Type 0 where

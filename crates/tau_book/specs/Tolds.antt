@@ -7,7 +7,7 @@ use Rattle.tau_eval.specs.Turn.{TurnSoFar, with_reply}
 use Rattle.tau_rules.specs.Answers.{IsActed, NoTurnFrom, IsTurnEnd}
 use Rattle.tau_rules.specs.declared.answers.Acted.{Acted}
 use Rattle.tau_rules.specs.declared.answers.Acted.TheVariants.{Reply, TurnOver, Redo}
-use Rattle.tau_scripted.specs.OpenTurns.{AreOpenTurns}
+use Rattle.tau_queue.specs.OpenTurns.{AreOpenTurns}
 use Rattle.tau_book.specs.declared.answers.Told.{Told}
 use Rattle.tau_book.specs.declared.answers.Told.TheVariants as tolds
 use Rattle.tau_book.specs.Hands.{Held, joined}

@@ -5,7 +5,7 @@ use Rattle.tau_tree.specs.declared.programs.Program.{Program}
 use Rattle.tau_trace.specs.Run.{Run}
 use Rattle.tau_eval.specs.Turn as jobs
 use Rattle.tau_rules.specs.Answers.{IsOpenJob}
-pub use Rattle.tau_scripted.specs.OpenTurns.{IsOpenFrom}
+pub use Rattle.tau_queue.specs.OpenTurns.{IsOpenFrom}
 use Rattle.tau_book.specs.Hands.{Held}
 use Rattle.tau_book.specs.Books.{Booked}
 use Rattle.tau_book.specs.Adopted.{HasJobFrom}

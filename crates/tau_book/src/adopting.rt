@@ -4,7 +4,7 @@ ghost use Rattle.tau_trace.specs.Run.{len};
 ghost use Rattle.tau_trace.specs.Turns.{IsOpenTurn};
 ghost use Rattle.tau_rules.specs.Answers.{IsOpenJob};
 ghost use Rattle.tau_rules.specs.Inner.Acting.{IsTaker};
-ghost use Rattle.tau_scripted.specs.OpenTurns.{IsOpenFrom};
+ghost use Rattle.tau_queue.specs.OpenTurns.{IsOpenFrom};
 ghost use Rattle.tau_book.specs.Adopted.{AreMissing, IsAdopted};
 
 use crate::Book;
@@ -13,7 +13,7 @@ use crate::returns::{give_all, has_of};
 use std::alloc::{AllocError, Global};
 use tau_eval::Job;
 use tau_knowledge::Knowledge;
-use tau_scripted::Scripted;
+use tau_queue::Scripted;
 use tau_trace::{Step, Trace};
 
 impl<'p, K: Knowledge + Drop> Book<'p, K> {

@@ -15,7 +15,7 @@ use rand_pcg::Pcg32;
 use std::alloc::AllocError;
 use tau_eval::Job;
 use tau_knowledge::Knowledge;
-use tau_scripted::Scripted;
+use tau_queue::Scripted;
 
 /// Chooses what the hand does next (docs/rules.md, "Choice of a worker"). The error is want of memory, and nothing is different then.
 pub(crate) fn choose<'p, K: Knowledge + Drop>(

@@ -7,10 +7,10 @@ ghost use Rattle.tau_legal.specs.Traces.{Legal};
 
 use crate::Book;
 use std::alloc::{AllocError, Global};
-use tau_clean::MarkedHearing;
-use tau_scripted::Scripted;
+use tau_queue::Scripted;
 use tau_trace::Trace;
 use tau_tree::Program;
+use tau_verdicts::MarkedHearing;
 
 impl<'p> Book<'p, MarkedHearing> {
     /// The book of a program behind the steps of a legal trace, with a limit of steps and no returned jobs. It has room for a job

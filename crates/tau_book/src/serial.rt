@@ -12,8 +12,8 @@ ghost use Rattle.tau_book.specs.Inner.Working.{IsSameWork};
 
 use crate::{Book, Hand, OpenGate, Ran, next_step};
 use std::alloc::{AllocError, Global};
-use tau_clean::MarkedHearing;
 use tau_tree::Program;
+use tau_verdicts::MarkedHearing;
 
 /// The serial run of a program (docs/definitions.md, "Serial run") by one worker with room for 1 to `JOB_LIMIT` jobs, whose
 /// words are those of `Pcg32` seeded with `seed`, up to `limit` steps. The error is want of memory.

@@ -8,8 +8,8 @@ ghost use Rattle.tau_book.specs.Inner.Working.{HasHandedOut, HasChosen};
 
 use crate::{Book, Gate, Hand, Next};
 use std::alloc::AllocError;
-use tau_clean::MarkedHearing;
 use tau_eval::{Job, Pending};
+use tau_verdicts::MarkedHearing;
 
 /// The number of the one worker.
 const WORKER: u32 = 0;

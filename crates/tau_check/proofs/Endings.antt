@@ -16,8 +16,8 @@ use Rattle.tau_legal.specs.Traces.{Fitting, IsLegal, Legal}
 use Rattle.tau_legal.proofs.TraceLemmas.{legal_same}
 use Rattle.tau_eval.specs.Turn as jobs
 use Rattle.tau_rules.specs.System.{Core, with_step}
-use Rattle.tau_due.proofs.DueLemmas.{due_object}
-use Rattle.tau_due.proofs.Steps.{fits_at_end}
+use Rattle.tau_failures.proofs.DueLemmas.{due_object}
+use Rattle.tau_failures.proofs.Steps.{fits_at_end}
 use Rattle.tau_check.specs.Families.{turn_of}
 use Rattle.tau_check.specs.Inner.Jobs.{HasJobs}
 use Rattle.tau_check.specs.Inner.Checkers.{HasAsked, GoesOn}

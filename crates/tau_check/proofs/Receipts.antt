@@ -24,7 +24,7 @@ use Rattle.tau_check.specs.Inner.Checkers.{HasAsked, GoesOn}
 use Rattle.tau_check.proofs.Turns.{BeginsNone}
 use Rattle.tau_check.proofs.Kept.{all_jobs, others_after, jobs_after_idle}
 use Rattle.tau_check.proofs.FamilyLemmas.{one_receipt}
-use Rattle.tau_due.proofs.Steps.{received}
+use Rattle.tau_failures.proofs.Steps.{received}
 use Rattle.tau_check.proofs.Endings.{legal_fits, goes_on, last_step, last_fits}
 
 -- the step is by the receiver of message m, which is in flight, and no turn of it is open

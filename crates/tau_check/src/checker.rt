@@ -8,7 +8,7 @@ ghost use Rattle.tau_script.specs.Cursors.{CursorAt};
 ghost use Rattle.tau_script.specs.Openings.{program_opening};
 ghost use Rattle.tau_legal.specs.Traces.{Complete};
 ghost use Rattle.tau_rules.specs.Answers.{IsOpenJob};
-ghost use Rattle.tau_due.specs.Dues.{step_of};
+ghost use Rattle.tau_failures.specs.Dues.{step_of};
 ghost use Rattle.tau_trace.specs.Steps.{received_by as received_message};
 ghost use Rattle.tau_check.specs.Families.{turn_of as acting};
 ghost use Rattle.tau_check.specs.Inner.Jobs.{HasJobs, HasOtherJobs};
@@ -20,12 +20,12 @@ use crate::jobs::{keep_after, keep_begun, take_job};
 use crate::reading::{has_made, length, open_turn};
 use crate::same::same_step;
 use std::alloc::{AllocError, Global};
-use tau_clean::MarkedHearing;
-use tau_due::{Due, LegalSystem};
 use tau_eval::{Job, Pending};
+use tau_failures::{Due, LegalSystem};
 use tau_rules::DeliverError;
 use tau_trace::Step;
 use tau_tree::Program;
+use tau_verdicts::MarkedHearing;
 
 /// The system of the steps before a place, and the jobs of the open turns, each at the place of its transactor.
 #[derive(Drop)]

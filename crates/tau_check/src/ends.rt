@@ -4,7 +4,7 @@ ghost use Rattle.tau_trace.specs.Run.{len};
 ghost use Rattle.tau_trace.specs.Numbering.{InFlight};
 ghost use Rattle.tau_trace.specs.Known.{WellFormed};
 ghost use Rattle.tau_trace.specs.Turns.{Turn};
-ghost use Rattle.tau_due.specs.LegalRun.{NothingLeft};
+ghost use Rattle.tau_failures.specs.LegalRun.{NothingLeft};
 
 use tau_trace::Trace;
 

@@ -9,10 +9,10 @@ ghost use Rattle.tau_check.specs.Inner.Checkers.{HasSteppedTo};
 
 use crate::checker::Checker;
 use std::alloc::{AllocError, Global};
-use tau_clean::MarkedHearing;
-use tau_due::LegalSystem;
+use tau_failures::LegalSystem;
 use tau_trace::Trace;
 use tau_tree::Program;
+use tau_verdicts::MarkedHearing;
 
 /// The system of a program behind the steps of a legal trace, and the cursor of its script there (docs/definitions.md, "Fitting
 /// and legal steps", "Due step"). Each turn is evaluated anew, as `check` does. The error is want of memory.

@@ -14,4 +14,4 @@ mod same;
 pub use checking::{Legality, check};
 pub use following::follow;
 pub use laws::one_step_of_a_family_fits;
-pub use tau_clean::MarkedHearing;
+pub use tau_verdicts::MarkedHearing;

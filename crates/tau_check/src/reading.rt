@@ -6,9 +6,9 @@ ghost use Rattle.tau_trace.specs.Turns.{IsOpenTurn};
 ghost use Rattle.tau_legal.specs.Traces.{Legal};
 
 use crate::same::stands_at;
-use tau_clean::MarkedHearing;
-use tau_due::LegalSystem;
+use tau_failures::LegalSystem;
 use tau_trace::Step;
+use tau_verdicts::MarkedHearing;
 
 /// How many steps the run has.
 pub(crate) fn length(system: &LegalSystem<'_, MarkedHearing>) -> u32

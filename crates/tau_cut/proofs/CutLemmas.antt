@@ -10,8 +10,8 @@ use Rattle.tau_points.specs.declared.point.Point.{Point}
 use Rattle.tau_points.specs.Members.{SameMembers}
 use Rattle.tau_points.specs.Reach.{start, next}
 use Rattle.tau_points.proofs.Reach.{nested, path_of, reach_of}
-use Rattle.tau_chains.specs.declared.chained.Chained.{Chained}
-use Rattle.tau_chains.specs.Chains.{IsChain, HasNoChain}
+use Rattle.tau_explain.specs.declared.chains.chained.Chained.{Chained}
+use Rattle.tau_explain.specs.Chains.Chains.{IsChain, HasNoChain}
 use Rattle.tau_trace.specs.Run.{Run, len}
 use Rattle.tau_trace.specs.Histories.{history, move_at, Closes, Falls}
 use Rattle.tau_trace.specs.Points.{point_at, IsOpeningPoint}
@@ -23,9 +23,9 @@ use Rattle.tau_past.specs.Pasts.{Link, takes, closing, ClosesAt, checkpoint, ope
 use Rattle.tau_past.specs.Safety.{RolledBack}
 use Rattle.tau_past.proofs.HeardLemmas.{carried_touched}
 use Rattle.tau_past.proofs.Safety.{nothing_at_opening}
-use Rattle.tau_links.specs.Links.{IsFirstTold, IsMade, IsChainFrom, AreChainsFrom, points_of}
-use Rattle.tau_links.proofs.PushLemmas.{takes_of, acts_within, checks_who}
-use Rattle.tau_links.proofs.ChainLemmas.{stood_touched}
+use Rattle.tau_explain.specs.Links.Links.{IsFirstTold, IsMade, IsChainFrom, AreChainsFrom, points_of}
+use Rattle.tau_explain.proofs.PushLemmas.{takes_of, acts_within, checks_who}
+use Rattle.tau_explain.proofs.ChainLemmas.{stood_touched}
 use Rattle.tau_explain.proofs.HearingLemmas.{ascending_of}
 use Rattle.tau_cut.specs.declared.cut.Marked.{Marked}
 use Rattle.tau_cut.specs.declared.cut.Marked.TheVariants.{In, Out}

@@ -17,8 +17,8 @@ use Rattle.tau_past.specs.Audits.{ChecksAt}
 use Rattle.tau_past.specs.Tables.{TellsMade}
 use Rattle.tau_past.specs.declared.made.Made.{Made}
 use Rattle.tau_past.proofs.Safety.{nothing_at_opening}
-use Rattle.tau_links.specs.Links.{IsMade}
-use Rattle.tau_links.proofs.PushLemmas.{acts_within, checks_who}
+use Rattle.tau_explain.specs.Links.Links.{IsMade}
+use Rattle.tau_explain.proofs.PushLemmas.{acts_within, checks_who}
 use Rattle.tau_explain.specs.Inner.Causes.{IsMadePoint}
 use Rattle.tau_explain.proofs.CauseLemmas.{made_point, made_once}
 use Rattle.tau_cut.specs.Inner.Checkpoints.{AddsCheckpoint, no_checkpoint, one_checkpoint, AreCheckpoints, AddsUnkept, AreUnkept}

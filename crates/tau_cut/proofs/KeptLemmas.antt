@@ -30,7 +30,7 @@ use Rattle.tau_past.proofs.Known.{acts_known}
 use Rattle.tau_states.specs.declared.state_record.StateRecord.{StateRecord}
 use Rattle.tau_states.specs.Table.{IsBase, Describes, Holds, Advances, opened_run}
 use Rattle.tau_report.proofs.Prefixes.{prefix_next, well_formed_prefix}
-use Rattle.tau_links.specs.Marks.{IsMarked}
+use Rattle.tau_explain.specs.Links.Marks.{IsMarked}
 use Rattle.tau_cut.specs.declared.states.Kept.{Kept}
 use Rattle.tau_cut.specs.Inner.Keeping.{kept_of, KeepsOf, KeepsClosed, KeepsHeld, IsKeptFirst, KeepsBelow, at_checkpoint, at_opening, IsKeptBelow, AreKept}
 

@@ -12,7 +12,7 @@ use Rattle.tau_sexpr.specs.Printing.{printed}
 use Rattle.tau_sexpr.proofs.PrintLemmas.{printed-append}
 use Rattle.tau_value.specs.Written.{count_form}
 use Rattle.tau_value.proofs.WrittenLemmas.{decimal_filled}
-use Rattle.tau_chains.specs.declared.chained.Chained.{Chained}
+use Rattle.tau_explain.specs.declared.chains.chained.Chained.{Chained}
 use Rattle.tau_tree.specs.declared.programs.Program.{Program}
 use Rattle.tau_trace.specs.declared.opening.Opening.{Opening}
 use Rattle.tau_trace.specs.declared.step.Step.TheVariants.{Checkpoint}
@@ -20,8 +20,8 @@ use Rattle.tau_trace.specs.Run.{Run, len}
 use Rattle.tau_trace.proofs.Lists.{slice_get-set_same, slice_get-set_other}
 use Rattle.tau_steps.specs.StepForms.{who_form, value_form}
 use Rattle.tau_states.specs.Opening.{opening_states}
-use Rattle.tau_links.specs.Marks.{IsMarked}
-use Rattle.tau_links.proofs.DependentLemmas.{none_marked}
+use Rattle.tau_explain.specs.Links.Marks.{IsMarked}
+use Rattle.tau_explain.proofs.DependentLemmas.{none_marked}
 use Rattle.tau_explain.specs.Texts.{point_form, chain_forms}
 use Rattle.tau_explain.proofs.TextLemmas as points
 use Rattle.tau_cut.specs.declared.cut.Marked.{Marked}

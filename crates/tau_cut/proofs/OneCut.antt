@@ -6,7 +6,7 @@ use Rattle.tau_sexpr.specs.Tree.{Tree}
 use Rattle.tau_sexpr.specs.Printing.{printed}
 use Rattle.tau_points.proofs.Membership.{Contains-head, Contains-later}
 use Rattle.tau_points.proofs.SortedLists.{same_list}
-use Rattle.tau_chains.specs.declared.chained.Chained.{Chained}
+use Rattle.tau_explain.specs.declared.chains.chained.Chained.{Chained}
 use Rattle.tau_tree.specs.declared.programs.Program.{Program}
 use Rattle.tau_trace.specs.Run.{Run, len}
 use Rattle.tau_trace.specs.Numbering.{born}
@@ -15,7 +15,7 @@ use Rattle.tau_past.specs.Pasts.{Link, Is, Everywhere}
 use Rattle.tau_past.specs.Audits.{ChecksAt}
 use Rattle.tau_states.specs.Opening.{opening_states}
 use Rattle.tau_states.proofs.Uniqueness.{saved_once}
-use Rattle.tau_links.specs.Links.{points_of}
+use Rattle.tau_explain.specs.Links.Links.{points_of}
 use Rattle.tau_explain.proofs.OneAnswer.{first_same, told_same}
 use Rattle.tau_cut.specs.declared.cut.Marked.{Marked}
 use Rattle.tau_cut.specs.declared.cut.Marked.TheVariants.{In, Out}

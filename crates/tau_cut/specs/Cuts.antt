@@ -3,13 +3,13 @@ use Rattle.std.specs.Prelude.{ℕ, ◌<◌, ◌↔◌, List, [], ◌∷◌, Cont
 use Rattle.std.specs.List.Sorted.{IsStrictlySortedBy}
 use Rattle.std.specs.Ordering.{nat_cmp}
 use Rattle.tau_points.specs.declared.point.Point.{Point}
-use Rattle.tau_chains.specs.declared.chained.Chained.{Chained}
+use Rattle.tau_explain.specs.declared.chains.chained.Chained.{Chained}
 use Rattle.tau_trace.specs.Run.{Run}
 use Rattle.tau_trace.specs.Histories.{Closes}
 use Rattle.tau_past.specs.Pasts.{Past, Is, Everywhere}
 use Rattle.tau_past.specs.Audits.{ChecksAt}
 use Rattle.tau_past.specs.Safety.{RolledBack}
-use Rattle.tau_links.specs.Links.{IsFirstTold}
+use Rattle.tau_explain.specs.Links.Links.{IsFirstTold}
 use Rattle.tau_cut.specs.declared.cut.Marked.{Marked}
 use Rattle.tau_cut.specs.declared.cut.Marked.TheVariants.{In, Out}
 use Rattle.tau_cut.specs.Consistent.{KeptAble, IsConsistent}

@@ -2,7 +2,7 @@
 ghost use Rattle.std.specs.Prelude.{◌≡◌, IfOk};
 
 use std::alloc::AllocError;
-use tau_chains::Chain;
+use tau_explain::chains::Chain;
 use tau_lists::{Item, ItemList};
 
 /// Whether a Checkpoint could be kept if everything but some Checkpoints were lost (docs/definitions.md, "Consistent").

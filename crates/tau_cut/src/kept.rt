@@ -1,7 +1,7 @@
 //! The places that a cut holds.
 ghost use Rattle.std.specs.Prelude.{◌≡◌, ◌↔◌, ◌<◌, ℕ, Contains, IfOk, length};
 ghost use Rattle.tau_trace.specs.Run.{len};
-ghost use Rattle.tau_links.specs.Marks.{IsMarked};
+ghost use Rattle.tau_explain.specs.Links.Marks.{IsMarked};
 ghost use Rattle.tau_cut.specs.declared.cut.Marked.TheVariants.{In};
 ghost use Rattle.tau_cut.specs.Cuts.{places_in, IsCut};
 ghost use Rattle.tau_cut.specs.Inner.Marking.{MarksIn};

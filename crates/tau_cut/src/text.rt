@@ -16,7 +16,7 @@ use crate::parts::{add_count, headed};
 use crate::state_lines::put_states;
 use crate::states::states_with;
 use std::alloc::{AllocError, Global};
-use tau_chains::Chain;
+use tau_explain::chains::Chain;
 use tau_explain::form_of_chained;
 use tau_sexpr::{Form, Forms, print_forms};
 use tau_trace::{Opening, Trace};

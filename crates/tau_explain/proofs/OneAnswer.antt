@@ -5,12 +5,12 @@ use Rattle.std.specs.Ordering.{ordering_reverse}
 use Rattle.tau_points.specs.declared.point.Point.{Point}
 use Rattle.tau_points.specs.Order.{point_cmp}
 use Rattle.tau_points.proofs.PointOrder.{point_cmp-total}
-use Rattle.tau_chains.specs.declared.chained.Chained.{Chained}
-use Rattle.tau_chains.specs.Chains.{ComesUpTo, IsFirstShortest}
+use Rattle.tau_explain.specs.declared.chains.chained.Chained.{Chained}
+use Rattle.tau_explain.specs.Chains.Chains.{ComesUpTo, IsFirstShortest}
 use Rattle.tau_trace.specs.declared.step.Step.{Step}
 use Rattle.tau_trace.specs.Run.{Run}
 use Rattle.tau_trace.proofs.Lists.{same_some}
-use Rattle.tau_links.specs.Links.{IsLeastMaker, HaveMakers, IsTold, IsFirstTold, points_of}
+use Rattle.tau_explain.specs.Links.Links.{IsLeastMaker, HaveMakers, IsTold, IsFirstTold, points_of}
 use Rattle.tau_explain.specs.declared.answers.Why.{Why}
 use Rattle.tau_explain.specs.declared.answers.Why.TheVariants as answers
 use Rattle.tau_explain.specs.Decisions.{HeardAt, Source, Cause, IsAsked, IsWhy}

@@ -5,7 +5,7 @@ use Rattle.std.proofs.lemmas.List.{take_more, map_push}
 use Rattle.tau_sexpr.specs.Tree.{Tree, depths, depth_of, depths-append, HasWords}
 use Rattle.tau_value.specs.Names.{AreNames}
 use Rattle.tau_value.proofs.WrittenLemmas.{number_nonempty, decimal_filled}
-use Rattle.tau_chains.specs.declared.chained.Chained.{Chained}
+use Rattle.tau_explain.specs.declared.chains.chained.Chained.{Chained}
 use Rattle.tau_trace.specs.declared.opening.Opening.{Opening}
 use Rattle.tau_explain.specs.Texts.{point_form, chain_forms}
 use Rattle.tau_explain.specs.Inner.Fitting.{Fits, PlaceFits}

@@ -6,7 +6,7 @@ use Rattle.tau_points.specs.Members.{SameMembers}
 use Rattle.tau_points.proofs.Membership.{Contains-none, Contains-head, Contains-cons_cases}
 use Rattle.tau_explain.specs.Inner.Hearing.{NeededAt}
 use Rattle.tau_explain.proofs.HearingLemmas.{heard_is_needed}
-use Rattle.tau_chains.specs.declared.chained.Chained.{Chained}
+use Rattle.tau_explain.specs.declared.chains.chained.Chained.{Chained}
 use Rattle.tau_trace.specs.declared.step.Step.TheVariants.{Hold, Drop, Fall}
 use Rattle.tau_trace.specs.Steps.{actor}
 use Rattle.tau_trace.specs.Run.{Run, step_at, ActsAt}
@@ -17,15 +17,15 @@ use Rattle.tau_past.specs.Heard.{Heard, HeardBy, HeardTogether, IsCausallyClosed
 use Rattle.tau_past.specs.Pasts.{Is, FellIn, StabilizedIn, FirmIn}
 use Rattle.tau_past.proofs.HeardLemmas.{heard_sets_closed, sent_touched}
 use Rattle.tau_past.proofs.Safety.{nothing_at_opening}
-use Rattle.tau_links.specs.Marks.{IsMarked}
-use Rattle.tau_links.specs.Inner.Dependents.{CameTo}
-use Rattle.tau_links.specs.Inner.Linking.{IsFirstChain}
+use Rattle.tau_explain.specs.Links.Marks.{IsMarked}
+use Rattle.tau_explain.specs.Links.Inner.Dependents.{CameTo}
+use Rattle.tau_explain.specs.Links.Inner.Linking.{IsFirstChain}
 use Rattle.tau_explain.specs.declared.answers.Why.{Why}
 use Rattle.tau_explain.specs.declared.answers.Why.TheVariants as answers
 use Rattle.tau_explain.specs.Decisions.{IsAsked, IsGrounded, IsWhy}
 use Rattle.tau_explain.specs.Inner.Asking.{answer_of}
 use Rattle.tau_explain.specs.Inner.Causes.{IsMadePoint, IsCandidate, IsUnfirm, IsSettled}
-use Rattle.tau_links.proofs.ChainLemmas.{StoodIn, stood_came, stood_touched, first_told, none_told, no_cause, past_cases}
+use Rattle.tau_explain.proofs.ChainLemmas.{StoodIn, stood_came, stood_touched, first_told, none_told, no_cause, past_cases}
 
 -- sets of places that are the same
 fell_same : (T : Run) (H G : ℕ → Type 0) (q : Point) → ((j : ℕ) → H j → G j) → FellIn T H q → FellIn T G q

@@ -1,7 +1,7 @@
 -- What a Hold, a Drop or a Fall has heard, and where chains to a cause of it begin and end (docs/definitions.md, "Cause").
 use Rattle.std.specs.Prelude.{◌≡◌, ℕ, Bool, true, false, List, Some, IsTrue}
 use Rattle.tau_points.specs.declared.point.Point.{Point}
-use Rattle.tau_chains.specs.Chains.{IsChain}
+use Rattle.tau_explain.specs.Chains.Chains.{IsChain}
 use Rattle.tau_trace.specs.declared.step.Step.{Step}
 use Rattle.tau_trace.specs.declared.step.Step.TheVariants.{Hold, Drop, Fall}
 use Rattle.tau_trace.specs.Run.{Run, step_at}
@@ -10,7 +10,7 @@ use Rattle.tau_past.specs.Carried.{SentWith}
 use Rattle.tau_past.specs.Heard.{Heard, HeardTogether}
 use Rattle.tau_past.specs.Pasts.{Link, Is, FellIn, FirmIn}
 use Rattle.tau_past.specs.Decisions.{FallsBy, DropsBy, Free}
-use Rattle.tau_links.specs.Links.{IsFirstTold}
+use Rattle.tau_explain.specs.Links.Links.{IsFirstTold}
 use Rattle.tau_explain.specs.declared.answers.Why.{Why}
 use Rattle.tau_explain.specs.declared.answers.Why.TheVariants as answers
 

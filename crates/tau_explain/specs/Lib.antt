@@ -1,3 +1,5 @@
 pub mod Decisions
 pub mod Texts
 pub mod Inner
+pub mod Chains
+pub mod Links

@@ -1,6 +1,6 @@
 -- The lines that tell why a decision was made (docs/formats.md, "Chains").
 use Rattle.std.specs.Prelude.{ℕ, List, [], ◌∷◌, Option, Some, None, map, codes}
-use Rattle.tau_chains.specs.declared.chained.Chained.{Chained}
+use Rattle.tau_explain.specs.declared.chains.chained.Chained.{Chained}
 use Rattle.tau_sexpr.specs.Tree.{Tree, word, headed}
 use Rattle.tau_value.specs.Written.{count_form}
 use Rattle.tau_trace.specs.declared.opening.Opening.{Opening}

@@ -8,10 +8,10 @@ ghost use Rattle.tau_explain.specs.Inner.Asking.{answer_of};
 
 use crate::answers::Why;
 use crate::causes::{fallen_points, own_point, sent_points, stable_points, unfirm_points};
+use crate::chains::Chain;
 use crate::hearing::needed_at;
+use crate::links::first_chain;
 use std::alloc::{AllocError, Global};
-use tau_chains::Chain;
-use tau_links::first_chain;
 use tau_past::Index;
 use tau_points::{Point, PointSet};
 use tau_trace::{Step, Trace};

@@ -11,8 +11,8 @@ ghost use Rattle.tau_past.specs.Heard as heard;
 ghost use Rattle.tau_explain.specs.Decisions.{IsDecision, HeardAt};
 ghost use Rattle.tau_explain.specs.Inner.Hearing.{IsMarked, IsMarkedOption, NeededAt, HearsFrom, IsEnteredAt, IsNoted, AreMarks, MarksOne, MarksNeeds};
 
+use crate::chains::Places;
 use std::alloc::{AllocError, Global};
-use tau_chains::Places;
 use tau_trace::{Step, Trace};
 
 /// Marks: places that were heard of, and transactors all of whose earlier steps were, with the New of each.

@@ -1,10 +1,12 @@
-//! Why a transactor holds, drops or falls: the shortest chain to a cause (docs/definitions.md, "Cause").
+//! Why a step came: the links between points, the shortest chains of them, and the grounds of a decision (docs/rules.md, "Why").
 #![tactic(auto)]
 
 mod answers;
 mod asking;
 mod causes;
+pub mod chains;
 mod hearing;
+pub mod links;
 mod texts;
 
 pub use answers::Why;

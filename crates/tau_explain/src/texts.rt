@@ -13,8 +13,8 @@ ghost use Rattle.tau_explain.specs.Texts.{place_forms, point_form};
 ghost use Rattle.tau_explain.specs.Inner.Fitting.{PlaceFits, Fits};
 
 use crate::answers::Why;
+use crate::chains::{Chain, Chained};
 use std::alloc::{AllocError, Global};
-use tau_chains::{Chain, Chained};
 use tau_sexpr::{Form, Forms, Word, print_forms};
 use tau_trace::{Opening, Trace};
 use tau_value::word_of_count;

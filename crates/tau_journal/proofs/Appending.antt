@@ -1,13 +1,13 @@
 -- What a crash leaves while a record is appended, call by call.
 use Rattle.std.proofs.Common.{◌≡◌, inl, ℕ, ◌+◌, ◌≤◌, ◌<◌, List, [], ◌∷◌, ◌++◌, length, take, drop, Option, Some, None, IfSome, refl, sym, ◌∙◌, ap, subst, arith, length-append, length-take}
 use Rattle.std.specs.Prelude.{◌^◌, Result, Ok, Err, IfErr, IsErrOf}
-use Rattle.tau_disk.specs.Bytes.{overwritten, Torn, Follows, Only, Writes}
-use Rattle.tau_disk.specs.Moments.{Elapses, LeavesOnly}
+use Rattle.tau_journal.specs.Disk.Bytes.{overwritten, Torn, Follows, Only, Writes}
+use Rattle.tau_journal.specs.Disk.Moments.{Elapses, LeavesOnly}
 use Rattle.tau_journal.specs.Room.{too_large, IsTooLarge, IsUnlessSmall, IsFailure}
 use Rattle.tau_journal.specs.declared.errors.JournalError.{JournalError}
 use Rattle.tau_journal.specs.declared.errors.JournalError.TheVariants.{Fault, DiskFault, NoMemory}
 use Rattle.tau_journal.specs.Records.{written, HasRecords, TellsRecords, IsAtRest, AreRecords, IsBeforeOrAfter}
-use Rattle.tau_disk.proofs.Moments.{started, goes_on}
+use Rattle.tau_journal.proofs.Moments.{started, goes_on}
 use Rattle.tau_journal.proofs.Written.{body, one_more_record}
 use Rattle.tau_journal.proofs.Steps.{staged, torn_behind, written_behind, torn_gate, written_gate}
 

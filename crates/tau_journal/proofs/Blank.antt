@@ -1,9 +1,9 @@
 -- What a blank disk becomes as a journal is made on it.
 use Rattle.std.proofs.Common.{◌≢◌, inl, inr, ⊎_elim, ℕ, List, [], Option, Some, None, IfSome, sym, subst}
 use Rattle.std.specs.Prelude.{get_or}
-use Rattle.tau_disk.specs.Bytes.{Only}
-use Rattle.tau_disk.specs.Moments.{Elapses, LeavesOnly}
-use Rattle.tau_disk.proofs.Moments.{goes_on, weaker, joined}
+use Rattle.tau_journal.specs.Disk.Bytes.{Only}
+use Rattle.tau_journal.specs.Disk.Moments.{Elapses, LeavesOnly}
+use Rattle.tau_journal.proofs.Moments.{goes_on, weaker, joined}
 use Rattle.tau_journal.specs.Records.{AreRecords, IsBeforeOrAfter}
 use Rattle.tau_journal.specs.Found.{IsBlank, IsBlankOrHas}
 

@@ -4,3 +4,8 @@ pub mod Reading
 pub mod Steps
 pub mod Unique
 pub mod Written
+pub mod Answered
+pub mod Moments
+pub mod Pushed
+pub mod Stopped
+pub mod Torn

@@ -4,9 +4,9 @@ use Rattle.std.specs.Prelude.{◌^◌, get_or, Result, Err}
 use Rattle.std.specs.Int.{w32, to_le_bytes}
 use Rattle.std.proofs.lemmas.List.{drop_more, drop-drop, take_all, map-append, get_or_read}
 use Rattle.std.proofs.lemmas.List.Elements.{All-append, All-cons, All-nil}
-use Rattle.tau_disk.specs.Bytes.{Only, Reads}
-use Rattle.tau_disk.specs.Moments.{Elapses, LeavesOnly}
-use Rattle.tau_disk.proofs.Moments.{started, goes_on}
+use Rattle.tau_journal.specs.Disk.Bytes.{Only, Reads}
+use Rattle.tau_journal.specs.Disk.Moments.{Elapses, LeavesOnly}
+use Rattle.tau_journal.proofs.Moments.{started, goes_on}
 use Rattle.tau_journal.specs.Records.{written, HasRecords, IsAtRest}
 use Rattle.tau_journal.specs.Places.{record_at, end_of}
 use Rattle.tau_journal.specs.declared.records.Place.{Place}

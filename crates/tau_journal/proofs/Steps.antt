@@ -3,7 +3,7 @@ use Rattle.std.proofs.Common.{◌≡◌, ◌≢◌, inl, inr, ℕ, ◌+◌, ◌<
 use Rattle.std.specs.Prelude.{◌^◌}
 use Rattle.std.proofs.lemmas.Bool.{cases_eq}
 use Rattle.std.proofs.lemmas.List.{take_at, drop_at, drop_more, drop-drop}
-use Rattle.tau_disk.specs.Bytes.{overwritten, Torn}
+use Rattle.tau_journal.specs.Disk.Bytes.{overwritten, Torn}
 use Rattle.tau_journal.specs.Records.{written, HasRecords, AreRecords, IsBeforeOrAfter}
 use Rattle.tau_journal.proofs.Written.{body, closed_ends, one_more_record}
 

@@ -1,6 +1,6 @@
 -- The errors of a journal for those of its disk.
-use Rattle.tau_disk.specs.declared.disks.DiskError.{DiskError}
-use Rattle.tau_disk.specs.declared.disks.DiskError.TheVariants as disks
+use Rattle.tau_journal.specs.declared.disk.disks.DiskError.{DiskError}
+use Rattle.tau_journal.specs.declared.disk.disks.DiskError.TheVariants as disks
 use Rattle.tau_journal.specs.declared.errors.JournalError.{JournalError}
 use Rattle.tau_journal.specs.declared.errors.JournalError.TheVariants.{DiskFault, NoMemory}
 

@@ -5,3 +5,4 @@ pub mod Laws
 pub mod Places
 pub mod Records
 pub mod Room
+pub mod Disk

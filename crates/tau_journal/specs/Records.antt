@@ -1,7 +1,7 @@
 -- Records on a disk.
 use Rattle.std.specs.Prelude.{◌≡◌, ◌≢◌, ◌⊎◌, ℕ, ◌<◌, ◌^◌, List, [], ◌∷◌, ◌++◌, length, All, Option, Some, None, ⊤, codes}
 use Rattle.std.specs.Int.{w32, to_le_bytes}
-use Rattle.tau_disk.specs.Bytes.{Only}
+use Rattle.tau_journal.specs.Disk.Bytes.{Only}
 
 -- records as bytes: each is an open gate, four bytes of its length, the least first, and the record
 abbrev pub written : List (List ℕ) → List ℕ

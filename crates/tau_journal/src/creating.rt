@@ -1,14 +1,14 @@
 //! Making a journal on a blank disk.
 ghost use Rattle.std.specs.Prelude.{◌≡◌, ◌≤◌, ◌<◌, [], ℕ, List, IfOk, IfSome, IsErrOf, OnOk, length};
 ghost use Rattle.tau_io.specs.Faults.{HasRisen};
-ghost use Rattle.tau_disk.specs.Bytes.{Only};
-ghost use Rattle.tau_disk.specs.Moments.{LeavesOnly};
+ghost use Rattle.tau_journal.specs.Disk.Bytes.{Only};
+ghost use Rattle.tau_journal.specs.Disk.Moments.{LeavesOnly};
 ghost use Rattle.tau_journal.specs.Records.{IsAtRest, TellsRecords};
 ghost use Rattle.tau_journal.specs.Found.{IsBlank};
 ghost use Rattle.tau_journal.specs.Room.{most_bytes};
 
+use crate::disk::Disk;
 use crate::errors::JournalError;
-use tau_disk::Disk;
 
 /// The number of the fault of a disk that isn't blank.
 const HELD: u8 = 7;

@@ -1,6 +1,6 @@
 //! Why a journal isn't made, found or gone on with.
+use crate::disk::DiskError;
 use std::alloc::{AllocError, AllocFailed};
-use tau_disk::DiskError;
 use thiserror::Error;
 
 /// Why a call on a journal gave no answer (`docs/formats.md`, "Journal").

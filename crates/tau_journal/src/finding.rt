@@ -1,15 +1,15 @@
 //! Finding the records of a disk.
 ghost use Rattle.std.specs.Prelude.{◌≡◌, ◌≤◌, ◌<◌, ◌⊎◌, ℕ, List, IfOk, IfSome, IsErrOf, OnOk, length};
 ghost use Rattle.tau_io.specs.Faults.{HasRisen};
-ghost use Rattle.tau_disk.specs.Bytes.{Only};
-ghost use Rattle.tau_disk.specs.Moments.{LeavesOnly};
+ghost use Rattle.tau_journal.specs.Disk.Bytes.{Only};
+ghost use Rattle.tau_journal.specs.Disk.Moments.{LeavesOnly};
 ghost use Rattle.tau_journal.specs.Records.{HasRecords};
 ghost use Rattle.tau_journal.specs.Room.{most_bytes};
 
+use crate::disk::Disk;
 use crate::errors::JournalError;
 use crate::room::{FULL, MOST_BYTES};
 use std::alloc::Global;
-use tau_disk::Disk;
 
 /// All bytes of a disk, which is synced first; fault 8 where there are too many.
 pub fn read_all<D: Disk>(alloc: Global, disk: &mut D) -> Result<Vec<u8>, JournalError>

@@ -2,19 +2,19 @@
 ghost use Rattle.std.specs.Prelude.{◌≡◌, ◌+◌, ◌≤◌, [], ◌∷◌, ◌++◌, ℕ, List, Some, None, IfOk, IfErr, IfSome, IsErrOf, OnOk, length};
 ghost use Rattle.std.specs.Int.{w32, to_le_bytes};
 ghost use Rattle.tau_io.specs.Faults.{HasRisen};
-ghost use Rattle.tau_disk.specs.Moments.{LeavesOnly, IsUntouched};
+ghost use Rattle.tau_journal.specs.Disk.Moments.{LeavesOnly, IsUntouched};
 ghost use Rattle.tau_journal.specs.Records.{HasRecords, IsAtRest, TellsRecords, IsBeforeOrAfter, going_on};
 ghost use Rattle.tau_journal.specs.Found.{IsBlank, IsBlankOrHas, IsFault, IsCreateFault, IsCreateNumber, IsFindNumber};
-ghost use Rattle.tau_disk.specs.Bytes.{Only};
+ghost use Rattle.tau_journal.specs.Disk.Bytes.{Only};
 ghost use Rattle.tau_journal.specs.Room.{most_bytes, too_large, IsTooLarge, IsUnlessSmall, IsFailure, IsFaultOrFailure};
 
 use crate::creating::{blank_size, close_first};
+use crate::disk::Disk;
 use crate::errors::JournalError;
 use crate::finding::read_all;
 use crate::records::{Records, scan};
 use crate::room::test_room;
 use std::alloc::{AllocError, Global};
-use tau_disk::Disk;
 
 /// The number of the fault of a disk without a journal.
 const BLANK: u8 = 1;

@@ -2,6 +2,7 @@
 #![tactic(auto)]
 
 mod creating;
+pub mod disk;
 mod errors;
 mod finding;
 mod journal;

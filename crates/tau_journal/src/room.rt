@@ -1,11 +1,11 @@
 //! The room of a disk.
 ghost use Rattle.std.specs.Prelude.{◌≡◌, ◌≤◌, ℕ, List, None, IfErr, IfSome, IsErrOf, OnOk, length};
 ghost use Rattle.tau_io.specs.Faults.{HasRisen};
-ghost use Rattle.tau_disk.specs.Moments.{Elapses};
+ghost use Rattle.tau_journal.specs.Disk.Moments.{Elapses};
 ghost use Rattle.tau_journal.specs.Room.{too_large, most_bytes, IsTooLarge, IsUnlessSmall};
 
+use crate::disk::Disk;
 use crate::errors::JournalError;
-use tau_disk::Disk;
 
 /// The most bytes of a disk (`docs/limits.md`).
 pub const MOST_BYTES: u64 = 67_108_864;

@@ -13,16 +13,16 @@ use Rattle.tau_text.specs.Errors.{TellsInputFault}
 use Rattle.tau_text.specs.Faults.{IsProgramFault}
 use Rattle.tau_text.specs.Meaning.{IsProgram}
 use Rattle.tau_text.proofs.FaultLemmas.{program_unique}
-use Rattle.tau_disk.specs.Bytes.{Only}
-use Rattle.tau_disk.specs.Moments.{LeavesOnly, IsUntouched}
-use Rattle.tau_disk.proofs.Moments.{started, weaker}
+use Rattle.tau_journal.specs.Disk.Bytes.{Only}
+use Rattle.tau_journal.specs.Disk.Moments.{LeavesOnly, IsUntouched}
+use Rattle.tau_journal.proofs.Moments.{started, weaker}
 use Rattle.tau_journal.specs.Found.{IsBlank, IsCreateFault, IsCreateNumber}
 use Rattle.tau_journal.specs.Room.{IsFaultOrFailure}
 use Rattle.tau_journal.specs.declared.errors.JournalError.{JournalError}
 use Rattle.tau_journal.specs.declared.errors.JournalError.TheVariants as journals
-use Rattle.tau_keeping.proofs.Finds.{no_failure}
+use Rattle.tau_run_journal.proofs.Finds.{no_failure}
 use Rattle.tau_book.specs.SerialRun.{IsSerialRun}
-use Rattle.tau_recording.specs.Kept.{IsKeptOn, IsBlankOrStands, IsBlankOrFrontOf, first_size, IsKeepFault}
+use Rattle.tau_journaling.specs.Kept.{IsKeptOn, IsBlankOrStands, IsBlankOrFrontOf, first_size, IsKeepFault}
 use Rattle.tau_command.specs.declared.commands.Command.TheVariants.{Run as run}
 use Rattle.tau_output.specs.declared.outputs.Output.{Output}
 use Rattle.tau_output.specs.Faults.{input_limit, IsInputFault, too_long, within}

@@ -6,18 +6,18 @@ use Rattle.tau_tree.specs.declared.programs.Program.{Program}
 use Rattle.tau_forms.specs.Printed as forms
 use Rattle.tau_trace.specs.Run.{Run, len}
 use Rattle.tau_legal.specs.Traces.{Legal, Complete}
-use Rattle.tau_disk.specs.Bytes.{Only}
-use Rattle.tau_disk.specs.Moments.{LeavesOnly, IsUntouched}
-use Rattle.tau_disk.proofs.Moments.{started}
+use Rattle.tau_journal.specs.Disk.Bytes.{Only}
+use Rattle.tau_journal.specs.Disk.Moments.{LeavesOnly, IsUntouched}
+use Rattle.tau_journal.proofs.Moments.{started}
 use Rattle.tau_journal.specs.Room.{most_bytes, IsFaultOrFailure}
 use Rattle.tau_journal.specs.declared.errors.JournalError.{JournalError}
 use Rattle.tau_journal.specs.declared.errors.JournalError.TheVariants as journals
-use Rattle.tau_keeping.specs.Standing.{Stands}
-use Rattle.tau_keeping.proofs.Finds.{no_failure}
-use Rattle.tau_resuming.specs.Faults.{IsResumeFault, IsResumeNumber}
-use Rattle.tau_recording.specs.Kept.{IsKeptOn}
-use Rattle.tau_recording.specs.Resumed.{IsResumed, StandsForResumed, StandsForFrontOf, IsUnrevived, IsResumeRunFault}
-use Rattle.tau_recording.proofs.Onward.{begins_itself}
+use Rattle.tau_run_journal.specs.Standing.{Stands}
+use Rattle.tau_run_journal.proofs.Finds.{no_failure}
+use Rattle.tau_journaling.specs.Found.Faults.{IsResumeFault, IsResumeNumber}
+use Rattle.tau_journaling.specs.Kept.{IsKeptOn}
+use Rattle.tau_journaling.specs.Resumed.{IsResumed, StandsForResumed, StandsForFrontOf, IsUnrevived, IsResumeRunFault}
+use Rattle.tau_journaling.proofs.Onward.{begins_itself}
 use Rattle.tau_output.specs.declared.outputs.Output.{Output}
 use Rattle.tau_output.specs.Runs.{RunsAs}
 use Rattle.tau_cli.specs.declared.statuses.Status.{Status}

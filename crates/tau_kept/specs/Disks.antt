@@ -1,7 +1,7 @@
 -- What a call does to its disk.
 use Rattle.std.specs.Prelude.{◌≡◌, ℕ, List, Option}
 use Rattle.tau_io.specs.Faults.{HasRisen}
-use Rattle.tau_disk.specs.Moments.{LeavesOnly}
+use Rattle.tau_journal.specs.Disk.Moments.{LeavesOnly}
 
 -- what a call did to its disk: the bytes that it told before and after; what a crash would have left before the call, and what it
 -- would leave after it; that a crash at any moment of the call, from its beginning to its end, leaves what has something; that

@@ -4,13 +4,13 @@ use Rattle.tau_tree.specs.declared.programs.Program.{Program}
 use Rattle.tau_trace.specs.Run.{Run}
 use Rattle.tau_legal.specs.Traces.{Legal, Complete}
 use Rattle.tau_text.specs.Meaning.{IsProgram}
-use Rattle.tau_disk.specs.Bytes.{Only}
+use Rattle.tau_journal.specs.Disk.Bytes.{Only}
 use Rattle.tau_journal.specs.Found.{IsBlank, IsCreateFault, IsCreateNumber}
 use Rattle.tau_journal.specs.Room.{most_bytes}
-use Rattle.tau_keeping.specs.Standing.{Stands}
-use Rattle.tau_resuming.specs.Faults.{IsResumeFault, IsResumeNumber}
-use Rattle.tau_recording.specs.Kept.{first_size, IsKeepFault}
-use Rattle.tau_recording.specs.Resumed.{StandsForResumed, IsUnrevived, IsResumeRunFault}
+use Rattle.tau_run_journal.specs.Standing.{Stands}
+use Rattle.tau_journaling.specs.Found.Faults.{IsResumeFault, IsResumeNumber}
+use Rattle.tau_journaling.specs.Kept.{first_size, IsKeepFault}
+use Rattle.tau_journaling.specs.Resumed.{StandsForResumed, IsUnrevived, IsResumeRunFault}
 use Rattle.tau_command.specs.declared.commands.Command.TheVariants.{Run as run}
 use Rattle.tau_command.specs.declared.commands.JournalCommand.{JournalCommand}
 use Rattle.tau_command.specs.declared.commands.JournalCommand.TheVariants.{Keep, Resume}

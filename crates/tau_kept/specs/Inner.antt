@@ -3,10 +3,10 @@ use Rattle.std.specs.Prelude.{◌≡◌, ℕ, List, Some, Result, Ok, Err, IfOk,
 use Rattle.tau_tree.specs.declared.programs.Program.{Program}
 use Rattle.tau_trace.specs.Run.{Run}
 use Rattle.tau_legal.specs.Traces.{Legal}
-use Rattle.tau_disk.specs.Bytes.{Only}
+use Rattle.tau_journal.specs.Disk.Bytes.{Only}
 use Rattle.tau_journal.specs.Found.{IsBlank}
-use Rattle.tau_keeping.specs.Standing.{Stands}
-use Rattle.tau_recording.specs.Resumed.{StandsForResumed}
+use Rattle.tau_run_journal.specs.Standing.{Stands}
+use Rattle.tau_journaling.specs.Resumed.{StandsForResumed}
 use Rattle.tau_output.specs.declared.outputs.Output.{Output}
 use Rattle.tau_cli.specs.declared.statuses.Status.{Status}
 use Rattle.tau_cli.specs.Status.{of_end}

@@ -8,11 +8,11 @@ use Rattle.tau_trace.specs.Run.{Run, len}
 use Rattle.tau_legal.specs.Traces.{Legal}
 use Rattle.tau_text.specs.Meaning.{IsProgram}
 use Rattle.tau_io.specs.Put.{AppendsFront}
-use Rattle.tau_disk.specs.Bytes.{Only}
+use Rattle.tau_journal.specs.Disk.Bytes.{Only}
 use Rattle.tau_journal.specs.Found.{IsBlank}
-use Rattle.tau_keeping.specs.Standing.{Stands}
-use Rattle.tau_recording.specs.Kept.{IsKeptOn, IsBlankOrFrontOf}
-use Rattle.tau_recording.specs.Resumed.{IsResumed, StandsForFrontOf}
+use Rattle.tau_run_journal.specs.Standing.{Stands}
+use Rattle.tau_journaling.specs.Kept.{IsKeptOn, IsBlankOrFrontOf}
+use Rattle.tau_journaling.specs.Resumed.{IsResumed, StandsForFrontOf}
 use Rattle.tau_output.specs.declared.outputs.End.{End}
 use Rattle.tau_output.specs.Faults.{input_limit}
 use Rattle.tau_output.specs.Runs.{RunsAs, RunsBy}

@@ -14,8 +14,8 @@ use std::sync::Wait;
 use std::thread::Threads;
 use tau_cli::{Gate, Status, Words, tau, tau_still, tell};
 use tau_command::{JournalCommand, read_journal_words};
-use tau_disk::Disk;
 use tau_io::{Sink, Source};
+use tau_journal::disk::Disk;
 use tau_output::Output;
 
 /// Does what the words of a command line ask for, on the caller's thread alone (docs/formats.md, "Command line").

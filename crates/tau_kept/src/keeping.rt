@@ -8,10 +8,10 @@ ghost use Rattle.tau_kept.specs.Inner.{Keeps};
 
 use std::alloc::Global;
 use tau_cli::{Command, Gate, Status, read_input};
-use tau_disk::Disk;
 use tau_io::Source;
+use tau_journal::disk::Disk;
+use tau_journaling::keep_run;
 use tau_output::{Output, write_run};
-use tau_recording::keep_run;
 use tau_text::read_program;
 
 /// Makes the serial run of the program that an input spells, and keeps it in a new journal; the run text, or the status with which

@@ -17,8 +17,8 @@ use std::rt::Env;
 use std::sync::Wait;
 use std::thread::Threads;
 use tau_cli::{Line, OpenGate, Status, Words, WordsError, number};
-use tau_disk::Disk;
 use tau_io::{Sink, Source};
+use tau_journal::disk::Disk;
 
 /// Does what the command line of the process asks for, by one call of [`tau_kept`](crate::tau_kept). It prints the line of the status
 /// on standard error, and gives the number of the status (docs/formats.md, "Statuses"). A word that isn't UTF-8 is a faulty

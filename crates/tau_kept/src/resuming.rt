@@ -7,9 +7,9 @@ ghost use Rattle.tau_kept.specs.Inner.{Resumes};
 
 use std::alloc::Global;
 use tau_cli::{Gate, Status};
-use tau_disk::Disk;
+use tau_journal::disk::Disk;
+use tau_journaling::resume_run;
 use tau_output::{Output, write_run};
-use tau_recording::resume_run;
 
 /// Goes on with the run for which a disk stands; the run text, or the status with which that ends before anything is written.
 pub(crate) fn resumed_text<G: Gate, D: Disk>(

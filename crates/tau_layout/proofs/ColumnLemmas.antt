@@ -6,8 +6,8 @@ use Rattle.tau_trace.proofs.Counts.{count-same}
 use Rattle.tau_trace.proofs.Lists.{same_some}
 use Rattle.tau_layout.specs.declared.columns.Column.{Column}
 use Rattle.tau_layout.specs.declared.lanes.Lane.{Lane}
-use Rattle.tau_shapes.specs.declared.grid.Grid.{Grid}
-use Rattle.tau_shapes.specs.Grids.{x_of}
+use Rattle.tau_svg.specs.declared.shapes.grid.Grid.{Grid}
+use Rattle.tau_svg.specs.Shapes.Grids.{x_of}
 use Rattle.tau_layout.specs.Lanes.{stands_at, nodes_below}
 use Rattle.tau_layout.specs.Inner.Marking.{IsNodesMarked, marked_below}
 use Rattle.tau_layout.specs.Inner.Laying.{lane_of, lanes_of, AreColumns}

@@ -13,7 +13,7 @@ use Rattle.tau_trace.proofs.Agreement.{born-grows}
 use Rattle.tau_trace.proofs.Lists.{same_some}
 use Rattle.tau_trace.proofs.Quiet.{known_actor, acts_born}
 use Rattle.tau_trace.proofs.Once.{origin_acts}
-use Rattle.tau_shapes.specs.declared.window.Window.{Window}
+use Rattle.tau_svg.specs.declared.shapes.window.Window.{Window}
 use Rattle.tau_layout.specs.Lanes.{StepStandsIn, HasLane}
 
 all_at : {A : Type 0} (P : A → Type 0) (xs : List A) (k : ℕ) (x : A) → All P xs → slice_get xs k ≡ Some x → P x

@@ -14,8 +14,8 @@ use Rattle.tau_trace.specs.Numbering.{born, IsReceiver, IsHome}
 use Rattle.tau_trace.proofs.Lists.{same_some, slice_get-set_same, slice_get-set_other}
 use Rattle.tau_trace.proofs.Once.{receives_once}
 use Rattle.tau_layout.specs.declared.lanes.Lane.{Lane}
-use Rattle.tau_shapes.specs.declared.window.Window.{Window}
-use Rattle.tau_shapes.specs.Windows.{IsDrawn}
+use Rattle.tau_svg.specs.declared.shapes.window.Window.{Window}
+use Rattle.tau_svg.specs.Shapes.Windows.{IsDrawn}
 use Rattle.tau_layout.specs.Lanes.{StepStandsIn, StandsIn, IsLaneOfStep, IsLaneAt, HasLane, ComesBefore, AreLanes}
 use Rattle.tau_layout.specs.Inner.Marking.{IsMarked, Marks, AreMarks, AreMarked, HasLaneBefore, lane_of, AddsLane, there, away, AddsLanes, no_numbers, next_number, AddsNodes, no_nodes, next_node}
 

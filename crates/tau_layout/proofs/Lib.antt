@@ -5,3 +5,8 @@ pub mod Homes
 pub mod ColumnLemmas
 pub mod RankLemmas
 pub mod Seen
+pub mod Ranks
+pub mod Origins
+pub mod Middles
+pub mod PathLemmas
+pub mod Once

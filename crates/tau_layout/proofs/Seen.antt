@@ -6,10 +6,10 @@ use Rattle.std.proofs.lemmas.Option.{slice_get_within}
 use Rattle.std.proofs.lemmas.List.{length-map}
 use Rattle.tau_layout.specs.declared.columns.Column.{Column}
 use Rattle.tau_layout.specs.declared.lanes.Lane.{Lane}
-use Rattle.tau_shapes.specs.declared.grid.Grid.{Grid}
-use Rattle.tau_shapes.specs.declared.window.Window.{Window}
-use Rattle.tau_shapes.specs.Windows.{count}
-use Rattle.tau_shapes.specs.Grids.{grid_of, x_of}
+use Rattle.tau_svg.specs.declared.shapes.grid.Grid.{Grid}
+use Rattle.tau_svg.specs.declared.shapes.window.Window.{Window}
+use Rattle.tau_svg.specs.Shapes.Windows.{count}
+use Rattle.tau_svg.specs.Shapes.Grids.{grid_of, x_of}
 use Rattle.tau_layout.specs.Lanes.{AreLanes, nodes_below}
 use Rattle.tau_layout.specs.Plans.{Plan, grid}
 use Rattle.tau_layout.specs.Inner.Laying.{lane_of, lanes_of, AreColumns, AreRanks, IsLaidOut, IsColumnOf}

@@ -9,8 +9,8 @@ use Rattle.tau_trace.specs.Run.{Run, step_at}
 use Rattle.tau_trace.specs.Numbering.{Receives, IsHome}
 use Rattle.tau_trace.specs.Places.{count_below}
 use Rattle.tau_layout.specs.declared.lanes.Lane.{Lane}
-use Rattle.tau_shapes.specs.declared.window.Window.{Window}
-use Rattle.tau_shapes.specs.Windows.{IsDrawn}
+use Rattle.tau_svg.specs.declared.shapes.window.Window.{Window}
+use Rattle.tau_svg.specs.Shapes.Windows.{IsDrawn}
 
 -- a step stands in the lane of its actor; a Lose and a Repeat, which have none, in that of the receiver of their message
 abbrev pub StepStandsIn : Run → Step → ℕ → Type 0

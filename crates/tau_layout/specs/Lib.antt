@@ -1,3 +1,4 @@
 pub mod Lanes
 pub mod Plans
 pub mod Inner
+pub mod Paths

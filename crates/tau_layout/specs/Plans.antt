@@ -1,12 +1,12 @@
 -- Where the parts of a picture stand (docs/formats.md, "Pictures").
 use Rattle.std.specs.Prelude.{◌≡◌, ℕ, List, length, Option, Some, None, slice_get}
 use Rattle.tau_trace.specs.Run.{Run}
-use Rattle.tau_shapes.specs.declared.grid.Grid.{Grid}
+use Rattle.tau_svg.specs.declared.shapes.grid.Grid.{Grid}
 use Rattle.tau_layout.specs.declared.lanes.Lane.{Lane}
-use Rattle.tau_shapes.specs.declared.window.Window.{Window}
-use Rattle.tau_shapes.specs.Windows.{count}
+use Rattle.tau_svg.specs.declared.shapes.window.Window.{Window}
+use Rattle.tau_svg.specs.Shapes.Windows.{count}
 use Rattle.tau_layout.specs.Lanes.{AreLanes, nodes_below, longest_name}
-use Rattle.tau_shapes.specs.Grids.{grid_of, x_of, y_of, strip_of}
+use Rattle.tau_svg.specs.Shapes.Grids.{grid_of, x_of, y_of, strip_of}
 
 -- the places that are drawn, the lanes, how many nodes have one, and the bytes of the longest name
 pub record Plan : Type 0 where

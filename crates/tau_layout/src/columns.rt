@@ -6,7 +6,7 @@ ghost use Rattle.tau_layout.specs.Inner.Laying.{AreColumns, AreRanks, Ranks};
 use crate::groups::marked_below;
 use crate::lanes::Lane;
 use std::alloc::{AllocError, Global};
-use tau_shapes::Grid;
+use tau_svg::shapes::Grid;
 
 /// A transactor that has a lane, with its node, and the middle of the lane.
 #[derive(Clone, Copy)]

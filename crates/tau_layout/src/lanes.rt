@@ -7,7 +7,7 @@ ghost use Rattle.tau_layout.specs.Lanes.{StandsIn, HasLane, AreLanes, IsLaneOfSt
 ghost use Rattle.tau_layout.specs.Inner.Marking.{Marks, AreMarks, AreMarked, AddsLane, AddsLanes};
 
 use std::alloc::{AllocError, Global};
-use tau_shapes::Window;
+use tau_svg::shapes::Window;
 use tau_trace::{Step, Trace};
 
 /// A transactor that has a lane, with its node.

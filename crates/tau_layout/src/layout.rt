@@ -3,8 +3,8 @@ ghost use Rattle.std.specs.Prelude.{◌≡◌, ◌≤◌, ◌<◌, ◌^◌, ◌+
 ghost use Rattle.tau_trace.specs.Run.{len};
 ghost use Rattle.tau_layout.specs.Plans as plans;
 ghost use Rattle.tau_layout.specs.Plans.{IsPlan, IsRank, IsX, row_y, strip_x};
-ghost use Rattle.tau_shapes.specs.Windows as windows;
-ghost use Rattle.tau_shapes.specs.Windows.{window_of};
+ghost use Rattle.tau_svg.specs.Shapes.Windows as windows;
+ghost use Rattle.tau_svg.specs.Shapes.Windows.{window_of};
 ghost use Rattle.tau_layout.specs.declared.columns.Column.{Column};
 ghost use Rattle.tau_layout.specs.Inner.Laying.{lanes_of, IsColumnOf};
 
@@ -13,7 +13,7 @@ use crate::groups::{longest_name, marked_below, nodes_marked};
 use crate::lanes::lanes_in;
 use std::alloc::{AllocError, Global};
 use std::marker::Model;
-use tau_shapes::{Grid, Window, grid_of, window_of};
+use tau_svg::shapes::{Grid, Window, grid_of, window_of};
 use tau_trace::Trace;
 
 /// The layout of a picture of a run (docs/formats.md, "Pictures"): the places that are drawn, the measures, the columns, and for

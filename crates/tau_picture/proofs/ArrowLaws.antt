@@ -1,7 +1,7 @@
 -- Arrows join the spots of senders and receivers.
 use Rattle.std.proofs.Common.{◌≡◌, ◌⊎◌, inl, inr, ⊎_elim, ℕ, ◌+◌, ◌-◌, Bool, true, false, not, List, [], ◌∷◌, ◌++◌, Some, None, refl, sym, ◌∙◌, subst, append_assoc}
 use Rattle.std.specs.Prelude.{if◌then◌else◌, Contains, codes}
-use Rattle.tau_markup.specs.Lines.{Piece, plain, Line}
+use Rattle.tau_svg.specs.Markup.Lines.{Piece, plain, Line}
 use Rattle.tau_points.proofs.Membership.{Contains-none, Contains-cons_cases}
 use Rattle.tau_tree.specs.declared.programs.Program.{Program}
 use Rattle.tau_trace.specs.declared.step.Step.{Step}
@@ -11,23 +11,23 @@ use Rattle.tau_trace.specs.Known.{IsSound, WellFormed}
 use Rattle.tau_trace.specs.Numbering.{sent}
 use Rattle.tau_trace.proofs.Lists.{same_some}
 use Rattle.tau_trace.proofs.Once.{origin_is_one, origin_acts}
-use Rattle.tau_shapes.specs.declared.window.Window.{Window}
-use Rattle.tau_shapes.specs.Shapes.{go, go_to, beside}
-use Rattle.tau_shapes.specs.Windows.{IsDrawn}
+use Rattle.tau_svg.specs.declared.shapes.window.Window.{Window}
+use Rattle.tau_svg.specs.Shapes.Shapes.{go, go_to, beside}
+use Rattle.tau_svg.specs.Shapes.Windows.{IsDrawn}
 use Rattle.tau_layout.specs.Lanes.{StandsIn, AreLanes}
 use Rattle.tau_layout.specs.Plans.{Plan, IsPlan, grid, row_y, HasX}
 use Rattle.tau_layout.proofs.LaneLemmas.{one_lane}
-use Rattle.tau_courses.proofs.Beginnings.{acting}
-use Rattle.tau_spots.specs.declared.spots.Spot.{Spot}
-use Rattle.tau_spots.specs.declared.sources.Source.{Source}
-use Rattle.tau_spots.specs.declared.sources.Source.TheVariants.{Post, Earlier, Drawn}
-use Rattle.tau_spots.specs.Senders.{met_by}
-use Rattle.tau_spots.specs.Spots.{StandsBeside, IsSpotX, in_lane, IsSpot, IsSource}
-use Rattle.tau_spots.specs.Paths.{offset, gap, curve, line_end, way_end, receipt_path}
-use Rattle.tau_spots.proofs.Once.{x_once, spot_once}
-use Rattle.tau_arrows.specs.Titles.{receipt_title, sent_title, new_title}
-use Rattle.tau_arrows.specs.Arrows.{is_long, receipt_class, receipt_line, sent_class, sent_line, new_line}
-use Rattle.tau_arrows.specs.Messages.{IsReceiptLine, receipt_leads, receipt_nowhere, IsSentLine, sent_leads, sent_met, sent_nowhere, IsNewLine, new_leads, new_nowhere, IsLineOf, IsLineTo, IsMessageLine}
+use Rattle.tau_scene.proofs.Beginnings.{acting}
+use Rattle.tau_layout.specs.declared.paths.spots.Spot.{Spot}
+use Rattle.tau_layout.specs.declared.paths.sources.Source.{Source}
+use Rattle.tau_layout.specs.declared.paths.sources.Source.TheVariants.{Post, Earlier, Drawn}
+use Rattle.tau_layout.specs.Paths.Senders.{met_by}
+use Rattle.tau_layout.specs.Paths.Spots.{StandsBeside, IsSpotX, in_lane, IsSpot, IsSource}
+use Rattle.tau_layout.specs.Paths.Paths.{offset, gap, curve, line_end, way_end, receipt_path}
+use Rattle.tau_layout.proofs.Once.{x_once, spot_once}
+use Rattle.tau_drawing.specs.Messages.Titles.{receipt_title, sent_title, new_title}
+use Rattle.tau_drawing.specs.Messages.Arrows.{is_long, receipt_class, receipt_line, sent_class, sent_line, new_line}
+use Rattle.tau_drawing.specs.Messages.Messages.{IsReceiptLine, receipt_leads, receipt_nowhere, IsSentLine, sent_leads, sent_met, sent_nowhere, IsNewLine, new_leads, new_nowhere, IsLineOf, IsLineTo, IsMessageLine}
 use Rattle.tau_picture.specs.Laws.{Leads, begins, across, down, curved, BeginsAt, EndsAt, IsArrow, IsOtherKind, flies, goes_out, creates, IsOtherLine, ArrowsJoin}
 use Rattle.tau_picture.proofs.Whole.{own_plan}
 

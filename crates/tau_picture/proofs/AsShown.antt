@@ -2,25 +2,25 @@
 use Rattle.std.proofs.Common.{◌≡◌, ℕ, ◌+◌, ◌-◌, List, [], ◌∷◌, ◌++◌, length, Option, Some, None, refl, ap, ◌∙◌, subst}
 use Rattle.std.specs.Prelude.{slice_get, option_and_then, codes}
 use Rattle.std.specs.List.{flat_map}
-use Rattle.tau_markup.specs.Texts.{cut}
-use Rattle.tau_markup.specs.Lines.{plain, number, said, titled, Line}
+use Rattle.tau_svg.specs.Markup.Texts.{cut}
+use Rattle.tau_svg.specs.Markup.Lines.{plain, number, said, titled, Line}
 use Rattle.tau_trace.specs.Run.{Run}
 use Rattle.tau_trace.proofs.Lists.{same_some}
-use Rattle.tau_shapes.specs.Each.{EachItem}
-use Rattle.tau_shapes.specs.Shapes.{line, symbol_at, text_at}
+use Rattle.tau_svg.specs.Shapes.Each.{EachItem}
+use Rattle.tau_svg.specs.Shapes.Shapes.{line, symbol_at, text_at}
 use Rattle.tau_layout.specs.Plans.{Plan, lane_x}
-use Rattle.tau_words.specs.Texts.{who_text, step_text, bare_text}
-use Rattle.tau_looks.specs.declared.looks.Seen.{Seen}
-use Rattle.tau_looks.specs.declared.looks.StepLook.{StepLook}
-use Rattle.tau_looks.specs.declared.looks.Ending.{Ending}
-use Rattle.tau_looks.specs.declared.looks.Looks.{Looks}
-use Rattle.tau_spots.specs.declared.spots.Spot.{Spot}
-use Rattle.tau_marks.specs.Marks.{symbol_word, undone_class, mark_line, IsMark, AreMarks}
-use Rattle.tau_marks.specs.Rows.{row_word, place_line, row_line, IsRow, AreRows}
-use Rattle.tau_bands.specs.Names.{tick_class, seen_at}
-use Rattle.tau_bands.specs.StripLines.{label_line, span_lines, IsStripLane, tick_lines, IsTick, AreStripLines, with_strip, without}
-use Rattle.tau_bands.specs.StateLines.{IsStateAt, AreStatesAt, AreStateLines}
-use Rattle.tau_bands.specs.EndLines.{end_lines, ending_lines, IsEndAt, AreEndLines}
+use Rattle.tau_scene.specs.Words.Texts.{who_text, step_text, bare_text}
+use Rattle.tau_scene.specs.declared.looks.looks.Seen.{Seen}
+use Rattle.tau_scene.specs.declared.looks.looks.StepLook.{StepLook}
+use Rattle.tau_scene.specs.declared.looks.looks.Ending.{Ending}
+use Rattle.tau_scene.specs.declared.looks.looks.Looks.{Looks}
+use Rattle.tau_layout.specs.declared.paths.spots.Spot.{Spot}
+use Rattle.tau_drawing.specs.Marks.Marks.{symbol_word, undone_class, mark_line, IsMark, AreMarks}
+use Rattle.tau_drawing.specs.Marks.Rows.{row_word, place_line, row_line, IsRow, AreRows}
+use Rattle.tau_drawing.specs.States.Names.{tick_class, seen_at}
+use Rattle.tau_drawing.specs.States.StripLines.{label_line, span_lines, IsStripLane, tick_lines, IsTick, AreStripLines, with_strip, without}
+use Rattle.tau_drawing.specs.States.StateLines.{IsStateAt, AreStatesAt, AreStateLines}
+use Rattle.tau_drawing.specs.States.EndLines.{end_lines, ending_lines, IsEndAt, AreEndLines}
 use Rattle.tau_picture.proofs.EachOnce.{each_as}
 
 -- the looks of a step are the same, and what may be kept of a transactor is

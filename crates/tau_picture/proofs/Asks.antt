@@ -2,7 +2,7 @@
 use Rattle.std.proofs.Common.{◌≡◌, ⊎_elim, inl, inr, ℕ, ◌≤◌, List, Option, Some, None, subst, arith, ◌<◌, refl, sym}
 use Rattle.std.specs.Prelude.{Contains}
 use Rattle.std.proofs.lemmas.Option.{slice_get_within}
-use Rattle.tau_chains.specs.declared.chained.Chained.{Chained}
+use Rattle.tau_explain.specs.declared.chains.chained.Chained.{Chained}
 use Rattle.tau_trace.specs.declared.step.Step.TheVariants.{Checkpoint}
 use Rattle.tau_trace.specs.Run.{Run, len}
 use Rattle.tau_explain.specs.Decisions.{IsDecision}
@@ -10,7 +10,7 @@ use Rattle.tau_cut.specs.declared.cut.Marked.{Marked}
 use Rattle.tau_cut.specs.declared.cut.Marked.TheVariants.{In, Out}
 use Rattle.tau_cut.specs.Cuts.{place_of, places_in, IsCut}
 use Rattle.tau_cut.proofs.MarkLemmas.{in_place, mark_at, place_at}
-use Rattle.tau_seen.specs.Causes.{IsCauseAt}
+use Rattle.tau_scene.specs.Causes.Causes.{IsCauseAt}
 use Rattle.tau_picture.specs.Asking.{IsLost, IsAskable}
 use Rattle.tau_picture.specs.declared.asking.Asked.{Asked}
 use Rattle.tau_picture.specs.Inner.Asked.{Tells, IsAsked, IsAskedWithout}

@@ -2,9 +2,9 @@
 use Rattle.std.proofs.Common.{◌≡◌, ℕ, List, [], ◌∷◌, ◌++◌, length, length-append, refl, sym, ap, ◌∙◌, subst, arith}
 use Rattle.std.specs.Prelude.{slice_get}
 use Rattle.std.proofs.lemmas.List.{append_cancel_right}
-use Rattle.tau_markup.specs.Lines.{Line}
+use Rattle.tau_svg.specs.Markup.Lines.{Line}
 use Rattle.tau_trace.proofs.Lists.{same_some, slice_get-last}
-use Rattle.tau_shapes.specs.Each.{EachPlace, no_place, next_place, EachItem, no_item, next_item}
+use Rattle.tau_svg.specs.Shapes.Each.{EachPlace, no_place, next_place, EachItem, no_item, next_item}
 
 -- lines of which P tells at each place, where Q tells what P does
 pub each_as : (P Q : ℕ → List Line → Type 0) (a b : ℕ) → ((k : ℕ) (ls : List Line) → P k ls → Q k ls) → (ls : List Line) → EachPlace P a b ls → EachPlace Q a b ls

@@ -2,30 +2,30 @@
 use Rattle.std.proofs.Common.{◌≡◌, ℕ, suc, ◌-◌, ◌<◌, Bool, true, false, cond, ◌&&◌, List, [], ◌∷◌, ◌++◌, refl, sym, subst, arith}
 use Rattle.std.specs.Prelude.{codes}
 use Rattle.std.specs.List.{AllByRecursion, flat_map}
-use Rattle.tau_markup.specs.Lines.{Piece, plain, number, said, empty, titled, Line}
+use Rattle.tau_svg.specs.Markup.Lines.{Piece, plain, number, said, empty, titled, Line}
 use Rattle.tau_points.proofs.Membership.{all_append}
 use Rattle.tau_trace.specs.declared.step.Step.{Step}
 use Rattle.tau_trace.specs.declared.step.Step.TheVariants.{Drop, Lose, Repeat}
-use Rattle.tau_shapes.specs.Shapes.{beside, line, rect, rect_of, rounded, path, symbol_at, text_at}
-use Rattle.tau_shapes.specs.Each.{EachPlace, no_place, next_place, EachItem, no_item, next_item}
-use Rattle.tau_looks.specs.declared.kinds.StateLook.{StateLook}
-use Rattle.tau_looks.specs.declared.kinds.StateLook.TheVariants as states
-use Rattle.tau_looks.specs.declared.kinds.MarkLook.{MarkLook}
-use Rattle.tau_looks.specs.declared.kinds.MarkLook.TheVariants as marks
-use Rattle.tau_looks.specs.declared.kinds.RowLook.{RowLook}
-use Rattle.tau_looks.specs.declared.kinds.RowLook.TheVariants as rows
-use Rattle.tau_looks.specs.declared.kinds.EndLook.{EndLook}
-use Rattle.tau_looks.specs.declared.kinds.EndLook.TheVariants as ends
-use Rattle.tau_spots.specs.declared.spots.Spot.{Spot}
-use Rattle.tau_spots.specs.declared.sources.Source.{Source}
-use Rattle.tau_spots.specs.declared.sources.Source.TheVariants.{Post, Earlier, Drawn}
-use Rattle.tau_spots.specs.Paths.{offset, line_end, receipt_path}
-use Rattle.tau_marks.specs.Marks.{symbol_word, undone_class}
-use Rattle.tau_marks.specs.Rows.{row_word}
-use Rattle.tau_bands.specs.Names.{state_class, end_symbol, end_class}
+use Rattle.tau_svg.specs.Shapes.Shapes.{beside, line, rect, rect_of, rounded, path, symbol_at, text_at}
+use Rattle.tau_svg.specs.Shapes.Each.{EachPlace, no_place, next_place, EachItem, no_item, next_item}
+use Rattle.tau_scene.specs.declared.looks.kinds.StateLook.{StateLook}
+use Rattle.tau_scene.specs.declared.looks.kinds.StateLook.TheVariants as states
+use Rattle.tau_scene.specs.declared.looks.kinds.MarkLook.{MarkLook}
+use Rattle.tau_scene.specs.declared.looks.kinds.MarkLook.TheVariants as marks
+use Rattle.tau_scene.specs.declared.looks.kinds.RowLook.{RowLook}
+use Rattle.tau_scene.specs.declared.looks.kinds.RowLook.TheVariants as rows
+use Rattle.tau_scene.specs.declared.looks.kinds.EndLook.{EndLook}
+use Rattle.tau_scene.specs.declared.looks.kinds.EndLook.TheVariants as ends
+use Rattle.tau_layout.specs.declared.paths.spots.Spot.{Spot}
+use Rattle.tau_layout.specs.declared.paths.sources.Source.{Source}
+use Rattle.tau_layout.specs.declared.paths.sources.Source.TheVariants.{Post, Earlier, Drawn}
+use Rattle.tau_layout.specs.Paths.Paths.{offset, line_end, receipt_path}
+use Rattle.tau_drawing.specs.Marks.Marks.{symbol_word, undone_class}
+use Rattle.tau_drawing.specs.Marks.Rows.{row_word}
+use Rattle.tau_drawing.specs.States.Names.{state_class, end_symbol, end_class}
 use Rattle.tau_value.specs.Val.{Val}
-use Rattle.tau_arrows.specs.Titles.{receipt_word, send_word, later_word, receipt_title, sent_title}
-use Rattle.tau_arrows.specs.Arrows.{line_kind, is_long, receipt_class, sent_class}
+use Rattle.tau_drawing.specs.Messages.Titles.{receipt_word, send_word, later_word, receipt_title, sent_title}
+use Rattle.tau_drawing.specs.Messages.Arrows.{line_kind, is_long, receipt_class, sent_class}
 use Rattle.tau_picture.specs.Markup.{is_plain, is_value, is_text, is_element, IsElement}
 
 abbrev pub Elements : List Line → Type 0

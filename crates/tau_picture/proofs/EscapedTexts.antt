@@ -1,7 +1,7 @@
 -- In an escaped text an ampersand begins an entity, and no angle bracket stands.
 use Rattle.std.proofs.Common.{◌≡◌, ◌≢◌, ℕ, Bool, true, false, cond, eqb, List, [], ◌∷◌, ◌++◌, refl, eq-eqb}
 use Rattle.std.specs.Prelude.{codes}
-use Rattle.tau_markup.specs.Texts.{escaped_byte, escaped}
+use Rattle.tau_svg.specs.Markup.Texts.{escaped_byte, escaped}
 use Rattle.tau_picture.specs.Laws.{IsEscaped, ends, ampersand, less, greater, other}
 
 is_other : (b c : ℕ) → eqb b c ≡ false → b ≢ c

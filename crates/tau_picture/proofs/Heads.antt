@@ -1,12 +1,12 @@
 -- The colour of the heads of links stands where a link is drawn.
 use Rattle.std.proofs.Common.{◌≡◌, ℕ, ◌+◌, ◌≤◌, ◌<◌, List, [], ◌∷◌, ◌++◌, length, length-append, refl, sym, ap, ◌∙◌, subst, arith}
-use Rattle.tau_markup.specs.Lines.{Line, line_bytes, line_of, text_of, with_line, with_lines}
-use Rattle.tau_markup.proofs.LineLemmas.{lines_appended, lines_joined}
-use Rattle.tau_chains.specs.declared.chained.Chained.{Chained}
+use Rattle.tau_svg.specs.Markup.Lines.{Line, line_bytes, line_of, text_of, with_line, with_lines}
+use Rattle.tau_svg.proofs.LineLemmas.{lines_appended, lines_joined}
+use Rattle.tau_explain.specs.declared.chains.chained.Chained.{Chained}
 use Rattle.tau_trace.specs.Run.{Run}
-use Rattle.tau_shapes.specs.Each.{EachItem, Writes}
+use Rattle.tau_svg.specs.Shapes.Each.{EachItem, Writes}
 use Rattle.tau_layout.specs.Plans.{Plan}
-use Rattle.tau_looks.specs.declared.looks.Looks.{Looks}
+use Rattle.tau_scene.specs.declared.looks.looks.Looks.{Looks}
 use Rattle.tau_picture.specs.Chains.{LinkLines, head_line, head_lines, AreLinkLines}
 
 -- a text grows by lines

@@ -1,28 +1,28 @@
 -- Parts that are written one behind the other.
 use Rattle.std.proofs.Common.{◌≡◌, ℕ, List, [], ◌∷◌, ◌++◌, refl, sym, ap, ◌∙◌}
-use Rattle.tau_markup.specs.Lines.{with_line, with_lines}
-use Rattle.tau_markup.proofs.LineLemmas.{lines_joined}
-use Rattle.tau_shapes.specs.declared.grid.Grid.{Grid}
-use Rattle.tau_shapes.specs.Shapes.{begin_line, title_line, paper_line}
-use Rattle.tau_shapes.specs.Fixed.{style_lines, symbol_lines}
-use Rattle.tau_markup.specs.Lines.{Line}
-use Rattle.tau_shapes.specs.Each.{EachItem, Writes}
-use Rattle.tau_shapes.proofs.Writing.{both, told_as}
+use Rattle.tau_svg.specs.Markup.Lines.{with_line, with_lines}
+use Rattle.tau_svg.proofs.LineLemmas.{lines_joined}
+use Rattle.tau_svg.specs.declared.shapes.grid.Grid.{Grid}
+use Rattle.tau_svg.specs.Shapes.Shapes.{begin_line, title_line, paper_line}
+use Rattle.tau_svg.specs.Shapes.Fixed.{style_lines, symbol_lines}
+use Rattle.tau_svg.specs.Markup.Lines.{Line}
+use Rattle.tau_svg.specs.Shapes.Each.{EachItem, Writes}
+use Rattle.tau_svg.proofs.Writing.{both, told_as}
 use Rattle.tau_tree.specs.declared.programs.Program.{Program}
 use Rattle.tau_trace.specs.Run.{Run, len}
 use Rattle.tau_layout.specs.Plans.{Plan, grid}
-use Rattle.tau_looks.specs.declared.looks.Looks.{Looks}
-use Rattle.tau_lanes.specs.Bands.{AreNodeBands}
-use Rattle.tau_lanes.specs.LaneLines.{AreLaneLines}
-use Rattle.tau_lanes.specs.NameLines.{AreNameLines}
-use Rattle.tau_spots.specs.Guides.{AreGuides}
-use Rattle.tau_arrows.specs.Messages.{AreMessageLines}
-use Rattle.tau_marks.specs.Marks.{AreMarks}
-use Rattle.tau_marks.specs.Rows.{AreRows}
-use Rattle.tau_bands.specs.StripLines.{AreStripLines}
-use Rattle.tau_bands.specs.StateLines.{AreStateLines}
-use Rattle.tau_bands.specs.EndLines.{AreEndLines}
-use Rattle.tau_chains.specs.declared.chained.Chained.{Chained}
+use Rattle.tau_scene.specs.declared.looks.looks.Looks.{Looks}
+use Rattle.tau_drawing.specs.Lanes.Bands.{AreNodeBands}
+use Rattle.tau_drawing.specs.Lanes.LaneLines.{AreLaneLines}
+use Rattle.tau_drawing.specs.Lanes.NameLines.{AreNameLines}
+use Rattle.tau_layout.specs.Paths.Guides.{AreGuides}
+use Rattle.tau_drawing.specs.Messages.Messages.{AreMessageLines}
+use Rattle.tau_drawing.specs.Marks.Marks.{AreMarks}
+use Rattle.tau_drawing.specs.Marks.Rows.{AreRows}
+use Rattle.tau_drawing.specs.States.StripLines.{AreStripLines}
+use Rattle.tau_drawing.specs.States.StateLines.{AreStateLines}
+use Rattle.tau_drawing.specs.States.EndLines.{AreEndLines}
+use Rattle.tau_explain.specs.declared.chains.chained.Chained.{Chained}
 use Rattle.tau_picture.specs.Chains.{FrameLines, AreLinkLines, RingLines, AreChainLines}
 use Rattle.tau_picture.specs.declared.asking.Asked.{Asked}
 use Rattle.tau_picture.specs.Pictures.{begin_lines, key_lines, AreCauseLines}

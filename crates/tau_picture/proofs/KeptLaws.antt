@@ -12,23 +12,23 @@ use Rattle.tau_trace.specs.Points.{point_at}
 use Rattle.tau_past.specs.Pasts.{Past}
 use Rattle.tau_past.specs.Audits.{ChecksAt}
 use Rattle.tau_past.specs.Safety.{Safe}
-use Rattle.tau_shapes.specs.Windows.{IsDrawn}
+use Rattle.tau_svg.specs.Shapes.Windows.{IsDrawn}
 use Rattle.tau_layout.specs.Plans.{Plan}
 use Rattle.tau_legal.proofs.SafetyLemmas.{fitting_safe}
 use Rattle.tau_cut.specs.declared.cut.Marked.{Marked}
 use Rattle.tau_cut.specs.Cuts.{places_in, IsCut}
-use Rattle.tau_looks.specs.declared.kinds.StateLook.{StateLook}
-use Rattle.tau_looks.specs.declared.kinds.StateLook.TheVariants as states
-use Rattle.tau_looks.specs.declared.kinds.MarkLook.{MarkLook}
-use Rattle.tau_looks.specs.declared.kinds.MarkLook.TheVariants as marks
-use Rattle.tau_looks.specs.declared.looks.Seen.{Seen}
-use Rattle.tau_looks.specs.declared.looks.StepLook.{StepLook}
-use Rattle.tau_looks.specs.declared.looks.Looks.{Looks}
-use Rattle.tau_looks.specs.Kinds.{mark_look}
-use Rattle.tau_seen.specs.Looks.{IsStateLook, IsSavedMark, IsMarkLook, falls_at}
-use Rattle.tau_notes.specs.Looks.{IsLooks}
-use Rattle.tau_marks.specs.Marks.{HasLook}
-use Rattle.tau_bands.specs.Names.{seen_at}
+use Rattle.tau_scene.specs.declared.looks.kinds.StateLook.{StateLook}
+use Rattle.tau_scene.specs.declared.looks.kinds.StateLook.TheVariants as states
+use Rattle.tau_scene.specs.declared.looks.kinds.MarkLook.{MarkLook}
+use Rattle.tau_scene.specs.declared.looks.kinds.MarkLook.TheVariants as marks
+use Rattle.tau_scene.specs.declared.looks.looks.Seen.{Seen}
+use Rattle.tau_scene.specs.declared.looks.looks.StepLook.{StepLook}
+use Rattle.tau_scene.specs.declared.looks.looks.Looks.{Looks}
+use Rattle.tau_scene.specs.Looks.Kinds.{mark_look}
+use Rattle.tau_scene.specs.Causes.Looks.{IsStateLook, IsSavedMark, IsMarkLook, falls_at}
+use Rattle.tau_scene.specs.Notes.Looks.{IsLooks}
+use Rattle.tau_drawing.specs.Marks.Marks.{HasLook}
+use Rattle.tau_drawing.specs.States.Names.{seen_at}
 use Rattle.tau_picture.specs.Laws.{SafeRunsShowNoneBroken, MayBeKept, BlueMayBeKept, LegalRunsDrawSafe}
 use Rattle.tau_picture.proofs.Whole.{window_within, step_there}
 use Rattle.tau_picture.proofs.OneState.{look_once, looked}

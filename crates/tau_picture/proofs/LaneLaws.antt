@@ -11,19 +11,19 @@ use Rattle.tau_trace.specs.Known.{WellFormed}
 use Rattle.tau_trace.specs.Numbering.{IsHome, start, created}
 use Rattle.tau_trace.proofs.Counts.{count-suc, count-grows}
 use Rattle.tau_trace.proofs.Lists.{same_some}
-use Rattle.tau_shapes.specs.declared.window.Window.{Window}
-use Rattle.tau_shapes.specs.Grids.{rows_height}
-use Rattle.tau_shapes.specs.Shapes.{beside}
-use Rattle.tau_shapes.specs.Windows.{IsDrawn, count, row_of, window_of}
+use Rattle.tau_svg.specs.declared.shapes.window.Window.{Window}
+use Rattle.tau_svg.specs.Shapes.Grids.{rows_height}
+use Rattle.tau_svg.specs.Shapes.Shapes.{beside}
+use Rattle.tau_svg.specs.Shapes.Windows.{IsDrawn, count, row_of, window_of}
 use Rattle.tau_layout.specs.declared.lanes.Lane.{Lane}
 use Rattle.tau_layout.specs.Lanes.{ComesBefore, stands_at, nodes_below}
 use Rattle.tau_layout.specs.Plans.{Plan, IsPlan, grid, lane_x, row_y}
-use Rattle.tau_courses.specs.declared.states.State.{State}
-use Rattle.tau_courses.specs.States.{IsSeen}
-use Rattle.tau_courses.proofs.Beginnings.{cases_lt}
-use Rattle.tau_spots.specs.declared.spots.Spot.{Spot}
-use Rattle.tau_spots.specs.Spots.{StandsBeside, IsSpotX, in_lane, in_none, IsSpot}
-use Rattle.tau_bands.specs.StateLines.{state_top, end_foot, state_foot}
+use Rattle.tau_scene.specs.declared.timelines.states.State.{State}
+use Rattle.tau_scene.specs.Timelines.States.{IsSeen}
+use Rattle.tau_scene.proofs.Beginnings.{cases_lt}
+use Rattle.tau_layout.specs.declared.paths.spots.Spot.{Spot}
+use Rattle.tau_layout.specs.Paths.Spots.{StandsBeside, IsSpotX, in_lane, in_none, IsSpot}
+use Rattle.tau_drawing.specs.States.StateLines.{state_top, end_foot, state_foot}
 use Rattle.tau_picture.specs.Laws.{StandApart, LanesStandApart}
 use Rattle.tau_picture.proofs.Whole.{ends_within, step_there}
 use Rattle.tau_picture.proofs.OnePlan.{comes_once}

@@ -1,16 +1,16 @@
 -- One mark for each drawn step, by place.
 use Rattle.std.proofs.Common.{◌≡◌, ⊎_elim, ℕ, ◌+◌, ◌-◌, ◌<◌, ◌≤◌, List, [], ◌∷◌, ◌++◌, length, Some, length-append, sym, ap, ◌∙◌, subst, arith}
 use Rattle.std.specs.Prelude.{slice_get}
-use Rattle.tau_markup.specs.Lines.{Line}
+use Rattle.tau_svg.specs.Markup.Lines.{Line}
 use Rattle.tau_trace.specs.Run.{Run}
 use Rattle.tau_trace.proofs.Lists.{slice_get-front, slice_get-last}
-use Rattle.tau_shapes.specs.Each.{EachPlace, no_place, next_place}
+use Rattle.tau_svg.specs.Shapes.Each.{EachPlace, no_place, next_place}
 use Rattle.tau_layout.specs.Plans.{Plan}
-use Rattle.tau_courses.proofs.Beginnings.{cases_lt}
-use Rattle.tau_looks.specs.declared.looks.StepLook.{StepLook}
-use Rattle.tau_spots.specs.declared.spots.Spot.{Spot}
-use Rattle.tau_spots.specs.Spots.{IsSpot}
-use Rattle.tau_marks.specs.Marks.{HasLook, mark_line, IsMark, AreMarks}
+use Rattle.tau_scene.proofs.Beginnings.{cases_lt}
+use Rattle.tau_scene.specs.declared.looks.looks.StepLook.{StepLook}
+use Rattle.tau_layout.specs.declared.paths.spots.Spot.{Spot}
+use Rattle.tau_layout.specs.Paths.Spots.{IsSpot}
+use Rattle.tau_drawing.specs.Marks.Marks.{HasLook, mark_line, IsMark, AreMarks}
 use Rattle.tau_picture.specs.Laws.{AreMarksOfSteps, MarksAreTheSteps}
 
 module _ (T : Run) (plan : Plan) (looks : List StepLook) where

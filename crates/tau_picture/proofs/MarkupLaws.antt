@@ -3,46 +3,46 @@ use Rattle.std.proofs.Common.{◌≡◌, ℕ, zero, suc, ◌+◌, ◌-◌, ◌*�
 use Rattle.std.specs.Prelude.{slice_get, nat_lt, option_and_then, codes}
 use Rattle.std.specs.List.{flat_map}
 use Rattle.std.proofs.lemmas.List.Elements.{All-from_recursion}
-use Rattle.tau_markup.specs.Texts.{cut, cut_inside}
-use Rattle.tau_markup.specs.Lines.{plain, number, empty, Line}
+use Rattle.tau_svg.specs.Markup.Texts.{cut, cut_inside}
+use Rattle.tau_svg.specs.Markup.Lines.{plain, number, empty, Line}
 use Rattle.tau_points.proofs.Membership.{all_append}
-use Rattle.tau_chains.specs.declared.chained.Chained.{Chained}
+use Rattle.tau_explain.specs.declared.chains.chained.Chained.{Chained}
 use Rattle.tau_tree.specs.declared.programs.Program.{Program}
 use Rattle.tau_trace.specs.declared.step.Step.{Step}
 use Rattle.tau_trace.specs.declared.step.Step.TheVariants.{Send, Repeat, New}
 use Rattle.tau_trace.specs.Run.{Run, len}
 use Rattle.tau_trace.specs.Numbering.{sent}
 use Rattle.tau_value.specs.Written.{name_written}
-use Rattle.tau_shapes.specs.declared.window.Window.{Window}
-use Rattle.tau_shapes.specs.Windows.{count}
-use Rattle.tau_shapes.specs.Shapes.{begin_line, title_line, paper_line, rect_of, text_at, go, go_to}
-use Rattle.tau_shapes.specs.Fixed.{style_lines, symbol_lines}
+use Rattle.tau_svg.specs.declared.shapes.window.Window.{Window}
+use Rattle.tau_svg.specs.Shapes.Windows.{count}
+use Rattle.tau_svg.specs.Shapes.Shapes.{begin_line, title_line, paper_line, rect_of, text_at, go, go_to}
+use Rattle.tau_svg.specs.Shapes.Fixed.{style_lines, symbol_lines}
 use Rattle.tau_layout.specs.Plans.{Plan, grid, lane_x, strip_x, row_y}
-use Rattle.tau_courses.specs.declared.states.State.{State}
+use Rattle.tau_scene.specs.declared.timelines.states.State.{State}
 use Rattle.tau_cut.specs.declared.cut.Marked.{Marked}
-use Rattle.tau_words.specs.Texts.{who_text, step_text, bare_text, state_title}
-use Rattle.tau_looks.specs.declared.kinds.MarkLook.{MarkLook}
-use Rattle.tau_looks.specs.declared.kinds.MarkLook.TheVariants as marks
-use Rattle.tau_looks.specs.declared.looks.Seen.{Seen}
-use Rattle.tau_looks.specs.declared.looks.StepLook.{StepLook}
-use Rattle.tau_looks.specs.declared.looks.Ending.{Ending}
-use Rattle.tau_looks.specs.declared.looks.Looks.{Looks}
-use Rattle.tau_spots.specs.declared.spots.Spot.{Spot}
-use Rattle.tau_spots.specs.Guides.{guide_line, IsGuide}
-use Rattle.tau_spots.specs.Paths.{receipt_path}
-use Rattle.tau_spots.specs.Senders.{met_by}
-use Rattle.tau_arrows.specs.Titles.{receipt_title, sent_title}
-use Rattle.tau_arrows.specs.Arrows.{receipt_class, receipt_line, sent_class, sent_line, new_line}
-use Rattle.tau_arrows.specs.Messages.{IsReceiptLine, receipt_leads, receipt_nowhere, IsSentLine, sent_leads, sent_met, sent_nowhere, IsNewLine, new_leads, new_nowhere, IsLineTo, IsLineOf, IsMessageLine}
-use Rattle.tau_marks.specs.Marks.{mark_line, IsMark}
-use Rattle.tau_marks.specs.Rows.{place_line, row_line, IsRow}
-use Rattle.tau_bands.specs.Names.{tick_class, seen_at, state_class, state_words}
-use Rattle.tau_bands.specs.StripLines.{class_at, span_lines, stable_span, strip_end, tick_lines, IsStripLane, IsTick, AreStripLines, with_strip, without, frame_line, place_lines, label_line}
-use Rattle.tau_bands.specs.StateLines.{state_top, state_foot, stable_top, state_lines, point_y, point_lines, stable_from, IsStateAt, AreStatesAt}
-use Rattle.tau_bands.specs.EndLines.{end_x, end_y, ending_lines, IsEndAt, AreEndLines, heading_line}
-use Rattle.tau_lanes.specs.Bands.{lanes_below, span, band_line, node_line, first_x, last_x, band_lines, bands_below}
-use Rattle.tau_lanes.specs.NameLines.{frame_line as name_frame, names_foot, named_lines, IsNamed, IsNamesLine}
-use Rattle.tau_lanes.specs.LaneLines.{wide_line, tall_line, name_line, top_name, axis_line, axis_top, axis_foot, IsLane}
+use Rattle.tau_scene.specs.Words.Texts.{who_text, step_text, bare_text, state_title}
+use Rattle.tau_scene.specs.declared.looks.kinds.MarkLook.{MarkLook}
+use Rattle.tau_scene.specs.declared.looks.kinds.MarkLook.TheVariants as marks
+use Rattle.tau_scene.specs.declared.looks.looks.Seen.{Seen}
+use Rattle.tau_scene.specs.declared.looks.looks.StepLook.{StepLook}
+use Rattle.tau_scene.specs.declared.looks.looks.Ending.{Ending}
+use Rattle.tau_scene.specs.declared.looks.looks.Looks.{Looks}
+use Rattle.tau_layout.specs.declared.paths.spots.Spot.{Spot}
+use Rattle.tau_layout.specs.Paths.Guides.{guide_line, IsGuide}
+use Rattle.tau_layout.specs.Paths.Paths.{receipt_path}
+use Rattle.tau_layout.specs.Paths.Senders.{met_by}
+use Rattle.tau_drawing.specs.Messages.Titles.{receipt_title, sent_title}
+use Rattle.tau_drawing.specs.Messages.Arrows.{receipt_class, receipt_line, sent_class, sent_line, new_line}
+use Rattle.tau_drawing.specs.Messages.Messages.{IsReceiptLine, receipt_leads, receipt_nowhere, IsSentLine, sent_leads, sent_met, sent_nowhere, IsNewLine, new_leads, new_nowhere, IsLineTo, IsLineOf, IsMessageLine}
+use Rattle.tau_drawing.specs.Marks.Marks.{mark_line, IsMark}
+use Rattle.tau_drawing.specs.Marks.Rows.{place_line, row_line, IsRow}
+use Rattle.tau_drawing.specs.States.Names.{tick_class, seen_at, state_class, state_words}
+use Rattle.tau_drawing.specs.States.StripLines.{class_at, span_lines, stable_span, strip_end, tick_lines, IsStripLane, IsTick, AreStripLines, with_strip, without, frame_line, place_lines, label_line}
+use Rattle.tau_drawing.specs.States.StateLines.{state_top, state_foot, stable_top, state_lines, point_y, point_lines, stable_from, IsStateAt, AreStatesAt}
+use Rattle.tau_drawing.specs.States.EndLines.{end_x, end_y, ending_lines, IsEndAt, AreEndLines, heading_line}
+use Rattle.tau_drawing.specs.Lanes.Bands.{lanes_below, span, band_line, node_line, first_x, last_x, band_lines, bands_below}
+use Rattle.tau_drawing.specs.Lanes.NameLines.{frame_line as name_frame, names_foot, named_lines, IsNamed, IsNamesLine}
+use Rattle.tau_drawing.specs.Lanes.LaneLines.{wide_line, tall_line, name_line, top_name, axis_line, axis_top, axis_foot, IsLane}
 use Rattle.tau_picture.specs.Headings.{is_whole, heading_lines}
 use Rattle.tau_picture.specs.Chains.{FrameLines, framed, unframed, curve, no_later, link_line, LinkLines, link_drawn, link_undrawn, head_lines, AreLinkLines, RingLines, ring_drawn, ring_undrawn}
 use Rattle.tau_picture.specs.Pictures.{key_lines, said_lines, AreCauseLines, IsPicture}

@@ -2,7 +2,7 @@
 use Rattle.std.proofs.Common.{◌≡◌, ℕ, ◌+◌, ◌*◌, ◌/◌, List, [], ◌∷◌, ◌++◌, length, Option, Some, None, refl, sym, ap, ◌∙◌, subst, arith}
 use Rattle.std.specs.Prelude.{slice_get}
 use Rattle.std.specs.List.{flat_map}
-use Rattle.tau_markup.specs.Lines.{Line}
+use Rattle.tau_svg.specs.Markup.Lines.{Line}
 use Rattle.tau_value.specs.Written.{name_written}
 use Rattle.tau_trace.specs.Run.{Run, len}
 use Rattle.tau_trace.specs.Known.{IsSound}
@@ -11,24 +11,24 @@ use Rattle.tau_trace.specs.Histories.{EndsAt}
 use Rattle.tau_trace.proofs.Lists.{same_some}
 use Rattle.tau_trace.proofs.Once.{new_once}
 use Rattle.tau_past.specs.Tables.{IsBirth}
-use Rattle.tau_shapes.specs.Windows.{count}
-use Rattle.tau_shapes.specs.Each.{EachItem}
+use Rattle.tau_svg.specs.Shapes.Windows.{count}
+use Rattle.tau_svg.specs.Shapes.Each.{EachItem}
 use Rattle.tau_layout.specs.declared.lanes.Lane.{Lane}
 use Rattle.tau_layout.specs.Lanes.{AreLanes}
 use Rattle.tau_layout.specs.Plans.{Plan, grid, lane_x, HasRank}
 use Rattle.tau_layout.proofs.LaneLemmas.{one_lane}
-use Rattle.tau_courses.proofs.Currents.{least_once}
-use Rattle.tau_words.specs.Texts.{who_text}
-use Rattle.tau_looks.specs.declared.looks.Seen.{Seen}
-use Rattle.tau_looks.specs.declared.looks.Looks.{Looks}
-use Rattle.tau_spots.proofs.Ranks.{has_one_rank}
-use Rattle.tau_spots.proofs.Once.{each_once, same_bool}
-use Rattle.tau_lanes.specs.LaneLines.{top_name, axis_line, axis_top, axis_foot, AreLinesAt, IsLane, AreLaneLines}
-use Rattle.tau_lanes.specs.NameLines.{names_foot, named_lines, IsNamed, IsNamesLine, AreNameLines}
-use Rattle.tau_bands.specs.Names.{seen_at}
-use Rattle.tau_bands.specs.StripLines.{label_line, span_lines, IsStripLane, IsRankAt, class_at, tick_lines, IsTick, IsStrip, AreStripLines, with_strip, without, frame_line, place_lines}
-use Rattle.tau_bands.specs.StateLines.{IsCrowded, state_lines, IsStateAt, AreStatesAt, AreStateLines}
-use Rattle.tau_bands.specs.EndLines.{heading_line, ending_lines, IsEndAt, AreEndLines}
+use Rattle.tau_scene.proofs.Currents.{least_once}
+use Rattle.tau_scene.specs.Words.Texts.{who_text}
+use Rattle.tau_scene.specs.declared.looks.looks.Seen.{Seen}
+use Rattle.tau_scene.specs.declared.looks.looks.Looks.{Looks}
+use Rattle.tau_layout.proofs.Ranks.{has_one_rank}
+use Rattle.tau_layout.proofs.Once.{each_once, same_bool}
+use Rattle.tau_drawing.specs.Lanes.LaneLines.{top_name, axis_line, axis_top, axis_foot, AreLinesAt, IsLane, AreLaneLines}
+use Rattle.tau_drawing.specs.Lanes.NameLines.{names_foot, named_lines, IsNamed, IsNamesLine, AreNameLines}
+use Rattle.tau_drawing.specs.States.Names.{seen_at}
+use Rattle.tau_drawing.specs.States.StripLines.{label_line, span_lines, IsStripLane, IsRankAt, class_at, tick_lines, IsTick, IsStrip, AreStripLines, with_strip, without, frame_line, place_lines}
+use Rattle.tau_drawing.specs.States.StateLines.{IsCrowded, state_lines, IsStateAt, AreStatesAt, AreStateLines}
+use Rattle.tau_drawing.specs.States.EndLines.{heading_line, ending_lines, IsEndAt, AreEndLines}
 use Rattle.tau_picture.proofs.EachOnce.{items_once}
 
 -- the lines of a lane

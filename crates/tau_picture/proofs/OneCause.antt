@@ -1,12 +1,12 @@
 -- The cause of a step is told once.
 use Rattle.std.proofs.Common.{◌≡◌, ⊎_elim, ℕ, true, false, List, Option, Some, None, refl, sym, ap, ◌∙◌}
 use Rattle.std.specs.Prelude.{Contains}
-use Rattle.tau_chains.specs.declared.chained.Chained.{Chained}
+use Rattle.tau_explain.specs.declared.chains.chained.Chained.{Chained}
 use Rattle.tau_trace.specs.declared.step.Step.TheVariants.{Checkpoint}
 use Rattle.tau_trace.specs.Run.{Run}
 use Rattle.tau_trace.proofs.Lists.{same_some}
 use Rattle.tau_past.specs.Pasts.{Link, Is, Everywhere}
-use Rattle.tau_links.specs.Links.{points_of}
+use Rattle.tau_explain.specs.Links.Links.{points_of}
 use Rattle.tau_explain.specs.declared.answers.Why.TheVariants as answers
 use Rattle.tau_explain.specs.Decisions.{is_decision, IsWhy}
 use Rattle.tau_explain.proofs.OneAnswer.{first_same, told_same, one_answer}
@@ -15,7 +15,7 @@ use Rattle.tau_cut.specs.declared.cut.Marked.TheVariants.{Out}
 use Rattle.tau_cut.specs.Consistent.{KeptAble}
 use Rattle.tau_cut.specs.Cuts.{IsCut}
 use Rattle.tau_cut.proofs.MarkLemmas.{place_at}
-use Rattle.tau_seen.specs.Causes.{IsCause, IsCauseAt}
+use Rattle.tau_scene.specs.Causes.Causes.{IsCause, IsCauseAt}
 
 chain_same : (c d : List Chained) → answers.Chain c ≡ answers.Chain d → c ≡ d
 chain_same c d e = cc

@@ -1,26 +1,26 @@
 -- The lines of the chain of a step are told once.
 use Rattle.std.proofs.Common.{◌≡◌, ℕ, ◌<◌, ◌≤◌, List, [], ◌∷◌, ◌++◌, Option, Some, None, refl, sym, ap, ◌∙◌, subst, arith}
 use Rattle.std.specs.Prelude.{Contains}
-use Rattle.tau_markup.specs.Lines.{Line}
+use Rattle.tau_svg.specs.Markup.Lines.{Line}
 use Rattle.tau_points.specs.declared.point.Point.{Point}
-use Rattle.tau_chains.specs.declared.chained.Chained.{Chained}
+use Rattle.tau_explain.specs.declared.chains.chained.Chained.{Chained}
 use Rattle.tau_trace.specs.declared.step.Step.{Step}
 use Rattle.tau_trace.specs.Run.{Run, len, step_at}
 use Rattle.tau_trace.specs.Known.{WellFormed}
 use Rattle.tau_trace.proofs.Lists.{same_some}
-use Rattle.tau_shapes.specs.Windows.{IsDrawn}
+use Rattle.tau_svg.specs.Shapes.Windows.{IsDrawn}
 use Rattle.tau_layout.specs.Lanes.{AreLanes}
 use Rattle.tau_layout.specs.Plans.{Plan, row_y}
-use Rattle.tau_courses.specs.declared.states.State.{State}
-use Rattle.tau_courses.specs.States.{IsState}
+use Rattle.tau_scene.specs.declared.timelines.states.State.{State}
+use Rattle.tau_scene.specs.Timelines.States.{IsState}
 use Rattle.tau_cut.specs.declared.cut.Marked.{Marked}
-use Rattle.tau_looks.specs.declared.looks.Seen.{Seen}
-use Rattle.tau_looks.specs.declared.looks.Looks.{Looks}
-use Rattle.tau_seen.specs.Looks.{AreLaneSeen}
-use Rattle.tau_spots.specs.declared.spots.Spot.{Spot}
-use Rattle.tau_spots.specs.Spots.{IsSpot}
-use Rattle.tau_spots.proofs.Once.{x_once, spot_once}
-use Rattle.tau_bands.specs.Names.{seen_at}
+use Rattle.tau_scene.specs.declared.looks.looks.Seen.{Seen}
+use Rattle.tau_scene.specs.declared.looks.looks.Looks.{Looks}
+use Rattle.tau_scene.specs.Causes.Looks.{AreLaneSeen}
+use Rattle.tau_layout.specs.declared.paths.spots.Spot.{Spot}
+use Rattle.tau_layout.specs.Paths.Spots.{IsSpot}
+use Rattle.tau_layout.proofs.Once.{x_once, spot_once}
+use Rattle.tau_drawing.specs.States.Names.{seen_at}
 use Rattle.tau_picture.specs.Chains.{ShowsState, FrameLines, framed, unframed, frame_line, no_later, link_line, ShowsLink, LinkLines, link_drawn, link_undrawn, head_lines, AreLinkLines, RingLines, ring_drawn, ring_undrawn, ring_line, AreChainLines}
 use Rattle.tau_picture.specs.Pictures.{AreCauseLines}
 use Rattle.tau_picture.proofs.EachOnce.{items_as, items_once}

@@ -6,7 +6,7 @@ use Rattle.std.proofs.lemmas.Option.{slice_get_within}
 use Rattle.tau_value.specs.declared.shared.Value.{Value}
 use Rattle.tau_value.specs.Value.{val_of}
 use Rattle.tau_points.specs.declared.point.Point.{Point}
-use Rattle.tau_chains.specs.declared.chained.Chained.{Chained}
+use Rattle.tau_explain.specs.declared.chains.chained.Chained.{Chained}
 use Rattle.tau_tree.specs.declared.programs.Program.{Program}
 use Rattle.tau_script.specs.Openings.{program_opening}
 use Rattle.tau_trace.specs.declared.step.Step.{Step}
@@ -18,24 +18,24 @@ use Rattle.tau_trace.proofs.Lists.{same_some}
 use Rattle.tau_past.specs.States.{SavedWith}
 use Rattle.tau_states.specs.Opening.{opening_states}
 use Rattle.tau_states.proofs.Uniqueness.{saved_once}
-use Rattle.tau_shapes.specs.declared.window.Window.{Window}
+use Rattle.tau_svg.specs.declared.shapes.window.Window.{Window}
 use Rattle.tau_layout.specs.declared.lanes.Lane.{Lane}
-use Rattle.tau_courses.proofs.Beginnings.{falls_acts}
+use Rattle.tau_scene.proofs.Beginnings.{falls_acts}
 use Rattle.tau_cut.specs.declared.cut.Marked.{Marked}
 use Rattle.tau_cut.specs.Cuts.{IsCut}
-use Rattle.tau_words.specs.Texts.{saves_text, back_text, kept_text, opened_text}
-use Rattle.tau_looks.specs.declared.kinds.MarkLook.{MarkLook}
-use Rattle.tau_looks.specs.declared.kinds.MarkLook.TheVariants as marks
-use Rattle.tau_looks.specs.declared.kinds.EndLook.{EndLook}
-use Rattle.tau_looks.specs.declared.kinds.EndLook.TheVariants as ends
-use Rattle.tau_looks.specs.declared.looks.StepLook.{StepLook}
-use Rattle.tau_looks.specs.declared.looks.Ending.{Ending}
-use Rattle.tau_looks.specs.Kinds.{row_look}
-use Rattle.tau_spots.proofs.Once.{same_bool}
-use Rattle.tau_seen.specs.Looks.{IsSavedMark, IsMarkLook, IsUndone, falls_at}
-use Rattle.tau_notes.specs.Notes.{IsSavesText, cause_text, IsCauseText, too_many_steps, no_cause, one_cause, IsBackText, IsFallText, falls, stays, IsNote}
-use Rattle.tau_notes.specs.Endings.{IsEnding}
-use Rattle.tau_notes.specs.Looks.{IsStepLook, AreStepLooks, AreEndings}
+use Rattle.tau_scene.specs.Words.Texts.{saves_text, back_text, kept_text, opened_text}
+use Rattle.tau_scene.specs.declared.looks.kinds.MarkLook.{MarkLook}
+use Rattle.tau_scene.specs.declared.looks.kinds.MarkLook.TheVariants as marks
+use Rattle.tau_scene.specs.declared.looks.kinds.EndLook.{EndLook}
+use Rattle.tau_scene.specs.declared.looks.kinds.EndLook.TheVariants as ends
+use Rattle.tau_scene.specs.declared.looks.looks.StepLook.{StepLook}
+use Rattle.tau_scene.specs.declared.looks.looks.Ending.{Ending}
+use Rattle.tau_scene.specs.Looks.Kinds.{row_look}
+use Rattle.tau_layout.proofs.Once.{same_bool}
+use Rattle.tau_scene.specs.Causes.Looks.{IsSavedMark, IsMarkLook, IsUndone, falls_at}
+use Rattle.tau_scene.specs.Notes.Notes.{IsSavesText, cause_text, IsCauseText, too_many_steps, no_cause, one_cause, IsBackText, IsFallText, falls, stays, IsNote}
+use Rattle.tau_scene.specs.Notes.Endings.{IsEnding}
+use Rattle.tau_scene.specs.Notes.Looks.{IsStepLook, AreStepLooks, AreEndings}
 use Rattle.tau_picture.proofs.OneCause.{cause_at_once}
 use Rattle.tau_picture.proofs.AsShown.{IsAlike, AreAlike, EndAlike}
 use Rattle.tau_picture.proofs.OneState.{none_beside}

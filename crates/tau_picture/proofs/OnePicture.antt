@@ -1,8 +1,8 @@
 -- A program, a run, a window and the step that is asked for have one picture.
 use Rattle.std.proofs.Common.{◌≡◌, ℕ, ◌≤◌, List, ◌++◌, Option, Some, None, sym, ap, ◌∙◌, subst}
-use Rattle.tau_markup.specs.Lines.{Line, text_of}
-use Rattle.tau_shapes.specs.Windows.{window_of}
-use Rattle.tau_chains.specs.declared.chained.Chained.{Chained}
+use Rattle.tau_svg.specs.Markup.Lines.{Line, text_of}
+use Rattle.tau_svg.specs.Shapes.Windows.{window_of}
+use Rattle.tau_explain.specs.declared.chains.chained.Chained.{Chained}
 use Rattle.tau_tree.specs.declared.programs.Program.{Program}
 use Rattle.tau_script.specs.Openings.{program_opening}
 use Rattle.tau_trace.specs.Run.{Run, len}
@@ -12,20 +12,20 @@ use Rattle.tau_layout.specs.Plans.{Plan}
 use Rattle.tau_cut.specs.declared.cut.Marked.{Marked}
 use Rattle.tau_cut.specs.Cuts.{IsCut}
 use Rattle.tau_cut.proofs.OneCut.{cut_once}
-use Rattle.tau_notes.specs.Looks.{IsLooks}
-use Rattle.tau_spots.specs.Guides.{AreGuides}
-use Rattle.tau_spots.proofs.Once.{guides_once}
-use Rattle.tau_arrows.specs.Messages.{AreMessageLines}
-use Rattle.tau_arrows.proofs.Once.{messages_once}
-use Rattle.tau_marks.specs.Marks.{AreMarks}
-use Rattle.tau_marks.specs.Rows.{AreRows}
-use Rattle.tau_marks.proofs.Once.{marks_once, rows_once}
-use Rattle.tau_bands.specs.StripLines.{AreStripLines}
-use Rattle.tau_bands.specs.StateLines.{AreStateLines}
-use Rattle.tau_bands.specs.EndLines.{AreEndLines}
-use Rattle.tau_lanes.specs.Bands.{AreNodeBands}
-use Rattle.tau_lanes.specs.LaneLines.{AreLaneLines}
-use Rattle.tau_lanes.specs.NameLines.{AreNameLines}
+use Rattle.tau_scene.specs.Notes.Looks.{IsLooks}
+use Rattle.tau_layout.specs.Paths.Guides.{AreGuides}
+use Rattle.tau_layout.proofs.Once.{guides_once}
+use Rattle.tau_drawing.specs.Messages.Messages.{AreMessageLines}
+use Rattle.tau_drawing.proofs.MessagesOnce.{messages_once}
+use Rattle.tau_drawing.specs.Marks.Marks.{AreMarks}
+use Rattle.tau_drawing.specs.Marks.Rows.{AreRows}
+use Rattle.tau_drawing.proofs.MarksOnce.{marks_once, rows_once}
+use Rattle.tau_drawing.specs.States.StripLines.{AreStripLines}
+use Rattle.tau_drawing.specs.States.StateLines.{AreStateLines}
+use Rattle.tau_drawing.specs.States.EndLines.{AreEndLines}
+use Rattle.tau_drawing.specs.Lanes.Bands.{AreNodeBands}
+use Rattle.tau_drawing.specs.Lanes.LaneLines.{AreLaneLines}
+use Rattle.tau_drawing.specs.Lanes.NameLines.{AreNameLines}
 use Rattle.tau_picture.specs.Headings.{heading_lines}
 use Rattle.tau_picture.specs.Asking.{IsCauseOf}
 use Rattle.tau_picture.specs.Pictures.{begin_lines, key_lines, said_lines, AreCauseLines, IsPicture, IsPictureText}

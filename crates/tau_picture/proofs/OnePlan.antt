@@ -1,6 +1,6 @@
 -- A run has one plan for a window.
 use Rattle.std.proofs.Common.{◌≡◌, ⊎_elim, List, sym, ap, ◌∙◌, arith}
-use Rattle.tau_shapes.specs.declared.window.Window.{Window}
+use Rattle.tau_svg.specs.declared.shapes.window.Window.{Window}
 use Rattle.tau_trace.specs.Run.{Run}
 use Rattle.tau_layout.specs.declared.lanes.Lane.{Lane}
 use Rattle.tau_layout.specs.Lanes.{ComesBefore, AreLanes, nodes_below, longest_name}

@@ -15,18 +15,18 @@ use Rattle.tau_trace.specs.Places.{IsLeastFrom}
 use Rattle.tau_trace.specs.Histories.{Closes}
 use Rattle.tau_trace.specs.Points.{point_at, Leaves}
 use Rattle.tau_trace.proofs.PointLemmas.{no_return}
-use Rattle.tau_shapes.specs.declared.window.Window.{Window}
+use Rattle.tau_svg.specs.declared.shapes.window.Window.{Window}
 use Rattle.tau_layout.specs.declared.lanes.Lane.{Lane}
 use Rattle.tau_layout.specs.Plans.{Plan}
-use Rattle.tau_courses.specs.declared.states.State.{State}
-use Rattle.tau_courses.specs.States.{Begins, IsState, AreStates}
-use Rattle.tau_courses.proofs.Beginnings.{cases_lt, one_leave}
-use Rattle.tau_courses.proofs.Passing.{state_same}
+use Rattle.tau_scene.specs.declared.timelines.states.State.{State}
+use Rattle.tau_scene.specs.Timelines.States.{Begins, IsState, AreStates}
+use Rattle.tau_scene.proofs.Beginnings.{cases_lt, one_leave}
+use Rattle.tau_scene.proofs.Passing.{state_same}
 use Rattle.tau_cut.specs.declared.cut.Marked.{Marked}
-use Rattle.tau_looks.specs.declared.kinds.StateLook.{StateLook}
-use Rattle.tau_looks.specs.declared.kinds.StateLook.TheVariants as states
-use Rattle.tau_looks.specs.declared.looks.Seen.{Seen}
-use Rattle.tau_seen.specs.Looks.{IsSaved, IsKept, IsStateLook, AreSeen, AreLaneSeen}
+use Rattle.tau_scene.specs.declared.looks.kinds.StateLook.{StateLook}
+use Rattle.tau_scene.specs.declared.looks.kinds.StateLook.TheVariants as states
+use Rattle.tau_scene.specs.declared.looks.looks.Seen.{Seen}
+use Rattle.tau_scene.specs.Causes.Looks.{IsSaved, IsKept, IsStateLook, AreSeen, AreLaneSeen}
 use Rattle.tau_picture.proofs.Ordered.{same_ordered}
 
 -- the states

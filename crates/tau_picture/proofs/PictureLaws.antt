@@ -3,15 +3,15 @@ use Rattle.std.proofs.Common.{◌≡◌, ◌↔◌, ℕ, ◌+◌, ◌-◌, ◌*�
 use Rattle.std.proofs.Math.Nat.{mul-add}
 use Rattle.tau_trace.specs.Run.{Run}
 use Rattle.tau_past.specs.Safety.{RolledBack}
-use Rattle.tau_shapes.specs.declared.window.Window.{Window}
-use Rattle.tau_shapes.specs.Windows.{IsDrawn, row_of}
-use Rattle.tau_shapes.specs.Grids.{rows_height}
+use Rattle.tau_svg.specs.declared.shapes.window.Window.{Window}
+use Rattle.tau_svg.specs.Shapes.Windows.{IsDrawn, row_of}
+use Rattle.tau_svg.specs.Shapes.Grids.{rows_height}
 use Rattle.tau_layout.specs.Plans.{grid}
-use Rattle.tau_courses.specs.declared.states.State.{State}
+use Rattle.tau_scene.specs.declared.timelines.states.State.{State}
 use Rattle.tau_cut.specs.declared.cut.Marked.{Marked}
-use Rattle.tau_looks.specs.declared.kinds.StateLook.{StateLook}
-use Rattle.tau_looks.specs.declared.kinds.StateLook.TheVariants as states
-use Rattle.tau_seen.specs.Looks.{IsStateLook}
+use Rattle.tau_scene.specs.declared.looks.kinds.StateLook.{StateLook}
+use Rattle.tau_scene.specs.declared.looks.kinds.StateLook.TheVariants as states
+use Rattle.tau_scene.specs.Causes.Looks.{IsStateLook}
 use Rattle.tau_picture.specs.Laws.{GreyIsRolledBack, MarksStandInRows}
 use Rattle.tau_picture.proofs.Whole.{step_there}
 use Rattle.tau_picture.proofs.OneState.{looked}

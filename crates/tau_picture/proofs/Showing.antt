@@ -2,17 +2,17 @@
 use Rattle.std.proofs.Common.{◌≡◌, ℕ, ◌<◌, ◌≤◌, List, length, get_or, Option, Some, None, ap, ◌∙◌, subst, arith}
 use Rattle.std.specs.Prelude.{Contains}
 use Rattle.tau_points.specs.declared.point.Point.{Point}
-use Rattle.tau_chains.specs.declared.chained.Chained.{Chained}
+use Rattle.tau_explain.specs.declared.chains.chained.Chained.{Chained}
 use Rattle.tau_trace.specs.Run.{Run}
 use Rattle.tau_layout.specs.Lanes.{StandsIn, IsLaneAt}
 use Rattle.tau_layout.proofs.LaneLemmas.{one_lane}
 use Rattle.tau_layout.specs.Plans.{Plan, HasRank, HasX, IsRank, IsX}
-use Rattle.tau_courses.specs.declared.states.State.{State}
-use Rattle.tau_looks.specs.declared.looks.Seen.{Seen}
-use Rattle.tau_looks.specs.declared.looks.Looks.{Looks}
-use Rattle.tau_spots.specs.Inner.Ranks.{HasOneRank}
-use Rattle.tau_spots.specs.declared.spots.Spot.{Spot}
-use Rattle.tau_bands.specs.Names.{seen_at}
+use Rattle.tau_scene.specs.declared.timelines.states.State.{State}
+use Rattle.tau_scene.specs.declared.looks.looks.Seen.{Seen}
+use Rattle.tau_scene.specs.declared.looks.looks.Looks.{Looks}
+use Rattle.tau_layout.specs.Paths.Inner.Ranks.{HasOneRank}
+use Rattle.tau_layout.specs.declared.paths.spots.Spot.{Spot}
+use Rattle.tau_drawing.specs.States.Names.{seen_at}
 use Rattle.tau_picture.specs.Chains.{ShowsState, ShowsLink}
 use Rattle.tau_picture.specs.Inner.Showing.{IsStateOf, IsPlaced, IsMakerOf}
 

@@ -1,11 +1,11 @@
 -- The whole picture, from its parts.
 use Rattle.std.proofs.Common.{◌≡◌, ⊎_elim, ℕ, ◌<◌, ◌≤◌, List, [], ◌++◌, Some, refl, sym, ap, ◌∙◌, subst, append_assoc, arith}
 use Rattle.std.proofs.lemmas.Option.{slice_get_cases}
-use Rattle.tau_markup.specs.Lines.{Line, with_lines}
-use Rattle.tau_markup.proofs.LineLemmas.{lines_appended, lines_joined}
-use Rattle.tau_shapes.specs.declared.window.Window.{Window}
-use Rattle.tau_shapes.specs.Windows.{window_of}
-use Rattle.tau_shapes.specs.Each.{Writes}
+use Rattle.tau_svg.specs.Markup.Lines.{Line, with_lines}
+use Rattle.tau_svg.proofs.LineLemmas.{lines_appended, lines_joined}
+use Rattle.tau_svg.specs.declared.shapes.window.Window.{Window}
+use Rattle.tau_svg.specs.Shapes.Windows.{window_of}
+use Rattle.tau_svg.specs.Shapes.Each.{Writes}
 use Rattle.tau_tree.specs.declared.programs.Program.{Program}
 use Rattle.tau_trace.specs.declared.step.Step.{Step}
 use Rattle.tau_trace.specs.Run.{Run, len, step_at}
@@ -13,8 +13,8 @@ use Rattle.tau_layout.specs.Lanes.{AreLanes}
 use Rattle.tau_layout.specs.Plans.{Plan, IsPlan}
 use Rattle.tau_cut.specs.declared.cut.Marked.{Marked}
 use Rattle.tau_cut.specs.Cuts.{IsCut}
-use Rattle.tau_looks.specs.declared.looks.Looks.{Looks}
-use Rattle.tau_notes.specs.Looks.{IsLooks}
+use Rattle.tau_scene.specs.declared.looks.looks.Looks.{Looks}
+use Rattle.tau_scene.specs.Notes.Looks.{IsLooks}
 use Rattle.tau_picture.specs.declared.asking.Asked.{Asked}
 use Rattle.tau_picture.specs.declared.asking.Asked.TheVariants as asked
 use Rattle.tau_picture.specs.Headings.{heading_lines}

@@ -1,13 +1,13 @@
 -- The step of which a picture is asked to tell the cause (docs/formats.md, "Pictures").
 use Rattle.std.specs.Prelude.{◌≡◌, ◌⊎◌, ℕ, List, Option, Some, None, Contains}
 use Rattle.tau_points.specs.declared.point.Point.{Point}
-use Rattle.tau_chains.specs.declared.chained.Chained.{Chained}
+use Rattle.tau_explain.specs.declared.chains.chained.Chained.{Chained}
 use Rattle.tau_trace.specs.Run.{Run}
 use Rattle.tau_past.specs.Audits.{ChecksAt}
 use Rattle.tau_explain.specs.Decisions.{IsDecision}
 use Rattle.tau_cut.specs.declared.cut.Marked.{Marked}
 use Rattle.tau_cut.specs.Consistent.{IsConsistent}
-use Rattle.tau_seen.specs.Causes.{IsCauseAt}
+use Rattle.tau_scene.specs.Causes.Causes.{IsCauseAt}
 
 -- a Checkpoint stands at place k that no consistent set holds
 pub record IsLost (T : Run) (k : ℕ) : Type 0 where

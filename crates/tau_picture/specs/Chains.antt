@@ -1,21 +1,21 @@
 -- The chain of the step that was asked for: a frame round each state, a curve for each link, and a ring (docs/formats.md, "Pictures").
 use Rattle.std.specs.Prelude.{◌≡◌, ℕ, ◌+◌, ◌-◌, ◌/◌, List, [], ◌∷◌, ◌++◌, Option, Some, None, if◌then◌else◌, nat_lt, min, Contains, codes}
-use Rattle.tau_markup.specs.Lines.{Piece, plain, Line, empty, text}
-use Rattle.tau_shapes.specs.Shapes.{line, class, is_number, is_word, rect, rounded, path, go_to}
-use Rattle.tau_shapes.specs.Windows.{IsDrawn}
-use Rattle.tau_shapes.specs.Each.{EachItem}
+use Rattle.tau_svg.specs.Markup.Lines.{Piece, plain, Line, empty, text}
+use Rattle.tau_svg.specs.Shapes.Shapes.{line, class, is_number, is_word, rect, rounded, path, go_to}
+use Rattle.tau_svg.specs.Shapes.Windows.{IsDrawn}
+use Rattle.tau_svg.specs.Shapes.Each.{EachItem}
 use Rattle.tau_points.specs.declared.point.Point.{Point}
-use Rattle.tau_chains.specs.declared.chained.Chained.{Chained}
+use Rattle.tau_explain.specs.declared.chains.chained.Chained.{Chained}
 use Rattle.tau_trace.specs.Run.{Run}
 use Rattle.tau_layout.specs.Lanes.{StandsIn}
 use Rattle.tau_layout.specs.Plans.{Plan, HasRank, lane_x, row_y}
-use Rattle.tau_courses.specs.declared.states.State.{State}
-use Rattle.tau_looks.specs.declared.looks.Seen.{Seen}
-use Rattle.tau_looks.specs.declared.looks.Looks.{Looks}
-use Rattle.tau_spots.specs.declared.spots.Spot.{Spot}
-use Rattle.tau_spots.specs.Spots.{IsSpot}
-use Rattle.tau_bands.specs.Names.{seen_at}
-use Rattle.tau_bands.specs.StateLines.{state_top, state_foot}
+use Rattle.tau_scene.specs.declared.timelines.states.State.{State}
+use Rattle.tau_scene.specs.declared.looks.looks.Seen.{Seen}
+use Rattle.tau_scene.specs.declared.looks.looks.Looks.{Looks}
+use Rattle.tau_layout.specs.declared.paths.spots.Spot.{Spot}
+use Rattle.tau_layout.specs.Paths.Spots.{IsSpot}
+use Rattle.tau_drawing.specs.States.Names.{seen_at}
+use Rattle.tau_drawing.specs.States.StateLines.{state_top, state_foot}
 
 -- the state of a point is one of those that are seen, in the lane with this middle
 pub record ShowsState (plan : Plan) (looks : Looks) (p : Point) (s : State) (x : ℕ) : Type 0 where

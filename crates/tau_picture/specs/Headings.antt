@@ -1,8 +1,8 @@
 -- The heading of a picture: the sizes of the run, what is drawn of it, and its counts (docs/formats.md, "Pictures").
 use Rattle.std.specs.Prelude.{ℕ, ◌-◌, Bool, ◌==◌, ◌&&◌, nat_lt, List, [], ◌∷◌, ◌++◌, length, if◌then◌else◌, codes}
-use Rattle.tau_markup.specs.Lines.{Piece, plain, number, Line}
-use Rattle.tau_shapes.specs.declared.window.Window.{Window}
-use Rattle.tau_shapes.specs.Shapes.{text_at}
+use Rattle.tau_svg.specs.Markup.Lines.{Piece, plain, number, Line}
+use Rattle.tau_svg.specs.declared.shapes.window.Window.{Window}
+use Rattle.tau_svg.specs.Shapes.Shapes.{text_at}
 use Rattle.tau_trace.specs.Steps.{is_checkpoint}
 use Rattle.tau_trace.specs.Run.{Run, len}
 use Rattle.tau_trace.specs.Numbering.{born}

@@ -1,11 +1,11 @@
 -- Laws of pictures, each the contract of a function of the crate.
 use Rattle.std.specs.Prelude.{◌≡◌, ◌≢◌, ◌↔◌, ℕ, ◌+◌, ◌-◌, ◌*◌, ◌/◌, ◌<◌, ◌≤◌, ◌⊎◌, List, [], ◌∷◌, ◌++◌, Option, Some, None, Contains, length, slice_get, codes}
-use Rattle.tau_markup.specs.Texts.{escaped}
-use Rattle.tau_markup.specs.Lines.{Piece, plain, Line, titled}
+use Rattle.tau_svg.specs.Markup.Texts.{escaped}
+use Rattle.tau_svg.specs.Markup.Lines.{Piece, plain, Line, titled}
 use Rattle.tau_points.specs.declared.point.Point.{Point}
-use Rattle.tau_shapes.specs.declared.window.Window.{Window}
-use Rattle.tau_shapes.specs.Windows.{IsDrawn, count}
-use Rattle.tau_shapes.specs.Shapes.{go, go_to, path}
+use Rattle.tau_svg.specs.declared.shapes.window.Window.{Window}
+use Rattle.tau_svg.specs.Shapes.Windows.{IsDrawn, count}
+use Rattle.tau_svg.specs.Shapes.Shapes.{go, go_to, path}
 use Rattle.tau_tree.specs.declared.programs.Program.{Program}
 use Rattle.tau_script.specs.Openings.{program_opening}
 use Rattle.tau_trace.specs.declared.step.Step.{Step}
@@ -21,23 +21,23 @@ use Rattle.tau_legal.specs.Traces.{Fitting}
 use Rattle.tau_layout.specs.declared.lanes.Lane.{Lane}
 use Rattle.tau_layout.specs.Lanes.{ComesBefore, StandsIn}
 use Rattle.tau_layout.specs.Plans.{Plan, IsPlan, grid, lane_x, HasX, row_y}
-use Rattle.tau_courses.specs.declared.states.State.{State}
-use Rattle.tau_courses.specs.States.{IsSeen}
+use Rattle.tau_scene.specs.declared.timelines.states.State.{State}
+use Rattle.tau_scene.specs.Timelines.States.{IsSeen}
 use Rattle.tau_cut.specs.Consistent.{IsConsistent}
-use Rattle.tau_looks.specs.declared.kinds.StateLook.TheVariants as states
-use Rattle.tau_looks.specs.declared.kinds.MarkLook.TheVariants as marks
-use Rattle.tau_looks.specs.declared.looks.Seen.{Seen}
-use Rattle.tau_looks.specs.declared.looks.StepLook.{StepLook}
-use Rattle.tau_looks.specs.declared.looks.Looks.{Looks}
-use Rattle.tau_spots.specs.declared.spots.Spot.{Spot}
-use Rattle.tau_spots.specs.Spots.{IsSpot}
-use Rattle.tau_spots.specs.Senders.{met_by}
-use Rattle.tau_spots.specs.Paths.{curve}
-use Rattle.tau_arrows.specs.Arrows.{line_kind}
-use Rattle.tau_arrows.specs.Messages.{IsMessageLine}
-use Rattle.tau_marks.specs.Marks.{HasLook, mark_line}
-use Rattle.tau_bands.specs.Names.{seen_at}
-use Rattle.tau_bands.specs.StateLines.{state_top, state_foot}
+use Rattle.tau_scene.specs.declared.looks.kinds.StateLook.TheVariants as states
+use Rattle.tau_scene.specs.declared.looks.kinds.MarkLook.TheVariants as marks
+use Rattle.tau_scene.specs.declared.looks.looks.Seen.{Seen}
+use Rattle.tau_scene.specs.declared.looks.looks.StepLook.{StepLook}
+use Rattle.tau_scene.specs.declared.looks.looks.Looks.{Looks}
+use Rattle.tau_layout.specs.declared.paths.spots.Spot.{Spot}
+use Rattle.tau_layout.specs.Paths.Spots.{IsSpot}
+use Rattle.tau_layout.specs.Paths.Senders.{met_by}
+use Rattle.tau_layout.specs.Paths.Paths.{curve}
+use Rattle.tau_drawing.specs.Messages.Arrows.{line_kind}
+use Rattle.tau_drawing.specs.Messages.Messages.{IsMessageLine}
+use Rattle.tau_drawing.specs.Marks.Marks.{HasLook, mark_line}
+use Rattle.tau_drawing.specs.States.Names.{seen_at}
+use Rattle.tau_drawing.specs.States.StateLines.{state_top, state_foot}
 use Rattle.tau_picture.specs.Pictures.{IsPicture, IsPictureText}
 use Rattle.tau_picture.specs.Markup.{IsMarkup}
 

@@ -1,9 +1,9 @@
 -- Lines that are markup, whatever the texts in them (docs/formats.md, "Pictures").
 -- 34 is the quote, 38 `&`, 60 `<`, 62 `>`.
 use Rattle.std.specs.Prelude.{◌≡◌, ℕ, Bool, true, false, not, ◌==◌, ◌&&◌, ◌||◌, List, [], ◌∷◌, ◌++◌, All}
-use Rattle.tau_markup.specs.Lines.{Piece, plain, number, said, Attribute, Content, empty, text, titled, Line, whole}
-use Rattle.tau_shapes.specs.Shapes.{begin_line, title_line, legend_line, end_lines}
-use Rattle.tau_shapes.specs.Fixed.{style_lines, symbol_lines, legend_lines}
+use Rattle.tau_svg.specs.Markup.Lines.{Piece, plain, number, said, Attribute, Content, empty, text, titled, Line, whole}
+use Rattle.tau_svg.specs.Shapes.Shapes.{begin_line, title_line, legend_line, end_lines}
+use Rattle.tau_svg.specs.Shapes.Fixed.{style_lines, symbol_lines, legend_lines}
 
 -- bytes that may stand as they are in a name, in a value and in a text
 abbrev pub is_plain : List ℕ → Bool

@@ -1,27 +1,27 @@
 -- Pictures of runs (docs/formats.md, "Pictures").
 use Rattle.std.specs.Prelude.{◌≡◌, ℕ, List, [], ◌∷◌, ◌++◌, Option, Some, None}
-use Rattle.tau_markup.specs.Lines.{Line, text_of}
-use Rattle.tau_shapes.specs.Windows.{window_of}
-use Rattle.tau_shapes.specs.Shapes.{begin_line, title_line, paper_line, legend_line, end_lines}
-use Rattle.tau_shapes.specs.Fixed.{style_lines, symbol_lines, legend_lines}
-use Rattle.tau_chains.specs.declared.chained.Chained.{Chained}
+use Rattle.tau_svg.specs.Markup.Lines.{Line, text_of}
+use Rattle.tau_svg.specs.Shapes.Windows.{window_of}
+use Rattle.tau_svg.specs.Shapes.Shapes.{begin_line, title_line, paper_line, legend_line, end_lines}
+use Rattle.tau_svg.specs.Shapes.Fixed.{style_lines, symbol_lines, legend_lines}
+use Rattle.tau_explain.specs.declared.chains.chained.Chained.{Chained}
 use Rattle.tau_tree.specs.declared.programs.Program.{Program}
 use Rattle.tau_trace.specs.Run.{Run, len}
 use Rattle.tau_layout.specs.Plans.{Plan, IsPlan, grid}
 use Rattle.tau_cut.specs.declared.cut.Marked.{Marked}
 use Rattle.tau_cut.specs.Cuts.{IsCut}
-use Rattle.tau_looks.specs.declared.looks.Looks.{Looks}
-use Rattle.tau_notes.specs.Looks.{IsLooks}
-use Rattle.tau_spots.specs.Guides.{AreGuides}
-use Rattle.tau_arrows.specs.Messages.{AreMessageLines}
-use Rattle.tau_marks.specs.Marks.{AreMarks}
-use Rattle.tau_marks.specs.Rows.{AreRows}
-use Rattle.tau_bands.specs.StripLines.{AreStripLines}
-use Rattle.tau_lanes.specs.Bands.{AreNodeBands}
-use Rattle.tau_lanes.specs.LaneLines.{AreLaneLines}
-use Rattle.tau_lanes.specs.NameLines.{AreNameLines}
-use Rattle.tau_bands.specs.StateLines.{AreStateLines}
-use Rattle.tau_bands.specs.EndLines.{AreEndLines}
+use Rattle.tau_scene.specs.declared.looks.looks.Looks.{Looks}
+use Rattle.tau_scene.specs.Notes.Looks.{IsLooks}
+use Rattle.tau_layout.specs.Paths.Guides.{AreGuides}
+use Rattle.tau_drawing.specs.Messages.Messages.{AreMessageLines}
+use Rattle.tau_drawing.specs.Marks.Marks.{AreMarks}
+use Rattle.tau_drawing.specs.Marks.Rows.{AreRows}
+use Rattle.tau_drawing.specs.States.StripLines.{AreStripLines}
+use Rattle.tau_drawing.specs.Lanes.Bands.{AreNodeBands}
+use Rattle.tau_drawing.specs.Lanes.LaneLines.{AreLaneLines}
+use Rattle.tau_drawing.specs.Lanes.NameLines.{AreNameLines}
+use Rattle.tau_drawing.specs.States.StateLines.{AreStateLines}
+use Rattle.tau_drawing.specs.States.EndLines.{AreEndLines}
 use Rattle.tau_picture.specs.declared.drawing.Drawn.{Drawn}
 use Rattle.tau_picture.specs.declared.drawing.Drawn.TheVariants as drawn
 use Rattle.tau_picture.specs.Headings.{heading_lines}

@@ -3,14 +3,14 @@ use Rattle.std.specs.Prelude.{ℕ, List, [], ◌∷◌, ◌++◌, Option, Some, 
 use Rattle.std.specs.List.{flat_map}
 use Rattle.std.specs.Option.{option_map_or}
 use Rattle.std.specs.Fmt.{decimal}
-use Rattle.tau_markup.specs.Lines.{said, Line}
-use Rattle.tau_markup.specs.Texts.{cut}
-use Rattle.tau_shapes.specs.Shapes.{text_at}
-use Rattle.tau_chains.specs.declared.chained.Chained.{Chained}
+use Rattle.tau_svg.specs.Markup.Lines.{said, Line}
+use Rattle.tau_svg.specs.Markup.Texts.{cut}
+use Rattle.tau_svg.specs.Shapes.Shapes.{text_at}
+use Rattle.tau_explain.specs.declared.chains.chained.Chained.{Chained}
 use Rattle.tau_trace.specs.declared.step.Step.{Step}
 use Rattle.tau_trace.specs.declared.step.Step.TheVariants.{Hold, Checkpoint}
 use Rattle.tau_trace.specs.Run.{Run, step_at}
-use Rattle.tau_words.specs.Texts.{point_text, step_text}
+use Rattle.tau_scene.specs.Words.Texts.{point_text, step_text}
 
 -- by which step a point of a chain is rested on; nothing for the first
 abbrev pub by_text : Option ℕ → List ℕ

@@ -5,9 +5,9 @@ ghost use Rattle.tau_cut.specs.Cuts.{IsCut};
 ghost use Rattle.tau_picture.specs.Inner.Asked.{IsAsked, IsAskedWithout};
 
 use std::alloc::{AllocError, Global};
-use tau_chains::Chain;
 use tau_cut::Cut;
-use tau_seen::cause_at;
+use tau_explain::chains::Chain;
+use tau_scene::causes::cause_at;
 use tau_trace::{Step, Trace};
 
 /// That nothing was asked for, or the step that was, with its cause, if it has one.

@@ -1,25 +1,25 @@
 //! The chain of the step that was asked for.
 ghost use Rattle.std.specs.Prelude.{◌≡◌, ◌↔◌, ◌<◌, ◌^◌, Some, IfSome, IsTrue, OnOk};
-ghost use Rattle.tau_markup.specs.Lines.{with_line, with_pieces};
-ghost use Rattle.tau_shapes.specs.Each.{EachItem, Writes};
+ghost use Rattle.tau_svg.specs.Markup.Lines.{with_line, with_pieces};
+ghost use Rattle.tau_svg.specs.Shapes.Each.{EachItem, Writes};
 ghost use Rattle.tau_layout.specs.Plans.{IsPlan};
-ghost use Rattle.tau_spots.specs.Near.{IsNear, IsNearX};
-ghost use Rattle.tau_spots.specs.Inner.Ranks.{HasOneRank};
-ghost use Rattle.tau_bands.specs.Names as names;
+ghost use Rattle.tau_layout.specs.Paths.Near.{IsNear, IsNearX};
+ghost use Rattle.tau_layout.specs.Paths.Inner.Ranks.{HasOneRank};
+ghost use Rattle.tau_drawing.specs.States.Names as names;
 ghost use Rattle.tau_picture.specs.Chains as chains;
 ghost use Rattle.tau_picture.specs.Chains.{FrameLines, LinkLines, AreLinkLines, RingLines, AreChainLines};
 ghost use Rattle.tau_picture.specs.Inner.Showing.{IsStateOf, IsPlaced, IsMakerOf};
 
 use std::alloc::AllocError;
-use tau_bands::{state_foot, state_top};
-use tau_chains::{Chain, Chained};
-use tau_courses::State;
+use tau_drawing::states::{state_foot, state_top};
+use tau_explain::chains::{Chain, Chained};
+use tau_layout::paths::{Spot, lane_middle, spot_at};
 use tau_layout::{Layout, lane_at};
-use tau_looks::{Looks, Seen};
-use tau_markup::{begin, close, end, name, plain, put_number, put_word, quote, text};
 use tau_points::Point;
-use tau_shapes::{put_pair, rect, rounded};
-use tau_spots::{Spot, lane_middle, spot_at};
+use tau_scene::looks::{Looks, Seen};
+use tau_scene::timelines::State;
+use tau_svg::markup::{begin, close, end, name, plain, put_number, put_word, quote, text};
+use tau_svg::shapes::{put_pair, rect, rounded};
 use tau_trace::Trace;
 
 /// A state that is seen, and the middle of its lane.

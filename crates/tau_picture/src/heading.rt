@@ -1,7 +1,7 @@
 //! The heading of a picture.
 ghost use Rattle.std.specs.Prelude.{◌≡◌, ◌≤◌, ◌<◌, length, OnOk};
-ghost use Rattle.tau_markup.specs.Lines.{with_pieces, with_line, with_lines};
-ghost use Rattle.tau_shapes.specs.Shapes as shapes;
+ghost use Rattle.tau_svg.specs.Markup.Lines.{with_pieces, with_line, with_lines};
+ghost use Rattle.tau_svg.specs.Shapes.Shapes as shapes;
 ghost use Rattle.tau_report.specs.Report.{counts_in};
 ghost use Rattle.tau_cut.specs.Cuts.{places_in};
 ghost use Rattle.tau_picture.specs.Headings as headings;
@@ -10,9 +10,9 @@ ghost use Rattle.tau_picture.specs.Inner.Counting.{one_in, counts_text};
 
 use std::alloc::AllocError;
 use tau_cut::{Cut, Marked};
-use tau_markup::{close, number, plain};
 use tau_report::Counts;
-use tau_shapes::{Window, text_at};
+use tau_svg::markup::{close, number, plain};
+use tau_svg::shapes::{Window, text_at};
 use tau_trace::Trace;
 
 /// Whether all places of a run with so many steps are drawn.

@@ -1,17 +1,17 @@
 //! The line that tells the cause of the step that was asked for.
 ghost use Rattle.std.specs.Prelude.{◌≡◌, ◌<◌, ◌++◌, [], OnOk};
 ghost use Rattle.std.specs.Option.{option_map_or};
-ghost use Rattle.tau_markup.specs.Lines.{with_line};
+ghost use Rattle.tau_svg.specs.Markup.Lines.{with_line};
 ghost use Rattle.tau_trace.specs.Run.{len, step_at};
 ghost use Rattle.tau_picture.specs.Said as said_specs;
 
 use std::alloc::{AllocError, Global};
-use tau_chains::{Chain, Chained};
-use tau_markup::{close, cut, said};
-use tau_shapes::text_at;
+use tau_explain::chains::{Chain, Chained};
+use tau_scene::words::{put_number, put_point, put_step};
+use tau_svg::markup::{close, cut, said};
+use tau_svg::shapes::text_at;
 use tau_trace::{Step, Trace};
 use tau_value::Names;
-use tau_words::{put_number, put_point, put_step};
 
 /// Adds by which step a point of a chain is rested on.
 fn put_by(text: &mut Vec<u8>, by: Option<u32>) -> Result<(), AllocError>

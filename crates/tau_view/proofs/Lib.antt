@@ -10,3 +10,7 @@ pub mod Operations
 pub mod Links
 pub mod Keeping
 pub mod Merges
+pub mod Firsts
+pub mod Stops
+pub mod SameKinds
+pub mod Empty

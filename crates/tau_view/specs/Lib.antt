@@ -11,3 +11,4 @@ pub mod Edges
 pub mod Dropping
 pub mod Seen
 pub mod Inner
+pub mod Fate

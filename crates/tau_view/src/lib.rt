@@ -1,9 +1,10 @@
-//! What a transactor has heard: histories, edges and roots, and the known past.
+//! What a transactor has heard, as a plain view: histories, edges and roots, the known past, and what is decided by it.
 #![tactic(auto)]
 
 mod dropping;
 mod entry;
 mod facts;
+pub mod fate;
 mod full;
 mod histories;
 pub mod laws;

@@ -4,8 +4,8 @@ use Rattle.tau_view.specs.Held.{Held, only}
 use Rattle.tau_view.specs.Rules.{merged}
 use Rattle.tau_view.specs.Past.{SomeFallen, SomeNotFirm}
 use Rattle.tau_view.specs.Trim.{EdgeTest, RootTest, trim, DropsSettledEdges, DropsClosedRoots, DropsForGood}
-use Rattle.tau_fate.specs.declared.verdict.Verdict.TheVariants.{Take, Drop, Fall}
-use Rattle.tau_fate.specs.declared.freedom.Freedom.TheVariants.{Free, Bound}
+use Rattle.tau_view.specs.declared.fate.verdict.Verdict.TheVariants.{Take, Drop, Fall}
+use Rattle.tau_view.specs.declared.fate.freedom.Freedom.TheVariants.{Free, Bound}
 use Rattle.tau_trace.specs.Run.{Run}
 use Rattle.tau_trace.specs.Numbering.{born}
 use Rattle.tau_trace.specs.Points.{point_at}

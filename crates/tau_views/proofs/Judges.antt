@@ -7,9 +7,9 @@ use Rattle.tau_view.specs.Rules.{merged}
 use Rattle.tau_view.specs.Past.{Settled}
 use Rattle.tau_view.specs.Trim.{EdgeTest, RootTest, trim, DropsSettledEdges, DropsClosedRoots, DropsForGood}
 use Rattle.tau_view.proofs.Settled.{settled_under_trim}
-use Rattle.tau_fate.specs.declared.verdict.Verdict.{Verdict}
-use Rattle.tau_fate.specs.declared.freedom.Freedom.{Freedom}
-use Rattle.tau_fate.specs.Decisions.{IsVerdict, IsFreedom}
+use Rattle.tau_view.specs.declared.fate.verdict.Verdict.{Verdict}
+use Rattle.tau_view.specs.declared.fate.freedom.Freedom.{Freedom}
+use Rattle.tau_view.specs.Fate.Decisions.{IsVerdict, IsFreedom}
 use Rattle.tau_trace.specs.Run.{Run, len}
 use Rattle.tau_trace.specs.Numbering.{born, sent}
 use Rattle.tau_trace.specs.Points.{point_at}

@@ -6,9 +6,9 @@ use Rattle.tau_view.specs.Held.{Held, Points, fate_in, only}
 use Rattle.tau_view.specs.Rules.{merged}
 use Rattle.tau_view.specs.Past.{FallenIn as FallenOn, NotFirmIn}
 use Rattle.tau_view.specs.Trim.{EdgeTest, RootTest}
-use Rattle.tau_fate.specs.declared.verdict.Verdict.TheVariants.{Take, Drop, Fall}
-use Rattle.tau_fate.specs.declared.freedom.Freedom.TheVariants.{Free, Bound}
-use Rattle.tau_fate.proofs.SameKinds.{verdict_point, freedom_point}
+use Rattle.tau_view.specs.declared.fate.verdict.Verdict.TheVariants.{Take, Drop, Fall}
+use Rattle.tau_view.specs.declared.fate.freedom.Freedom.TheVariants.{Free, Bound}
+use Rattle.tau_view.proofs.SameKinds.{verdict_point, freedom_point}
 use Rattle.tau_trace.specs.Run.{Run}
 use Rattle.tau_trace.specs.Points.{point_at}
 use Rattle.tau_trace.specs.Known.{WellFormed}

@@ -4,11 +4,11 @@ use Rattle.tau_points.specs.declared.point.Point.{Point}
 use Rattle.tau_view.specs.Held.{Held}
 use Rattle.tau_view.specs.Rules.{merged}
 use Rattle.tau_view.specs.Trim.{EdgeTest, RootTest, trim}
-use Rattle.tau_fate.specs.declared.verdict.Verdict.{Verdict}
-use Rattle.tau_fate.specs.declared.verdict.Verdict.TheVariants.{Take, Drop, Fall}
-use Rattle.tau_fate.specs.declared.freedom.Freedom.{Freedom}
-use Rattle.tau_fate.specs.declared.freedom.Freedom.TheVariants as freedoms
-use Rattle.tau_fate.specs.Decisions.{IsVerdict, IsFreedom}
+use Rattle.tau_view.specs.declared.fate.verdict.Verdict.{Verdict}
+use Rattle.tau_view.specs.declared.fate.verdict.Verdict.TheVariants.{Take, Drop, Fall}
+use Rattle.tau_view.specs.declared.fate.freedom.Freedom.{Freedom}
+use Rattle.tau_view.specs.declared.fate.freedom.Freedom.TheVariants as freedoms
+use Rattle.tau_view.specs.Fate.Decisions.{IsVerdict, IsFreedom}
 use Rattle.tau_trace.specs.Run.{Run}
 use Rattle.tau_trace.specs.Numbering.{born}
 use Rattle.tau_trace.specs.Points.{point_at}

@@ -11,9 +11,9 @@ ghost use Rattle.tau_views.specs.Kept.{AreViews, held_of, letters_of};
 use crate::after::after_merge;
 use crate::views::Views;
 use std::alloc::{AllocError, Global};
-use tau_fate::{Verdict, judge_settled};
 use tau_trace::Trace;
 use tau_view::View;
+use tau_view::fate::{Verdict, judge_settled};
 
 impl<V: View + Drop> Views<V> {
     /// The verdict on a message in flight at its receipt by `who` (docs/rules.md, "Verdict"). The point that it names is fallen by what

@@ -4,10 +4,10 @@ use crate::opening::{post_views, start_views};
 use crate::preparing::NextStep;
 use crate::views::{ViewChange, Views};
 use std::alloc::{AllocError, Global};
-use tau_fate::{Freedom, Verdict, free_settled};
 use tau_knowledge::{Knowledge, Receipt};
 use tau_trace::{Step, Trace};
 use tau_view::View;
+use tau_view::fate::{Freedom, Verdict, free_settled};
 
 impl<V: View + Drop> Knowledge for Views<V> {
     ghost use Rattle.tau_views.specs.Kept.{AreViews, held_of, letters_of};

@@ -3,9 +3,9 @@ use denote.Param.Send.{IsSend, IsSync, AllSend, sendable, struct_send, recorded_
 use denote.Struct.Declared.{fields, shape}
 use Rattle.std.proofs.Crossing.{crosses}
 use Rattle.std.specs.contracts.option.Option as option
-use Rattle.tau_clean.specs.contracts.marked.MarkedHearing as hearing
-use Rattle.tau_clean.specs.contracts.change.MarkedChange as change
-use Rattle.tau_clean.specs.contracts.knowing.MarkedHearingKnowledge.TheImpl as hearing_knowledge
+use Rattle.tau_verdicts.specs.contracts.marked.MarkedHearing as hearing
+use Rattle.tau_verdicts.specs.contracts.change.MarkedChange as change
+use Rattle.tau_verdicts.specs.contracts.knowing.MarkedHearingKnowledge.TheImpl as hearing_knowledge
 use Rattle.tau_book.specs.contracts.book.Book as book
 use Rattle.atomic_table.proofs.shared.Seat.TheSendSync as seat_crosses
 use Rattle.tau_seat.proofs.table.SeatTable.TheSendSync as table_crosses

@@ -5,8 +5,8 @@ use Rattle.tau_value.proofs.shared.Values.TheLaws.TheKnot.{both_sync-Values}
 use Rattle.tau_tree.specs.contracts.programs.Program as program
 use Rattle.tau_states.specs.contracts.states.States as states
 use Rattle.tau_rules.specs.contracts.records.Record as kept
-use Rattle.tau_clean.specs.contracts.marked.MarkedHearing as hearing
-use Rattle.tau_scripted.specs.contracts.index.Index as index
+use Rattle.tau_verdicts.specs.contracts.marked.MarkedHearing as hearing
+use Rattle.tau_queue.specs.contracts.index.Index as index
 use Rattle.tau_script.specs.contracts.cursor.Cursor as cursor
 use Rattle.tau_tree.proofs.expressions.Expr.TheLaws.TheKnot.{both_sync-Expr}
 use Rattle.tau_history.proofs.chunk.Chunk.TheLaws.TheKnot.{both_send-Chunk, both_sync-Chunk}

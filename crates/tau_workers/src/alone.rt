@@ -7,8 +7,8 @@ ghost use Rattle.tau_book.specs.Onward.{BeginsWith, GoesOnFrom};
 
 use std::alloc::{AllocError, Global};
 use tau_book::{Book, Hand, Next, Ran, Told};
-use tau_clean::MarkedHearing;
 use tau_eval::{Job, Pending};
+use tau_verdicts::MarkedHearing;
 
 /// In so many rounds one hand appends no step at most: in one for each transactor whose returned job wasn't the record's, and in the last
 /// one, which is told the end.

@@ -11,9 +11,9 @@ use std::alloc::{AllocError, Global};
 use std::sync::Wait;
 use std::thread::Threads;
 use tau_book::{Book, Gate, Ran};
-use tau_clean::MarkedHearing;
 use tau_seat::SeatBook;
 use tau_tree::Program;
+use tau_verdicts::MarkedHearing;
 
 /// By how many workers a program is run, each with room for how many jobs, from which seed, and up to how many steps.
 #[derive(Clone, Copy)]

@@ -10,8 +10,8 @@ use std::alloc::{AllocError, Global};
 use std::sync::Wait;
 use std::thread::Threads;
 use tau_book::{Gate, Hand};
-use tau_clean::MarkedHearing;
 use tau_seat::{BookSeat, SeatBook, SeatPlace};
+use tau_verdicts::MarkedHearing;
 
 /// Lets workers work on a book, each with one number of the seat, and joins their seats.
 pub fn work<'b, 'p, R: Threads + Wait + Sync, G: Gate + Sync>(

@@ -4,9 +4,9 @@ use Rattle.tau_value.specs.declared.limits.TheConstants.{STEP_LIMIT}
 use Rattle.tau_trace.specs.Run.{len}
 use Rattle.tau_script.specs.Scripts.{NoneDue}
 use Rattle.tau_eval.specs.Turn.{TurnSoFar}
-use Rattle.tau_scripted.specs.OpenTurns.{AreOpenTurns}
-use Rattle.tau_scripted.specs.Flight.{AreDeliverable}
-use Rattle.tau_scripted.specs.ScriptedRun.{ScriptedRun}
+use Rattle.tau_queue.specs.OpenTurns.{AreOpenTurns}
+use Rattle.tau_queue.specs.Flight.{AreDeliverable}
+use Rattle.tau_queue.specs.ScriptedRun.{ScriptedRun}
 use Rattle.tau_book.specs.Hands.{Held}
 use Rattle.tau_book.specs.Books.{AreOfDifferentTurns}
 

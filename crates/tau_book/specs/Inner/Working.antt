@@ -7,7 +7,7 @@ use Rattle.tau_tree.specs.declared.programs.Program.{Program}
 use Rattle.tau_trace.specs.Run.{Run}
 use Rattle.tau_eval.specs.Turn as jobs
 use Rattle.tau_rules.specs.Answers.{IsOpenJob}
-use Rattle.tau_scripted.specs.OpenTurns.{IsOpenFrom}
+use Rattle.tau_queue.specs.OpenTurns.{IsOpenFrom}
 use Rattle.tau_book.specs.Hands.{Held}
 use Rattle.tau_book.specs.Books.{Booked, GoesOn}
 use Rattle.tau_book.specs.Adopted.{HasJobFrom}

@@ -4,7 +4,7 @@ use Rattle.std.specs.List.{AllPairs}
 use Rattle.tau_points.specs.declared.point.Point.{Point}
 use Rattle.tau_trace.specs.Run.{Run}
 use Rattle.tau_past.specs.Audits.{ChecksAt}
-use Rattle.tau_links.specs.Links.{IsMade}
+use Rattle.tau_explain.specs.Links.Links.{IsMade}
 use Rattle.tau_explain.specs.Inner.Causes.{IsMadePoint}
 
 -- the Checkpoint at place k, if one stands there, is added

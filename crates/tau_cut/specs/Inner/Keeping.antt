@@ -13,9 +13,9 @@ use Rattle.tau_trace.specs.Points.{point_at}
 use Rattle.tau_steps.specs.StepForms.{who_form, value_form}
 use Rattle.tau_past.specs.States.{SavedWith}
 use Rattle.tau_states.specs.declared.state_record.StateRecord.{StateRecord}
-use Rattle.tau_chains.specs.declared.chained.Chained.{Chained}
+use Rattle.tau_explain.specs.declared.chains.chained.Chained.{Chained}
 use Rattle.tau_explain.specs.Texts.{chain_forms}
-use Rattle.tau_links.specs.Marks.{IsMarked}
+use Rattle.tau_explain.specs.Links.Marks.{IsMarked}
 use Rattle.tau_cut.specs.declared.states.Kept.{Kept}
 
 -- what a record tells of the interval before its own

@@ -1,6 +1,6 @@
 -- The answer by a chain, if there is one.
 use Rattle.std.specs.Prelude.{List, Option, Some, None}
-use Rattle.tau_chains.specs.declared.chained.Chained.{Chained}
+use Rattle.tau_explain.specs.declared.chains.chained.Chained.{Chained}
 use Rattle.tau_explain.specs.declared.answers.Why.{Why}
 use Rattle.tau_explain.specs.declared.answers.Why.TheVariants as answers
 

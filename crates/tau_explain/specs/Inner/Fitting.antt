@@ -1,6 +1,6 @@
 -- The numbers of a point of a chain fit their types.
 use Rattle.std.specs.Prelude.{ℕ, ◌<◌, ◌^◌, Option, Some, None}
-use Rattle.tau_chains.specs.declared.chained.Chained.{Chained}
+use Rattle.tau_explain.specs.declared.chains.chained.Chained.{Chained}
 
 -- the place, if there is one, fits u32
 abbrev pub PlaceFits : Option ℕ → Type 0

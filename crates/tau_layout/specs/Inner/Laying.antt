@@ -1,11 +1,11 @@
 -- What a layout keeps beside its plan.
 use Rattle.std.specs.Prelude.{◌≡◌, ℕ, ◌^◌, ◌<◌, ◌≤◌, List, Option, Some, map, slice_get, set, length}
 use Rattle.tau_layout.specs.declared.columns.Column.{Column}
-use Rattle.tau_shapes.specs.declared.grid.Grid.{Grid}
+use Rattle.tau_svg.specs.declared.shapes.grid.Grid.{Grid}
 use Rattle.tau_layout.specs.declared.lanes.Lane.{Lane}
-use Rattle.tau_shapes.specs.declared.window.Window.{Window}
-use Rattle.tau_shapes.specs.Windows.{count}
-use Rattle.tau_shapes.specs.Grids.{grid_of, x_of}
+use Rattle.tau_svg.specs.declared.shapes.window.Window.{Window}
+use Rattle.tau_svg.specs.Shapes.Windows.{count}
+use Rattle.tau_svg.specs.Shapes.Grids.{grid_of, x_of}
 use Rattle.tau_layout.specs.Lanes.{nodes_below}
 use Rattle.tau_layout.specs.Plans.{Plan, lane_x}
 

@@ -6,7 +6,7 @@ use Rattle.tau_trace.specs.Places.{count_below}
 use Rattle.tau_trace.specs.Run.{Run}
 use Rattle.tau_trace.specs.Numbering.{IsHome}
 use Rattle.tau_layout.specs.declared.lanes.Lane.{Lane}
-use Rattle.tau_shapes.specs.declared.window.Window.{Window}
+use Rattle.tau_svg.specs.declared.shapes.window.Window.{Window}
 use Rattle.tau_layout.specs.Lanes.{HasLane, stands_at}
 
 -- a number is marked

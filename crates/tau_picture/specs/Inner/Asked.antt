@@ -1,10 +1,10 @@
 -- What was asked for.
 use Rattle.std.specs.Prelude.{◌≡◌, ℕ, ◌<◌, List, Option, Some, None}
-use Rattle.tau_chains.specs.declared.chained.Chained.{Chained}
+use Rattle.tau_explain.specs.declared.chains.chained.Chained.{Chained}
 use Rattle.tau_trace.specs.Run.{Run, len}
 use Rattle.tau_explain.specs.Decisions.{IsDecision}
 use Rattle.tau_cut.specs.declared.cut.Marked.{Marked}
-use Rattle.tau_seen.specs.Causes.{IsCauseAt}
+use Rattle.tau_scene.specs.Causes.Causes.{IsCauseAt}
 use Rattle.tau_picture.specs.declared.asking.Asked.{Asked}
 use Rattle.tau_picture.specs.declared.asking.Asked.TheVariants as asked
 use Rattle.tau_picture.specs.Asking.{Allows}

@@ -1,8 +1,8 @@
 -- The marks that are In, and the line of the counts.
 use Rattle.std.specs.Prelude.{ℕ, ◌++◌, codes}
 use Rattle.tau_report.specs.declared.counts.Counts.{Counts}
-use Rattle.tau_markup.specs.Lines.{Line}
-use Rattle.tau_shapes.specs.Shapes.{text_at}
+use Rattle.tau_svg.specs.Markup.Lines.{Line}
+use Rattle.tau_svg.specs.Shapes.Shapes.{text_at}
 use Rattle.tau_cut.specs.declared.cut.Marked.{Marked}
 use Rattle.tau_cut.specs.declared.cut.Marked.TheVariants.{In, Out}
 use Rattle.tau_picture.specs.Headings.{counts_pieces, left_out_pieces}

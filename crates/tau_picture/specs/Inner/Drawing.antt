@@ -1,21 +1,21 @@
 -- The groups of parts of a picture.
 use Rattle.std.specs.Prelude.{◌≡◌, List, ◌++◌}
-use Rattle.tau_markup.specs.Lines.{Line}
+use Rattle.tau_svg.specs.Markup.Lines.{Line}
 use Rattle.tau_tree.specs.declared.programs.Program.{Program}
 use Rattle.tau_trace.specs.Run.{Run}
 use Rattle.tau_layout.specs.Plans.{Plan}
 use Rattle.tau_cut.specs.declared.cut.Marked.{Marked}
-use Rattle.tau_looks.specs.declared.looks.Looks.{Looks}
-use Rattle.tau_spots.specs.Guides.{AreGuides}
-use Rattle.tau_arrows.specs.Messages.{AreMessageLines}
-use Rattle.tau_marks.specs.Marks.{AreMarks}
-use Rattle.tau_marks.specs.Rows.{AreRows}
-use Rattle.tau_bands.specs.StripLines.{AreStripLines}
-use Rattle.tau_lanes.specs.Bands.{AreNodeBands}
-use Rattle.tau_lanes.specs.LaneLines.{AreLaneLines}
-use Rattle.tau_lanes.specs.NameLines.{AreNameLines}
-use Rattle.tau_bands.specs.StateLines.{AreStateLines}
-use Rattle.tau_bands.specs.EndLines.{AreEndLines}
+use Rattle.tau_scene.specs.declared.looks.looks.Looks.{Looks}
+use Rattle.tau_layout.specs.Paths.Guides.{AreGuides}
+use Rattle.tau_drawing.specs.Messages.Messages.{AreMessageLines}
+use Rattle.tau_drawing.specs.Marks.Marks.{AreMarks}
+use Rattle.tau_drawing.specs.Marks.Rows.{AreRows}
+use Rattle.tau_drawing.specs.States.StripLines.{AreStripLines}
+use Rattle.tau_drawing.specs.Lanes.Bands.{AreNodeBands}
+use Rattle.tau_drawing.specs.Lanes.LaneLines.{AreLaneLines}
+use Rattle.tau_drawing.specs.Lanes.NameLines.{AreNameLines}
+use Rattle.tau_drawing.specs.States.StateLines.{AreStateLines}
+use Rattle.tau_drawing.specs.States.EndLines.{AreEndLines}
 use Rattle.tau_picture.specs.declared.asking.Asked.{Asked}
 use Rattle.tau_picture.specs.Inner.Asked.{place_asked, cause_asked}
 use Rattle.tau_picture.specs.Headings.{heading_lines}

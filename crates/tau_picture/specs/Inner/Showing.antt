@@ -2,13 +2,13 @@
 use Rattle.std.specs.Prelude.{◌≡◌, ℕ, List, Option, Some, None, Contains}
 use Rattle.tau_points.specs.declared.point.Point.{Point}
 use Rattle.tau_trace.specs.Run.{Run}
-use Rattle.tau_chains.specs.declared.chained.Chained.{Chained}
-use Rattle.tau_shapes.specs.Windows.{IsDrawn}
+use Rattle.tau_explain.specs.declared.chains.chained.Chained.{Chained}
+use Rattle.tau_svg.specs.Shapes.Windows.{IsDrawn}
 use Rattle.tau_layout.specs.Lanes.{StandsIn}
 use Rattle.tau_layout.specs.Plans.{Plan}
-use Rattle.tau_courses.specs.declared.states.State.{State}
-use Rattle.tau_looks.specs.declared.looks.Seen.{Seen}
-use Rattle.tau_looks.specs.declared.looks.Looks.{Looks}
+use Rattle.tau_scene.specs.declared.timelines.states.State.{State}
+use Rattle.tau_scene.specs.declared.looks.looks.Seen.{Seen}
+use Rattle.tau_scene.specs.declared.looks.looks.Looks.{Looks}
 use Rattle.tau_picture.specs.declared.chain.Placed.{Placed}
 use Rattle.tau_picture.specs.Chains.{ShowsState}
 

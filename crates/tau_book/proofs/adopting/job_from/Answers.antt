@@ -4,7 +4,7 @@ use Rattle.tau_trace.specs.Turns.{IsOpenTurn}
 use Rattle.tau_eval.specs.Turn.{TurnSoFar}
 use Rattle.tau_rules.specs.System.{Core}
 use Rattle.tau_rules.specs.Answers.{IsOpenJob, IsJobOf}
-use Rattle.tau_scripted.specs.OpenTurns.{IsOpenFrom}
+use Rattle.tau_queue.specs.OpenTurns.{IsOpenFrom}
 use Rattle.tau_book.proofs.AdoptLemmas.{job_there, job_place}
 use Rattle.tau_book.proofs.adopting.job_from.Goals as goal
 

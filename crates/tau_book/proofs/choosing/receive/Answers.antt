@@ -1,7 +1,7 @@
 use Rattle.std.proofs.Common.{◌≡◌, ◌∙◌, List, ℕ, suc, take, arith}
 use Rattle.tau_trace.specs.Run.{len}
-use Rattle.tau_scripted.specs.ScriptedRun.{ScriptedRun}
-use Rattle.tau_scripted.proofs.Homes.{at_place}
+use Rattle.tau_queue.specs.ScriptedRun.{ScriptedRun}
+use Rattle.tau_queue.proofs.Homes.{at_place}
 use Rattle.tau_book.specs.Hands.{Held}
 use Rattle.tau_book.proofs.Choices.{is_received, delivered_one}
 use Rattle.tau_book.proofs.choosing.receive.Goals as goal

@@ -2,7 +2,7 @@ use Rattle.std.proofs.Common.{◌∙◌, ℕ, Option, refl, ap, subst}
 use Rattle.tau_tree.specs.declared.programs.Program.{Program}
 use Rattle.tau_trace.specs.Run.{Run, len}
 use Rattle.tau_script.specs.Cursors.{CursorAt}
-use Rattle.tau_due.specs.LegalRun.{LegalRun}
+use Rattle.tau_failures.specs.LegalRun.{LegalRun}
 use Rattle.tau_check.specs.Inner.Checkers.{HasSteppedTo}
 use Rattle.tau_check.proofs.Coming.{whole}
 use Rattle.tau_check.proofs.following.follow.Goals as goal

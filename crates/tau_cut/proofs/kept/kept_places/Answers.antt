@@ -1,7 +1,7 @@
 use Rattle.std.proofs.Common.{◌∙◌, ◌↔◌, ◌<◌, ℕ, List, All, get_or, length, sym, subst, arith, rules}
 use Rattle.std.specs.Prelude.{Contains}
 use Rattle.tau_trace.specs.Run.{len}
-use Rattle.tau_links.specs.Marks.{IsMarked}
+use Rattle.tau_explain.specs.Links.Marks.{IsMarked}
 use Rattle.tau_cut.specs.declared.cut.Marked.{Marked}
 use Rattle.tau_cut.specs.Cuts.{places_in}
 use Rattle.tau_cut.specs.Inner.Marking.{MarksIn}

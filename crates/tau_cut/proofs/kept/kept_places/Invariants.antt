@@ -1,7 +1,7 @@
 use Rattle.std.proofs.Common.{◌≡◌, ◌↔◌, ℕ, length, take}
 use Rattle.std.specs.Prelude.{Contains}
 use Rattle.tau_trace.specs.Run.{len}
-use Rattle.tau_links.specs.Marks.{IsMarked}
+use Rattle.tau_explain.specs.Links.Marks.{IsMarked}
 use Rattle.tau_cut.specs.declared.cut.Marked.TheVariants.{In}
 use Rattle.tau_cut.proofs.kept.kept_places.Given as goal
 

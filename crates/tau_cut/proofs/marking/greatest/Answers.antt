@@ -5,7 +5,7 @@ use Rattle.tau_points.specs.Members.{SameMembers}
 use Rattle.tau_trace.specs.Run.{Run, len}
 use Rattle.tau_trace.specs.Points.{IsOpeningPoint}
 use Rattle.tau_trace.specs.Known.{WellFormed}
-use Rattle.tau_links.specs.Links.{IsMade, AreChainsFrom}
+use Rattle.tau_explain.specs.Links.Links.{IsMade, AreChainsFrom}
 use Rattle.tau_cut.specs.Cuts.{IsCut}
 use Rattle.tau_cut.specs.Inner.Checkpoints.{AreUnkept}
 use Rattle.tau_cut.specs.Inner.Marking.{AreMarks}

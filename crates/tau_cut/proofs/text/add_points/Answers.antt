@@ -1,7 +1,7 @@
 use Rattle.std.proofs.Common.{◌∙◌, ◌++◌, List, None, ap, arith}
 use Rattle.std.proofs.lemmas.List.{take_all}
 use Rattle.tau_sexpr.specs.Form.{tree_of}
-use Rattle.tau_chains.specs.declared.chained.Chained.{Chained}
+use Rattle.tau_explain.specs.declared.chains.chained.Chained.{Chained}
 use Rattle.tau_explain.specs.Texts.{chain_forms}
 use Rattle.tau_cut.proofs.LineLemmas.{chain_start, chain_more}
 use Rattle.tau_cut.proofs.text.add_points.Goals as goal

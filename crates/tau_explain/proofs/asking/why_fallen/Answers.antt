@@ -2,7 +2,7 @@ use Rattle.std.proofs.Common.{subst, sym, ◌↔◌, List, Bool}
 use Rattle.std.specs.Prelude.{Contains}
 use Rattle.tau_points.specs.declared.point.Point.{Point}
 use Rattle.tau_past.specs.Pasts.{FellIn}
-use Rattle.tau_links.specs.Inner.Linking.{IsFirstChain}
+use Rattle.tau_explain.specs.Links.Inner.Linking.{IsFirstChain}
 use Rattle.tau_explain.specs.Decisions.{IsWhy}
 use Rattle.tau_explain.specs.Inner.Hearing.{IsMarked}
 use Rattle.tau_explain.proofs.WhyLemmas.{fall_found}

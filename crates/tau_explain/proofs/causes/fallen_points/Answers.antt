@@ -4,7 +4,7 @@ use Rattle.std.proofs.lemmas.Result.{IfOk-weaker}
 use Rattle.tau_points.specs.declared.point.Point.{Point}
 use Rattle.tau_past.specs.Pasts.{FellIn}
 use Rattle.tau_past.proofs.Endings.{falls_within}
-use Rattle.tau_links.proofs.PushLemmas.{acts_within}
+use Rattle.tau_explain.proofs.PushLemmas.{acts_within}
 use Rattle.tau_explain.specs.Inner.Hearing.{IsMarked}
 use Rattle.tau_explain.specs.Inner.Causes.{FellAt}
 use Rattle.tau_explain.proofs.CauseLemmas.{collects_more, fell_all, members_of}

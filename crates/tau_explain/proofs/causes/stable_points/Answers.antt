@@ -5,7 +5,7 @@ use Rattle.tau_points.specs.declared.point.Point.{Point}
 use Rattle.tau_trace.specs.declared.step.Step.TheVariants.{Stabilize}
 use Rattle.tau_trace.proofs.Quiet.{acts}
 use Rattle.tau_past.specs.Pasts.{StabilizedIn}
-use Rattle.tau_links.proofs.PushLemmas.{acts_within}
+use Rattle.tau_explain.proofs.PushLemmas.{acts_within}
 use Rattle.tau_explain.specs.Inner.Hearing.{IsMarked}
 use Rattle.tau_explain.specs.Inner.Causes.{StabilizedAt}
 use Rattle.tau_explain.proofs.CauseLemmas.{collects_more, stable_all, members_of}

@@ -1,6 +1,6 @@
 use Rattle.std.proofs.Common.{None, arith}
 use Rattle.tau_sexpr.specs.Form.{tree_of}
-use Rattle.tau_chains.specs.declared.chained.Chained.{Chained}
+use Rattle.tau_explain.specs.declared.chains.chained.Chained.{Chained}
 use Rattle.tau_explain.proofs.TextLemmas.{chain_more}
 use Rattle.tau_explain.proofs.texts.chain_forms.Goals as goal
 

@@ -1,6 +1,6 @@
 use Rattle.std.proofs.Common.{◌<◌, ◌∙◌, length, ap, arith, get_or}
 use Rattle.std.proofs.lemmas.Option.{slice_get-get_or}
-use Rattle.tau_shapes.specs.Grids.{x_of}
+use Rattle.tau_svg.specs.Shapes.Grids.{x_of}
 use Rattle.tau_layout.specs.declared.lanes.Lane.{Lane}
 use Rattle.tau_layout.proofs.ColumnLemmas.{marked_are, columns_next}
 use Rattle.tau_layout.proofs.columns.columns_of.Goals as goal

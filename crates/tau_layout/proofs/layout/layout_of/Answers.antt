@@ -2,9 +2,9 @@ use Rattle.std.proofs.Common.{◌≡◌, ◌<◌, ◌∙◌, ℕ, List, Some, Al
 use Rattle.std.specs.Prelude.{slice_get}
 use Rattle.tau_trace.specs.declared.opening.Opening.{Opening}
 use Rattle.tau_trace.specs.Run.{len}
-use Rattle.tau_shapes.specs.declared.window.Window.{Window}
-use Rattle.tau_shapes.specs.Windows.{count, window_of}
-use Rattle.tau_shapes.specs.Grids.{grid_of}
+use Rattle.tau_svg.specs.declared.shapes.window.Window.{Window}
+use Rattle.tau_svg.specs.Shapes.Windows.{count, window_of}
+use Rattle.tau_svg.specs.Shapes.Grids.{grid_of}
 use Rattle.tau_layout.specs.declared.lanes.Lane.{Lane}
 use Rattle.tau_layout.specs.Lanes.{AreLanes, nodes_below, longest_name}
 use Rattle.tau_layout.specs.Inner.Marking.{IsNodesMarked, marked_below}

@@ -1,7 +1,7 @@
 use Rattle.std.proofs.Common.{◌<◌, List, Option, refl, subst, arith}
-use Rattle.tau_chains.specs.declared.chained.Chained.{Chained}
+use Rattle.tau_explain.specs.declared.chains.chained.Chained.{Chained}
 use Rattle.tau_trace.specs.Run.{len}
-use Rattle.tau_seen.specs.Causes.{IsCauseAt}
+use Rattle.tau_scene.specs.Causes.Causes.{IsCauseAt}
 use Rattle.tau_picture.proofs.Asks.{cause_asked_for, asked_without}
 use Rattle.tau_picture.proofs.asking.asked_at.Goals as goal
 

@@ -1,7 +1,7 @@
 use Rattle.std.proofs.Common.{refl, subst}
-use Rattle.tau_shapes.specs.declared.window.Window.{Window}
-use Rattle.tau_shapes.specs.Windows.{IsDrawn}
-use Rattle.tau_bands.proofs.Crowds.{lane_told}
+use Rattle.tau_svg.specs.declared.shapes.window.Window.{Window}
+use Rattle.tau_svg.specs.Shapes.Windows.{IsDrawn}
+use Rattle.tau_drawing.proofs.Crowds.{lane_told}
 use Rattle.tau_picture.proofs.chain.drawn_maker.Goals as goal
 
 pub returns : goal.returns

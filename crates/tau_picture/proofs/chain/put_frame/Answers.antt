@@ -1,5 +1,5 @@
 use Rattle.std.proofs.Common.{◌∷◌, []}
-use Rattle.tau_shapes.proofs.Writing.{nothing, these}
+use Rattle.tau_svg.proofs.Writing.{nothing, these}
 use Rattle.tau_picture.specs.Chains.{FrameLines, frame_line, framed, unframed}
 use Rattle.tau_picture.proofs.chain.put_frame.Goals as goal
 

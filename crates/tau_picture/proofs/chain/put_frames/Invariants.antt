@@ -1,5 +1,5 @@
 use Rattle.std.proofs.Common.{take}
-use Rattle.tau_shapes.specs.Each.{EachItem, Writes}
+use Rattle.tau_svg.specs.Shapes.Each.{EachItem, Writes}
 use Rattle.tau_picture.specs.Chains.{FrameLines}
 use Rattle.tau_picture.proofs.chain.put_frames.Given as goal
 

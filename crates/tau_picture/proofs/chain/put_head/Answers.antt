@@ -1,8 +1,8 @@
 use Rattle.std.proofs.Common.{◌∙◌, ap}
 use Rattle.std.specs.Prelude.{codes}
 use Rattle.std.proofs.lemmas.Result.{on_ok_weaker}
-use Rattle.tau_markup.specs.Lines.{plain, with_open, with_piece, with_close, with_attribute}
-use Rattle.tau_shapes.specs.Shapes.{is_word}
+use Rattle.tau_svg.specs.Markup.Lines.{plain, with_open, with_piece, with_close, with_attribute}
+use Rattle.tau_svg.specs.Shapes.Shapes.{is_word}
 use Rattle.tau_picture.proofs.chain.put_head.Goals as goal
 
 pub returns : goal.returns

@@ -1,6 +1,6 @@
 use Rattle.std.proofs.Common.{◌∙◌, ◌∷◌, [], ap}
-use Rattle.tau_markup.specs.Lines.{with_line}
-use Rattle.tau_shapes.proofs.Writing.{nothing, these}
+use Rattle.tau_svg.specs.Markup.Lines.{with_line}
+use Rattle.tau_svg.proofs.Writing.{nothing, these}
 use Rattle.tau_layout.specs.Plans.{row_y}
 use Rattle.tau_picture.specs.Chains.{LinkLines, link_line, no_later, link_drawn, link_undrawn}
 use Rattle.tau_picture.proofs.Showing.{no_maker, no_target}

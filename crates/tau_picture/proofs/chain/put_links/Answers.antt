@@ -1,8 +1,8 @@
 use Rattle.std.proofs.Common.{None, arith}
-use Rattle.tau_shapes.proofs.Writing.{items_first}
-use Rattle.tau_chains.specs.declared.chained.Chained.{Chained}
+use Rattle.tau_svg.proofs.Writing.{items_first}
+use Rattle.tau_explain.specs.declared.chains.chained.Chained.{Chained}
 use Rattle.tau_picture.specs.Chains.{LinkLines}
-use Rattle.tau_bands.proofs.Lists.{item_next}
+use Rattle.tau_drawing.proofs.Lists.{item_next}
 use Rattle.tau_picture.proofs.chain.put_links.Goals as goal
 
 pub loop-chained-init : goal.loop-chained-init

@@ -1,7 +1,7 @@
 use Rattle.std.proofs.Common.{◌∷◌, [], refl, sym, subst}
-use Rattle.tau_shapes.specs.declared.window.Window.{Window}
-use Rattle.tau_shapes.specs.Windows.{IsDrawn}
-use Rattle.tau_shapes.proofs.Writing.{nothing, these}
+use Rattle.tau_svg.specs.declared.shapes.window.Window.{Window}
+use Rattle.tau_svg.specs.Shapes.Windows.{IsDrawn}
+use Rattle.tau_svg.proofs.Writing.{nothing, these}
 use Rattle.tau_picture.specs.Chains.{RingLines, ring_line, ring_drawn, ring_undrawn}
 use Rattle.tau_picture.proofs.chain.put_ring.Goals as goal
 

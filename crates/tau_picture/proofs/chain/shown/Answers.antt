@@ -1,5 +1,5 @@
 use Rattle.std.proofs.Common.{List, Some, None, subst}
-use Rattle.tau_looks.specs.declared.looks.Seen.{Seen}
+use Rattle.tau_scene.specs.declared.looks.looks.Seen.{Seen}
 use Rattle.tau_picture.specs.Inner.Showing.{IsStateOf}
 use Rattle.tau_picture.proofs.Showing.{no_lane, no_middle, no_state, one_state}
 use Rattle.tau_picture.proofs.chain.shown.Goals as goal

@@ -1,5 +1,5 @@
 use Rattle.std.proofs.Common.{◌≡◌, ℕ, ◌<◌, get_or}
-use Rattle.tau_looks.specs.declared.looks.Seen.{Seen}
+use Rattle.tau_scene.specs.declared.looks.looks.Seen.{Seen}
 use Rattle.tau_picture.proofs.chain.state_in.Given as goal
 
 abbrev pub invariant-loop-seen : goal.invariant-loop-seen

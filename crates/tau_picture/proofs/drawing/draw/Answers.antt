@@ -1,5 +1,5 @@
 use Rattle.std.proofs.Common.{◌∙◌, ap, subst, Option, ℕ}
-use Rattle.tau_markup.specs.Lines.{with_lines}
+use Rattle.tau_svg.specs.Markup.Lines.{with_lines}
 use Rattle.tau_picture.specs.Pictures.{IsPictureText}
 use Rattle.tau_picture.specs.declared.asking.Asked.{Asked}
 use Rattle.tau_picture.specs.Inner.Asked.{IsAsked}

@@ -1,4 +1,4 @@
-use Rattle.tau_spots.proofs.Ranks.{has_one_rank}
+use Rattle.tau_layout.proofs.Ranks.{has_one_rank}
 use Rattle.tau_picture.proofs.drawing.put_cause.Goals as goal
 
 pub put_chain-requires-clause-ranks : goal.put_chain-requires-clause-ranks

@@ -1,9 +1,9 @@
 use Rattle.std.proofs.Common.{◌≡◌, ◌∙◌, ◌∷◌, ◌++◌, refl, ap}
-use Rattle.tau_markup.specs.Lines.{with_lines}
-use Rattle.tau_shapes.specs.declared.grid.Grid.{Grid}
-use Rattle.tau_shapes.specs.Shapes.{legend_line, end_lines}
-use Rattle.tau_shapes.specs.Fixed.{legend_lines}
-use Rattle.tau_shapes.proofs.Writing.{these}
+use Rattle.tau_svg.specs.Markup.Lines.{with_lines}
+use Rattle.tau_svg.specs.declared.shapes.grid.Grid.{Grid}
+use Rattle.tau_svg.specs.Shapes.Shapes.{legend_line, end_lines}
+use Rattle.tau_svg.specs.Shapes.Fixed.{legend_lines}
+use Rattle.tau_svg.proofs.Writing.{these}
 use Rattle.tau_picture.specs.Pictures.{key_lines}
 use Rattle.tau_picture.proofs.Joins.{rest_parts}
 use Rattle.tau_picture.proofs.drawing.put_rest.Goals as goal

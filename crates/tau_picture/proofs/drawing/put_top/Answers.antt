@@ -1,6 +1,6 @@
 use Rattle.std.proofs.Common.{◌∙◌, ap}
-use Rattle.tau_markup.specs.Lines.{with_lines}
-use Rattle.tau_shapes.specs.declared.window.Window.{Window}
+use Rattle.tau_svg.specs.Markup.Lines.{with_lines}
+use Rattle.tau_svg.specs.declared.shapes.window.Window.{Window}
 use Rattle.tau_picture.specs.Headings.{heading_lines}
 use Rattle.tau_picture.specs.Pictures.{begin_lines, said_lines}
 use Rattle.tau_picture.specs.Inner.Asked.{place_asked, cause_asked}

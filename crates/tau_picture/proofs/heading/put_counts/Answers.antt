@@ -1,7 +1,7 @@
 use Rattle.std.proofs.Common.{◌∙◌, ap}
 use Rattle.std.specs.Prelude.{codes}
 use Rattle.std.proofs.lemmas.Result.{on_ok_weaker}
-use Rattle.tau_markup.specs.Lines.{with_pieces, with_close}
+use Rattle.tau_svg.specs.Markup.Lines.{with_pieces, with_close}
 use Rattle.tau_picture.specs.Headings.{counts_pieces, left_out_pieces}
 use Rattle.tau_picture.proofs.heading.put_counts.Goals as goal
 

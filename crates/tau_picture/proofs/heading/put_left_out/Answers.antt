@@ -1,7 +1,7 @@
 use Rattle.std.proofs.Common.{◌≡◌, [], ◌∷◌, OnOk, cond, sym, subst, arith}
 use Rattle.std.specs.Prelude.{codes}
 use Rattle.std.proofs.lemmas.Bool.{lt-ltb}
-use Rattle.tau_markup.specs.Lines.{plain, with_pieces}
+use Rattle.tau_svg.specs.Markup.Lines.{plain, with_pieces}
 use Rattle.tau_picture.proofs.heading.put_left_out.Goals as goal
 
 pub returns-then-steps-gt4000 : goal.returns-then-steps-gt4000

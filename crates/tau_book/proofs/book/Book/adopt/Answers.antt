@@ -1,9 +1,9 @@
 use Rattle.std.proofs.Common.{◌≡◌, ◌≤◌, ◌∙◌, ℕ, List, fold, length, ap, sym, subst, arith}
 use Rattle.tau_trace.specs.Run.{len}
 use Rattle.tau_eval.specs.Turn.{TurnSoFar}
-use Rattle.tau_scripted.specs.OpenTurns.{AreOpenTurns}
-use Rattle.tau_scripted.specs.ScriptedRun.{ScriptedRun}
-use Rattle.tau_scripted.proofs.OpenLemmas.{few_turns}
+use Rattle.tau_queue.specs.OpenTurns.{AreOpenTurns}
+use Rattle.tau_queue.specs.ScriptedRun.{ScriptedRun}
+use Rattle.tau_queue.proofs.OpenLemmas.{few_turns}
 use Rattle.tau_book.specs.Books.{Booked, booked, AreOfDifferentTurns}
 use Rattle.tau_book.specs.Offers.{open_jobs, stored}
 use Rattle.tau_book.specs.Adopted.{AreMissing, IsAdopted}

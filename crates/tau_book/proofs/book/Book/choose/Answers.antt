@@ -3,7 +3,7 @@ use Rattle.std.specs.Prelude.{IfOk}
 use Rattle.std.proofs.lemmas.Result.{on_err_weaker}
 use Rattle.tau_trace.specs.Run.{len}
 use Rattle.tau_eval.specs.Turn.{TurnSoFar}
-use Rattle.tau_scripted.specs.ScriptedRun.{ScriptedRun}
+use Rattle.tau_queue.specs.ScriptedRun.{ScriptedRun}
 use Rattle.tau_book.specs.Hands.{Held}
 use Rattle.tau_book.specs.Books.{Booked, booked}
 use Rattle.tau_book.specs.Nexts.{IsNext}

@@ -1,5 +1,5 @@
 use Rattle.std.proofs.Common.{◌↔◌, ℕ, IsTrue, nat_lt, subst, sym}
-use Rattle.tau_scripted.specs.Flight.{IsDeliverable}
+use Rattle.tau_queue.specs.Flight.{IsDeliverable}
 use Rattle.tau_book.specs.Books.{Booked}
 use Rattle.tau_book.proofs.Choices.{some_deliverable}
 use Rattle.tau_book.proofs.book.Book.has_deliverable.Goals as goal

@@ -1,6 +1,6 @@
 use Rattle.std.proofs.Common.{◌≡◌, ◌∙◌, sym}
 use Rattle.tau_rules.specs.System.{Core}
-use Rattle.tau_due.specs.Dues.{step_of}
+use Rattle.tau_failures.specs.Dues.{step_of}
 use Rattle.tau_check.proofs.Endings.{other_illegal, goes_on_due, not_same}
 use Rattle.tau_check.proofs.checker.Checker.check_due.Goals as goal
 

@@ -1,6 +1,6 @@
 use Rattle.std.proofs.Common.{◌↔◌, IsTrue, subst}
 use Rattle.tau_trace.specs.Run.{Run}
-use Rattle.tau_due.specs.LegalRun.{NothingLeft}
+use Rattle.tau_failures.specs.LegalRun.{NothingLeft}
 use Rattle.tau_check.proofs.checker.Checker.is_complete.Goals as goal
 
 pub is_complete-requires : goal.is_complete-requires

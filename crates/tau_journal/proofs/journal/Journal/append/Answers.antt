@@ -1,5 +1,5 @@
 use Rattle.std.proofs.Common.{ℕ, List, Option, sym, subst}
-use Rattle.tau_disk.proofs.Moments.{joined}
+use Rattle.tau_journal.proofs.Moments.{joined}
 use Rattle.tau_journal.specs.Records.{TellsRecords, IsBeforeOrAfter}
 use Rattle.tau_journal.proofs.Appending.{looked, no_fault_told, room_told, is_no_fault}
 use Rattle.tau_journal.proofs.journal.Journal.append.Goals as goal

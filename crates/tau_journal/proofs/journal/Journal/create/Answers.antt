@@ -1,5 +1,5 @@
 use Rattle.std.proofs.Common.{List, [], ℕ, Option, IfSome, ◌∙◌, subst}
-use Rattle.tau_disk.specs.Moments.{LeavesOnly}
+use Rattle.tau_journal.specs.Disk.Moments.{LeavesOnly}
 use Rattle.tau_journal.specs.Records.{TellsRecords}
 use Rattle.tau_journal.specs.Found.{IsBlank}
 use Rattle.tau_journal.proofs.Blank.{with_told, making_looked, making_sized, making_closed, making_written}

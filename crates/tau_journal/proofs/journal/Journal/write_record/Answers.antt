@@ -1,6 +1,6 @@
 use Rattle.std.proofs.Common.{◌+◌, ◌<◌, ℕ, List, [], ◌∷◌, ◌++◌, Option, length, refl, sym, ◌∙◌, subst, arith}
 use Rattle.std.specs.Prelude.{◌^◌}
-use Rattle.tau_disk.specs.Bytes.{Writes, Only}
+use Rattle.tau_journal.specs.Disk.Bytes.{Writes, Only}
 use Rattle.tau_journal.proofs.Appending.{begun, behind, after_sync, staged_is, opened, has_one_more, gate_fits, at_rest_after}
 use Rattle.tau_journal.proofs.journal.Journal.write_record.Goals as goal
 

@@ -1,5 +1,5 @@
 use Rattle.std.specs.Prelude.{Result, Ok, Err, IfOk}
-use Rattle.tau_fate.specs.Decisions.{IsVerdict}
+use Rattle.tau_view.specs.Fate.Decisions.{IsVerdict}
 use Rattle.tau_past.specs.Decisions.{Verdict}
 use Rattle.tau_trace.specs.Run.{len}
 use Rattle.tau_views.specs.DecisionLaws.{judged}

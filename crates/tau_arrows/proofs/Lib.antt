@@ -1,4 +1,0 @@
-pub mod BearerLemmas
-pub mod MeetingLemmas
-pub mod LineLemmas
-pub mod Once

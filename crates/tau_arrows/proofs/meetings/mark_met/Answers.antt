@@ -1,5 +1,0 @@
-use Rattle.tau_arrows.proofs.MeetingLemmas.{marks_met}
-use Rattle.tau_arrows.proofs.meetings.mark_met.Goals as goal
-
-pub returns : goal.returns
-returns c = marks_met c.args.trace.now.run c.args.place c.met_at-message.result c.args.marks.now.items c.mark.new.marks.items c.met_at-message.ensures c.mark.ensures

@@ -1,6 +1,0 @@
-use Rattle.tau_shapes.specs.Each.{EachPlace, Writes}
-use Rattle.tau_arrows.specs.Messages.{IsMessageLine}
-use Rattle.tau_arrows.proofs.messages.put_messages.Given as goal
-
-abbrev pub invariant-loop-place : goal.invariant-loop-place
-invariant-loop-place l = Writes (EachPlace (IsMessageLine l.program l.trace.run l.layout) l.layout.window.from l.place) l.initial.out.items l.out.items

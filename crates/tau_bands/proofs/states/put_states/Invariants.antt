@@ -1,6 +1,0 @@
-use Rattle.tau_shapes.specs.Each.{EachPlace, Writes}
-use Rattle.tau_bands.specs.StateLines.{AreStatesAt}
-use Rattle.tau_bands.proofs.states.put_states.Given as goal
-
-abbrev pub invariant-loop-rank : goal.invariant-loop-rank
-invariant-loop-rank l = Writes (EachPlace (AreStatesAt l.trace.run l.layout l.looks) 0 l.rank) l.fn.out.items l.out.items

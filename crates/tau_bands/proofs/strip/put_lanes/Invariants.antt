@@ -1,6 +1,0 @@
-use Rattle.tau_shapes.specs.Each.{EachPlace, Writes}
-use Rattle.tau_bands.specs.StripLines.{IsStripLane}
-use Rattle.tau_bands.proofs.strip.put_lanes.Given as goal
-
-abbrev pub invariant-loop-rank : goal.invariant-loop-rank
-invariant-loop-rank l = Writes (EachPlace (IsStripLane l.names l.layout l.looks) 0 l.rank) l.fn.out.items l.out.items

@@ -1,8 +1,0 @@
-use Rattle.std.proofs.Common.{◌≡◌, take}
-use Rattle.std.specs.List.{flat_map}
-use Rattle.tau_markup.specs.Lines.{with_lines}
-use Rattle.tau_bands.specs.StripLines.{span_lines}
-use Rattle.tau_bands.proofs.strip.put_spans.Given as goal
-
-abbrev pub invariant-loop-seen : goal.invariant-loop-seen
-invariant-loop-seen l = l.out.items ≡ with_lines l.fn.out.items (flat_map (span_lines l.layout l.rank) (take l.seen-index l.all))

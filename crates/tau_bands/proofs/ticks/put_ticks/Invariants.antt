@@ -1,6 +1,0 @@
-use Rattle.tau_shapes.specs.Each.{EachPlace, Writes}
-use Rattle.tau_bands.specs.StripLines.{IsTick}
-use Rattle.tau_bands.proofs.ticks.put_ticks.Given as goal
-
-abbrev pub invariant-loop-place : goal.invariant-loop-place
-invariant-loop-place l = Writes (EachPlace (IsTick l.trace.run l.layout l.looks) l.layout.window.from l.place) l.fn.out.items l.out.items

@@ -1,9 +1,0 @@
--- The message that a step of a lane receives or loses.
-use Rattle.std.specs.Prelude.{ℕ, Option, Some, None}
-use Rattle.tau_trace.specs.Run.{Run}
-use Rattle.tau_bands.specs.StateLines.{MeetsIn}
-
--- None where no step of the lane of t stands at place k, or one that neither receives nor loses a message
-abbrev pub IsMetIn : Run → ℕ → ℕ → Option ℕ → Type 0
-IsMetIn T t k None = (m : ℕ) → ¬ MeetsIn T t k m
-IsMetIn T t k (Some m) = MeetsIn T t k m

@@ -1,6 +1,0 @@
-pub mod Firsts
-pub mod Going
-pub mod Levels
-pub mod NearestLemmas
-mod Noting
-mod Turning

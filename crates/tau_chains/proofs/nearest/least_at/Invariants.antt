@@ -1,7 +1,0 @@
-use Rattle.std.proofs.Common.{Contains, take}
-use Rattle.std.specs.HashMap.{get}
-use Rattle.tau_chains.specs.Inner.Distances.{same_point, IsLeastAt}
-use Rattle.tau_chains.proofs.nearest.least_at.Given as goal
-
-abbrev pub invariant-loop-point : goal.invariant-loop-point
-invariant-loop-point l = IsLeastAt (Contains (take l.point-index l.points)) (get same_point l.far) l.distance l.least

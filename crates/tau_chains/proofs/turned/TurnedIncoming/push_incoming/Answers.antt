@@ -1,5 +1,0 @@
-use Rattle.tau_chains.proofs.Turning.{pushes_turned}
-use Rattle.tau_chains.proofs.turned.TurnedIncoming.push_incoming.Goals as goal
-
-pub returns-clause-pushed : goal.returns-clause-pushed
-returns-clause-pushed c = pushes_turned _ _ _ _ _ c.push_next.ensures

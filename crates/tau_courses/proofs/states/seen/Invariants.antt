@@ -1,5 +1,0 @@
-use Rattle.tau_courses.specs.Inner.Courses.{AreSeen}
-use Rattle.tau_courses.proofs.states.seen.Given as goal
-
-abbrev pub invariant-loop-course : goal.invariant-loop-course
-invariant-loop-course l = AreSeen l.fn.window l.courses l.course-index l.all.items

@@ -1,6 +1,0 @@
-//! The states that transactors of a picture pass through (docs/formats.md, "Pictures").
-#![tactic(auto)]
-
-mod states;
-
-pub use states::{State, states_in};

@@ -1,5 +1,0 @@
-use Rattle.std.proofs.Common.{refl, arith}
-use Rattle.tau_disk.proofs.file_disk.FileDiskDisk.write_at.Goals as goal
-
-pub returns-clause-crash : goal.returns-clause-crash
-returns-clause-crash g c e now = (e, tt, record { before = refl; after = refl; no_shorter = omega arith; no_longer = omega arith })

@@ -1,0 +1,14 @@
+pub mod BandLemmas
+pub mod ColumnLanes
+pub mod LaneLemmas
+pub mod NameLemmas
+pub mod MarksOnce
+pub mod BearerLemmas
+pub mod MeetingLemmas
+pub mod LineLemmas
+pub mod MessagesOnce
+pub mod Lists
+pub mod Crowds
+pub mod StateLemmas
+pub mod StripLemmas
+pub mod EndLemmas

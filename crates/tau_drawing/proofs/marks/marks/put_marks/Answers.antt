@@ -1,0 +1,26 @@
+use Rattle.std.proofs.Common.{◌≡◌, ℕ, List, sym, ap, ◌∙◌, subst, arith}
+use Rattle.tau_svg.specs.Shapes.Each.{EachPlace, Writes}
+use Rattle.tau_scene.specs.declared.looks.looks.StepLook.{StepLook}
+use Rattle.tau_svg.proofs.Writing.{places_first, places_next}
+use Rattle.tau_drawing.specs.Marks.Marks.{IsMark}
+use Rattle.tau_drawing.proofs.marks.marks.put_marks.Goals as goal
+
+pub loop-place-init : goal.loop-place-init
+loop-place-init c =
+    let P = IsMark c.args.trace.now.run c.args.layout.now c.args.looks.now.steps.items in
+    let out = c.args.out.now.items in
+    let a = c.args.layout.now.window.from in
+    subst (λ (k : ℕ). Writes (EachPlace P a k) out out) (sym (ap (λ v. v.from) c.window-window.ensures.window)) (places_first P a out)
+
+pub loop-place-preserved : goal.loop-place-preserved
+loop-place-preserved c =
+    let T = c.args.trace.now.run in
+    let plan = c.args.layout.now in
+    let written = subst (λ (looks : List StepLook). Writes (IsMark T plan looks c.loop-place.place) c.loop-place.out.items c.put_mark.new.out.items) c.deref.ensures.value c.in_ok-put_mark.ensures in
+    places_next (IsMark T plan c.args.looks.now.steps.items) plan.window.from c.loop-place.place c.args.out.now.items c.loop-place.out.items c.put_mark.new.out.items c.loop-place.invariant written
+
+pub returns : goal.returns
+returns c =
+    let P = IsMark c.args.trace.now.run c.args.layout.now c.args.looks.now.steps.items in
+    let end : c.loop-place.place ≡ c.window-window.result.to = omega (arith, c.loop-place-test.false, c.loop-place.auto.place-end, c.window-window.ensures.ordered) in
+    subst (λ (k : ℕ). Writes (EachPlace P c.args.layout.now.window.from k) c.args.out.now.items c.loop-place.out.items) (end ∙ ap (λ v. v.to) c.window-window.ensures.window) c.loop-place.invariant

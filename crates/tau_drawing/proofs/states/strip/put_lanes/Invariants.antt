@@ -1,0 +1,6 @@
+use Rattle.tau_svg.specs.Shapes.Each.{EachPlace, Writes}
+use Rattle.tau_drawing.specs.States.StripLines.{IsStripLane}
+use Rattle.tau_drawing.proofs.states.strip.put_lanes.Given as goal
+
+abbrev pub invariant-loop-rank : goal.invariant-loop-rank
+invariant-loop-rank l = Writes (EachPlace (IsStripLane l.names l.layout l.looks) 0 l.rank) l.fn.out.items l.out.items

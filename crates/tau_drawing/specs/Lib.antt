@@ -1,0 +1,4 @@
+pub mod Lanes
+pub mod Marks
+pub mod Messages
+pub mod States

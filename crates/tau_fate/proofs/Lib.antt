@@ -1,4 +1,0 @@
-pub mod Firsts
-pub mod Stops
-pub mod SameKinds
-pub mod Empty

@@ -1,9 +1,0 @@
-use Rattle.std.proofs.Common.{◌≡◌, take}
-use Rattle.std.specs.Prelude.{Contains}
-use Rattle.tau_history.specs.declared.fate.Fate.TheVariants.{Fallen}
-use Rattle.tau_points.specs.declared.point.Point.{Point}
-use Rattle.tau_view.specs.Held.{fate_in}
-use Rattle.tau_fate.proofs.least.first_fallen.Given as goal
-
-abbrev pub invariant-loop-point : goal.invariant-loop-point
-invariant-loop-point g l = (q : Point) → Contains (take l.point-index l.point-items) q → fate_in (g.V.View.held l.view).history q ≡ Fallen → ⊥

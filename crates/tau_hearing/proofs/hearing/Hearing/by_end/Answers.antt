@@ -1,5 +1,0 @@
-use Rattle.tau_hearing.proofs.ByKind.{end_leads}
-use Rattle.tau_hearing.proofs.hearing.Hearing.by_end.Goals as goal
-
-pub returns : goal.returns
-returns c = rw c.of_turn.ensures (end_leads c.args.self.now c.args._trace.now.run c.args._step.now c.requires.next c.args.who c.requires.by c.requires.kind)

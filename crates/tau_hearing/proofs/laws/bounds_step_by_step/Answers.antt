@@ -1,5 +1,0 @@
-use Rattle.tau_hearing.proofs.Bounds.{bounds_step_by_step}
-use Rattle.tau_hearing.proofs.laws.bounds_step_by_step.Goals as goal
-
-pub returns : goal.returns
-returns c = bounds_step_by_step

@@ -1,5 +1,0 @@
-use Rattle.tau_hearing.proofs.Turns.{carried_stays}
-use Rattle.tau_hearing.proofs.laws.carried_stays.Goals as goal
-
-pub returns : goal.returns
-returns c = carried_stays

@@ -1,9 +1,0 @@
-use Rattle.tau_hearing.proofs.Bounds.{copies_hear_alike}
-use Rattle.tau_hearing.proofs.Turns.{copies_carry_alike}
-use Rattle.tau_hearing.proofs.laws.copies_are_alike.Goals as goal
-
-pub returns-clause-heard : goal.returns-clause-heard
-returns-clause-heard c = copies_hear_alike
-
-pub returns-clause-carried : goal.returns-clause-carried
-returns-clause-carried c = copies_carry_alike

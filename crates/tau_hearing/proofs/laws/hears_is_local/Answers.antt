@@ -1,5 +1,0 @@
-use Rattle.tau_hearing.proofs.Places.{hears_is_local}
-use Rattle.tau_hearing.proofs.laws.hears_is_local.Goals as goal
-
-pub returns : goal.returns
-returns c = hears_is_local

@@ -1,5 +1,0 @@
-use Rattle.tau_hearing.specs.Opened.{AreStartOwn}
-use Rattle.tau_hearing.proofs.opening.start_own.Given as goal
-
-abbrev pub invariant-loop-start : goal.invariant-loop-start
-invariant-loop-start l = AreStartOwn l.own.items l._start

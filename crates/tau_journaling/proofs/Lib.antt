@@ -1,0 +1,12 @@
+pub mod Between
+pub mod Onward
+pub mod Fronts
+pub mod Ended
+pub mod Faulted
+pub mod KeptRuns
+pub mod ResumedRuns
+pub mod Finds
+pub mod FoundFronts
+pub mod Illegal
+pub mod Marks
+pub mod Places

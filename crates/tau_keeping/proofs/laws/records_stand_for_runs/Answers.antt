@@ -1,5 +1,0 @@
-use Rattle.tau_keeping.proofs.Runs.{run_of}
-use Rattle.tau_keeping.proofs.laws.records_stand_for_runs.Goals as goal
-
-pub returns : goal.returns
-returns c = λ rs P T stand. run_of rs P T stand

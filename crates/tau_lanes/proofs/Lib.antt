@@ -1,4 +1,0 @@
-pub mod BandLemmas
-pub mod ColumnLanes
-pub mod LaneLemmas
-pub mod NameLemmas

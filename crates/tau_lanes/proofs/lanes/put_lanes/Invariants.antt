@@ -1,6 +1,0 @@
-use Rattle.tau_shapes.specs.Each.{EachPlace, Writes}
-use Rattle.tau_lanes.specs.LaneLines.{IsLane}
-use Rattle.tau_lanes.proofs.lanes.put_lanes.Given as goal
-
-abbrev pub invariant-loop-column : goal.invariant-loop-column
-invariant-loop-column l = Writes (EachPlace (IsLane l.trace.run l.layout) 0 l.column-index) l.fn.out.items l.out.items

@@ -1,7 +1,0 @@
-use Rattle.std.proofs.Common.{◌≡◌}
-use Rattle.tau_markup.specs.Lines.{with_lines}
-use Rattle.tau_lanes.specs.Bands.{bands_below}
-use Rattle.tau_lanes.proofs.nodes.put_nodes.Given as goal
-
-abbrev pub invariant-loop-node : goal.invariant-loop-node
-invariant-loop-node l = l.out.items ≡ with_lines l.fn.out.items (bands_below l.layout l.node)

@@ -1,7 +1,0 @@
-use Rattle.std.specs.HashMap.{get}
-use Rattle.tau_past.specs.Tables.{Lists, same_point}
-use Rattle.tau_links.specs.Inner.Linking.{TellsNearest}
-use Rattle.tau_links.proofs.nearest.nearest_carried.Given as goal
-
-abbrev pub invariant-loop-place : goal.invariant-loop-place
-invariant-loop-place l = Lists l.place (TellsNearest l.index (get same_point l.far)) l.nearest.items

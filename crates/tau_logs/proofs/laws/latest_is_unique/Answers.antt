@@ -1,5 +1,0 @@
-use Rattle.tau_logs.proofs.Latest.{latest_is_unique}
-use Rattle.tau_logs.proofs.laws.latest_is_unique.Goals as goal
-
-pub returns : goal.returns
-returns c = latest_is_unique

@@ -1,5 +1,0 @@
-use Rattle.tau_logs.proofs.Latest.{latest_of_the_greater_place}
-use Rattle.tau_logs.proofs.laws.latest_of_the_greater_place.Goals as goal
-
-pub returns : goal.returns
-returns c = latest_of_the_greater_place

@@ -1,5 +1,0 @@
-use Rattle.tau_logs.proofs.Telling.{logs_are_local}
-use Rattle.tau_logs.proofs.laws.logs_are_local.Goals as goal
-
-pub returns : goal.returns
-returns c = logs_are_local

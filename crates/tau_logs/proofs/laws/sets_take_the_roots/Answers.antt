@@ -1,5 +1,0 @@
-use Rattle.tau_logs.proofs.Taking.{sets_take_the_roots}
-use Rattle.tau_logs.proofs.laws.sets_take_the_roots.Goals as goal
-
-pub returns : goal.returns
-returns c = sets_take_the_roots

@@ -1,8 +1,0 @@
-//! What a picture of a run shows of its states, its steps and its ends (docs/formats.md, "Pictures").
-#![tactic(auto)]
-
-mod kinds;
-mod looks;
-
-pub use kinds::{EndLook, MarkLook, RowLook, StateLook};
-pub use looks::{Ending, Looks, Seen, StepLook};

@@ -1,9 +1,0 @@
-//! The marks and the rows of a picture of a run (docs/formats.md, "Pictures").
-#![tactic(auto)]
-
-mod looks;
-mod marks;
-mod rows;
-
-pub use marks::put_marks;
-pub use rows::put_rows;

@@ -1,5 +1,0 @@
-use Rattle.tau_markup.proofs.LineLemmas.{lines_joined as the_law}
-use Rattle.tau_markup.proofs.laws.lines_are_joined.Goals as goal
-
-pub returns : goal.returns
-returns c = the_law

@@ -1,4 +1,0 @@
-pub mod Saving
-pub mod Noting
-pub mod Ranks
-pub mod KeptLemmas

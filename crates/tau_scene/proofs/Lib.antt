@@ -1,0 +1,17 @@
+pub mod ValueTexts
+pub mod StepTexts
+pub mod Beginnings
+pub mod Currents
+pub mod Passing
+pub mod Following
+pub mod Lanes
+pub mod Causing
+pub mod Pasts
+pub mod SourceLemmas
+pub mod Collecting
+pub mod Showing
+pub mod Marking
+pub mod Saving
+pub mod Noting
+pub mod Ranks
+pub mod KeptLemmas

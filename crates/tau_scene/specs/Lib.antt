@@ -1,0 +1,5 @@
+pub mod Words
+pub mod Timelines
+pub mod Looks
+pub mod Causes
+pub mod Notes

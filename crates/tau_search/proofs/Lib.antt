@@ -1,4 +1,0 @@
-pub mod Deciding
-pub mod Facts
-pub mod Meeting
-pub mod Positions

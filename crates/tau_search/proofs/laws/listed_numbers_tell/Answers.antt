@@ -1,5 +1,0 @@
-use Rattle.tau_search.proofs.Deciding.{listed_numbers_tell as the_law}
-use Rattle.tau_search.proofs.laws.listed_numbers_tell.Goals as goal
-
-pub returns : goal.returns
-returns g c = the_law _

@@ -1,5 +1,0 @@
-use Rattle.tau_search.proofs.Deciding.{own_search_tells_falls}
-use Rattle.tau_search.proofs.laws.own_search_tells_falls.Goals as goal
-
-pub returns : goal.returns
-returns c = own_search_tells_falls

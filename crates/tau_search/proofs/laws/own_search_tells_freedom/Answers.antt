@@ -1,5 +1,0 @@
-use Rattle.tau_search.proofs.Deciding.{own_search_tells_freedom}
-use Rattle.tau_search.proofs.laws.own_search_tells_freedom.Goals as goal
-
-pub returns : goal.returns
-returns c = own_search_tells_freedom

@@ -1,5 +1,0 @@
-use Rattle.tau_search.proofs.Deciding.{root_search_tells_drops}
-use Rattle.tau_search.proofs.laws.root_search_tells_drops.Goals as goal
-
-pub returns : goal.returns
-returns c = root_search_tells_drops

@@ -1,6 +1,0 @@
-use Rattle.tau_points.specs.Members.{AddsAll}
-use Rattle.tau_seen.specs.Inner.Resting.{AsksIn}
-use Rattle.tau_seen.proofs.asking.push_sources.Given as goal
-
-abbrev pub invariant-loop-sourced : goal.invariant-loop-sourced
-invariant-loop-sourced l = AddsAll (AsksIn l.lane l.sourced-index) l.initial.points.items l.points.items

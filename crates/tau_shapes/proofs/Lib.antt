@@ -1,3 +1,0 @@
-pub mod GridLemmas
-pub mod Joining
-pub mod Writing

@@ -1,0 +1,4 @@
+pub mod LineLemmas
+pub mod GridLemmas
+pub mod Joining
+pub mod Writing

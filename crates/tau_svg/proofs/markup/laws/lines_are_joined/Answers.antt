@@ -1,0 +1,5 @@
+use Rattle.tau_svg.proofs.LineLemmas.{lines_joined as the_law}
+use Rattle.tau_svg.proofs.markup.laws.lines_are_joined.Goals as goal
+
+pub returns : goal.returns
+returns c = the_law

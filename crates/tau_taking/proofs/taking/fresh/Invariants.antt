@@ -1,6 +1,0 @@
-use Rattle.std.proofs.Common.{take}
-use Rattle.tau_taking.specs.Adding.{AreFresh}
-use Rattle.tau_taking.proofs.taking.fresh.Given as goal
-
-abbrev pub invariant-loop-number : goal.invariant-loop-number
-invariant-loop-number l = AreFresh (take l.number l.roots) l.me l.taken l.fresh.items

@@ -1,0 +1,12 @@
+//! What a step changes.
+
+use tau_heard::HearingChange;
+
+/// What a step changes, with all memory that it takes.
+#[derive(Drop)]
+pub struct MarkedChange {
+    /// What it changes in what was heard.
+    pub change: HearingChange,
+    /// Whether marks may be wrong after it, so that all go.
+    pub taints: bool,
+}

@@ -1,0 +1,42 @@
+//! The last versions of all transactors, as a search asks for them.
+ghost use Rattle.std.specs.Prelude.{◌≡◌, ◌-◌, ◌^◌, min};
+ghost use Rattle.tau_heard.specs.Bounds.{last_number};
+
+use tau_versions::logs::Log;
+use tau_versions::search::HeardVersions;
+
+/// The last versions of all transactors.
+#[derive(Clone, Copy)]
+pub(crate) struct Latest<'a> {
+    pub logs: &'a [Log],
+}
+
+impl<'a> HeardVersions for Latest<'a> {
+    ghost use Rattle.tau_verdicts.specs.Latest.{latest};
+
+    ghost numbers = { λ h. latest h.logs.now };
+
+    fn number(&self, who: u32) -> u32 {
+        small(last_number(self.logs, who))
+    }
+}
+
+/// The number of the last version of a transactor, 0 where it doesn't exist.
+fn last_number(logs: &[Log], who: u32) -> usize
+    ensures { result ≡ last_number logs.now who }
+{
+    match logs.get(who as usize) {
+        Some(log) => log.len().saturating_sub(1),
+        None => 0,
+    }
+}
+
+/// A number that is cut to 32 bits.
+fn small(number: usize) -> u32
+    ensures { result ≡ min number (2 ^ 32 - 1) }
+{
+    match u32::try_from(number) {
+        Ok(number) => number,
+        Err(_) => u32::MAX,
+    }
+}

@@ -1,0 +1,4 @@
+pub mod Numbers
+pub mod Logs
+pub mod Search
+pub mod Roots
