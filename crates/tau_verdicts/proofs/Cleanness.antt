@@ -1,35 +1,26 @@
--- What is clean stays so, and what is covered by clean points is clean.
-use Rattle.std.proofs.Common.{◌≡◌, ◌⊎◌, inl, inr, ⊎_elim, ℕ, suc, ◌<◌, List, Some, refl, sym, ap, ◌∙◌, subst, arith}
+-- What is closed is clean, and what is covered by clean points is clean.
+use Rattle.std.proofs.Common.{◌≡◌, ⊎_elim, ℕ, ◌<◌, List, Some, refl, sym, ap, ◌∙◌, subst}
 use Rattle.std.specs.Prelude.{Contains}
-use Rattle.std.proofs.lemmas.Bool.{cases_lt}
 use Rattle.tau_trace.specs.declared.step.Step.TheVariants.{Checkpoint}
 use Rattle.tau_points.specs.declared.point.Point.{Point}
 use Rattle.tau_points.specs.Reach.{start, next}
 use Rattle.tau_points.proofs.Reach.{least, monotone, nested}
 use Rattle.tau_trace.specs.Run.{Run}
-use Rattle.tau_trace.specs.Histories.{Falls}
 use Rattle.tau_trace.specs.Known.{WellFormed}
 use Rattle.tau_trace.specs.Points.{point_at, IsOpeningPoint}
-use Rattle.tau_past.specs.Carried.{TakesBy}
 use Rattle.tau_past.specs.Decisions.{HasFallen}
-use Rattle.tau_past.specs.Heard.{IsCausallyClosed}
 use Rattle.tau_past.specs.Pasts.{ClosesAt, checkpoint, opening, Link, takes, closing, PastIn, Past, Is, FellIn}
 use Rattle.tau_past.specs.Safety.{KeepsRules}
 use Rattle.tau_past.proofs.Expected.{stands_alone}
 use Rattle.tau_past.proofs.FixedLemmas.{fixes_past}
-use Rattle.tau_past.proofs.Known.{needs_before}
 use Rattle.tau_past.proofs.Safety.{nothing_at_opening, known_in_past}
 use Rattle.tau_versions.specs.Logs.Takes.{ClosedIn, Covered, is_listed, is_closed, through}
 use Rattle.tau_heard.proofs.LeavingOut.{closed_on}
-use Rattle.tau_verdicts.specs.Clean.{Before, IsClean, KeepsClean}
-
--- the places before n are closed
-pub before_closed : (T : Run) (n : ℕ) → WellFormed T → IsCausallyClosed T (Before n)
-before_closed T n w = record { closed = λ k j h need. omega (arith, h, needs_before T k j w need) }
+use Rattle.tau_verdicts.specs.Clean.{Before, IsClean}
 
 -- In greater sets.
 
-link_on : (T : Run) (H G : ℕ → Type 0) → ((j : ℕ) → H j → G j) → (p q : Point) → Link T H p q → Link T G p q
+pub link_on : (T : Run) (H G : ℕ → Type 0) → ((j : ℕ) → H j → G j) → (p q : Point) → Link T H p q → Link T G p q
 link_on T H G grows p q (takes {j = j} h t) = takes (grows j h) t
 link_on T H G grows p q (closing {i = i} e k) = closing e (closed_on T H G p.who i q grows k)
 
@@ -55,7 +46,7 @@ none_fallen T H n P below clean f =
 
 -- What lies behind closed points.
 
-closing_is_closed : (T : Run) (H : ℕ → Type 0) (t i : ℕ) (q : Point) → ClosesAt T H t i q → ClosedIn T H q
+pub closing_is_closed : (T : Run) (H : ℕ → Type 0) (t i : ℕ) (q : Point) → ClosesAt T H t i q → ClosedIn T H q
 closing_is_closed T H t i q (checkpoint {j = j} h c e f) =
     let who : t ≡ q.who = sym (ap (λ x. x.who) e) in checkpoint h (c ∙ ap (λ u. Some (Checkpoint u)) who) (e ∙ ap (λ u. point_at T u j) who) refl
 closing_is_closed T H t i q (opening a b o) = opening refl o.interval_is o
@@ -90,41 +81,3 @@ covered_clean T n H listed j q w rules below clean (is_listed l) = clean q l
 covered_clean T n H listed j q w rules below clean (is_closed d) = closed_clean T n q w rules (closed_on T H (Before n) q.who q.interval q below d)
 covered_clean T n H listed j q w rules below clean (through {r = r} {i = i} l lt h t) =
     clean_along T n r q (takes (below i h) t) (⊎_elim (clean r) (λ d. closed_clean T n r w rules (closed_on T H (Before n) r.who r.interval r below d)) l)
-
--- One step later.
-
--- a point of the past one step later is in the past of a clean point before, or behind a closed one
-data Stand (T : Run) (n : ℕ) (x : Point) : Type 0 where
-  within : (q : Point) → IsClean T n q → PastIn T (Before n) (Is q) x → Stand T n x
-  behind : (c : Point) → ClosedIn T (Before (suc n)) c → PastIn T (Before (suc n)) (Is c) x → Stand T n x
-
-module _ (T : Run) (n : ℕ) (w : WellFormed T) (rules : KeepsRules T) (keeps : KeepsClean T n) where
-  -- a place up to n is before n, or n
-  place_cases : (j : ℕ) → j < suc n → (j < n) ⊎ (j ≡ n)
-  place_cases j h = ⊎_elim (λ lt. inl lt) (λ ge. let same : j ≡ n = omega (arith, h, ge) in inr same) (cases_lt j n)
-
-  by_taking : (y x : Point) (j : ℕ) → (j < n) ⊎ (j ≡ n) → TakesBy T j y x → (q : Point) → IsClean T n q → PastIn T (Before n) (Is q) y → Stand T n x
-  by_taking y x j (inl lt) t q clean r = within q clean (next r (takes lt t))
-  by_taking y x j (inr e) t q clean r = let F : ℕ → Type 0 = λ k. TakesBy T k y x in within x (keeps.takes y x (subst F e t)) (start refl)
-
-  onto : (y x : Point) → Link T (Before (suc n)) y x → Stand T n y → Stand T n x
-  onto y x l (behind c d r) = behind c d (next r l)
-  onto y x (closing {i = i} e k) (within q clean r) = behind x (closing_is_closed T (Before (suc n)) y.who i x k) (start refl)
-  onto y x (takes {j = j} h t) (within q clean r) = by_taking y x j (place_cases j h) t q clean r
-
-  stand : (p : Point) → IsClean T n p → (x : Point) → PastIn T (Before (suc n)) (Is p) x → Stand T n x
-  stand p clean = least (Link T (Before (suc n))) (Is p) (Stand T n) (record { starts = λ x e. within p clean (start e); follows = λ y x s l. onto y x l s })
-
-  -- what has fallen one step later had fallen before
-  fell_before : (x : Point) → FellIn T (Before (suc n)) x → FellIn T (Before n) x
-  fell_before x f = ⊎_elim
-      (λ lt. record { place = f.place; held = lt; falls = f.falls; at_point = f.at_point })
-      (λ e. let F : ℕ → Type 0 = λ k. Falls T x.who k in absurd (keeps.no_fall x.who (subst F e f.falls)))
-      (place_cases f.place f.held)
-
-  not_fallen : (x : Point) → Stand T n x → ¬ FellIn T (Before (suc n)) x
-  not_fallen x (within q clean r) f = clean (record { cause = x; in_past = r; fallen = fell_before x f })
-  not_fallen x (behind c d r) f = behind_closed T (Before (suc n)) c x w rules d r f
-
-  pub clean_stays : (p : Point) → IsClean T n p → IsClean T (suc n) p
-  clean_stays p clean f = not_fallen f.cause (stand p clean f.cause f.in_past) f.fallen

@@ -1,6 +1,7 @@
-pub mod Added
 pub mod Cleanness
-pub mod Keeping
+pub mod Doomed
+pub mod Lists
 pub mod Receipts
-pub mod Sweeps
+pub mod Spreads
+pub mod Steps
 pub mod Telling

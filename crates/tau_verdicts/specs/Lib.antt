@@ -1,6 +1,7 @@
 pub mod Clean
+pub mod Doomed
 pub mod Kept
 pub mod Kinds
 pub mod Latest
-pub mod Seeming
-pub mod Sweeping
+pub mod Noting
+pub mod Spreading

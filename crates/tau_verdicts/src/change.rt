@@ -7,6 +7,6 @@ use tau_heard::HearingChange;
 pub struct MarkedChange {
     /// What it changes in what was heard.
     pub change: HearingChange,
-    /// Whether marks may be wrong after it, so that all go.
-    pub taints: bool,
+    /// The transactor that leaves its point.
+    pub leaves: Option<u32>,
 }

@@ -1,9 +1,13 @@
 //! The last versions of all transactors, as a search asks for them.
 ghost use Rattle.std.specs.Prelude.{◌≡◌, ◌-◌, ◌^◌, min};
+ghost use Rattle.tau_versions.specs.Search.Searching.{fate_of, takes_of};
 ghost use Rattle.tau_heard.specs.Bounds.{last_number};
+ghost use Rattle.tau_verdicts.specs.Latest.{latest};
 
+use tau_history::Fate;
+use tau_points::Point;
 use tau_versions::logs::Log;
-use tau_versions::search::HeardVersions;
+use tau_versions::search::{HeardVersions, fate_of, takes_of};
 
 /// The last versions of all transactors.
 #[derive(Clone, Copy)]
@@ -19,6 +23,22 @@ impl<'a> HeardVersions for Latest<'a> {
     fn number(&self, who: u32) -> u32 {
         small(last_number(self.logs, who))
     }
+}
+
+/// The fate of a point by the last version of its transactor; Ahead where there is no such transactor.
+pub(crate) fn fate_now(logs: &[Log], point: Point) -> Fate
+    ensures { result ≡ fate_of logs.now (latest logs.now) point }
+{
+    let latest = Latest { logs };
+    fate_of(logs, &latest, &point)
+}
+
+/// What the present point of a transactor has taken.
+pub(crate) fn taken_now(logs: &[Log], who: u32) -> &[Point]
+    ensures { result.now ≡ takes_of logs.now (latest logs.now) who }
+{
+    let latest = Latest { logs };
+    takes_of(logs, &latest, who)
 }
 
 /// The number of the last version of a transactor, 0 where it doesn't exist.

@@ -1,17 +1,19 @@
-//! What the transactors and messages of a run have heard, with marks at clean points: those whose past holds nothing fallen. Where
-//! nothing that matters has changed since they were marked, a receipt is a Take without a search (docs/rules.md, "Verdict").
+//! What the transactors and messages of a run have heard, with notes of the present points whose past may hold something fallen:
+//! doomed points. A receipt of which none is doomed is a Take without a search (docs/rules.md, "Verdict").
 #![tactic(auto)]
 
 pub use change::MarkedChange;
 pub use marked::MarkedHearing;
 
 mod applying;
-mod asking;
 mod change;
+mod dooming;
 mod judging;
+mod kinds;
 mod knowing;
 mod latest;
 mod marked;
-mod marking;
+mod noting;
 mod preparing;
-mod sweeping;
+mod spreading;
+mod turns;

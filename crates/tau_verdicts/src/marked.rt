@@ -1,4 +1,4 @@
-//! What was heard, with marks at clean points.
+//! What was heard, with notes of present points.
 ghost use Rattle.std.specs.Prelude.{◌≡◌, [], IfOk, length};
 ghost use Rattle.tau_trace.specs.declared.opening.Opening.{Opening};
 ghost use Rattle.tau_trace.specs.Known.{IsSound};
@@ -9,14 +9,17 @@ use std::alloc::{AllocError, Global};
 use tau_heard::Hearing;
 use tau_points::Point;
 
-/// What the transactors and messages of a run have heard, and of each transactor a point that is known to be clean, where there is
-/// one: nothing in its past has fallen (docs/definitions.md, "Clean").
+/// What the transactors and messages of a run have heard, and of each transactor whether its present point is doomed, and which
+/// points have taken that (docs/definitions.md, "Clean"). Where nothing is kept of a transactor, its point isn't doomed, and
+/// has no takers.
 #[derive(Drop)]
 pub struct MarkedHearing {
     /// What was heard.
     pub hearing: Hearing,
-    /// The marks; none before the first falling step.
-    pub clean: Vec<Option<Point>>,
+    /// Whether the present point of a transactor is doomed: something in its past may have fallen.
+    pub doomed: Vec<bool>,
+    /// The points that have taken the present point of a transactor. Some may be left, or may not have taken it.
+    pub takers: Vec<Vec<Point>>,
 }
 
 impl MarkedHearing {
@@ -27,13 +30,21 @@ impl MarkedHearing {
         let hearing = Hearing::begin(alloc, starts, posts)?;
         Ok(MarkedHearing {
             hearing,
-            clean: no_marks(alloc),
+            doomed: none_doomed(alloc),
+            takers: no_takers(alloc),
         })
     }
 }
 
-/// No mark.
-fn no_marks(alloc: Global) -> Vec<Option<Point>>
+/// Nothing is doomed.
+fn none_doomed(alloc: Global) -> Vec<bool>
+    ensures { result.items ≡ [] }
+{
+    Vec::new(alloc)
+}
+
+/// No takers.
+fn no_takers(alloc: Global) -> Vec<Vec<Point>>
     ensures { result.items ≡ [] }
 {
     Vec::new(alloc)
