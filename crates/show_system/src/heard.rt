@@ -9,7 +9,7 @@ use tau_rules::System;
 use tau_verdicts::MarkedHearing;
 use tau_view::View;
 use tau_view::fate::Verdict;
-use tau_views::Views;
+use tau_views::{Views, views_of};
 
 /// Adds what a call asks for, as `show_viewed` does.
 pub(crate) fn show_heard<V: Shown>(
@@ -21,7 +21,7 @@ pub(crate) fn show_heard<V: Shown>(
 ) -> Result<(), AllocError> {
     match verb {
         "history" | "view" | "message" | "free" | "verdict" => {
-            let views: Views<V> = system.views()?;
+            let views: Views<V> = views_of(alloc, system)?;
             show_views(alloc, text, system, &views, verb, number)
         }
         _ => add_standing_or_state(text, system, verb, number),

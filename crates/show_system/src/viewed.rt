@@ -8,7 +8,7 @@ use crate::showing::{
 use std::alloc::{AllocError, Global};
 use tau_rules::System;
 use tau_view::fate::{Verdict, judge};
-use tau_views::Views;
+use tau_views::{Views, history_of, message_view, view_of};
 
 /// Adds what a call asks for: the standing, state, saved state, history or view of a transactor, whether it is free, the view
 /// of a message, or the verdict on it.
@@ -21,10 +21,10 @@ pub(crate) fn show_viewed<V: Shown>(
 ) -> Result<(), AllocError> {
     let born = system.trace().born();
     match verb {
-        "history" => add_history_line(text, number, system.history_of(number)),
-        "view" => add_view(text, born, system.view_of(number)),
-        "message" => add_view(text, born, system.message_view(number)),
-        "free" => add_freedom(alloc, text, number, system.view_of(number)),
+        "history" => add_history_line(text, number, history_of(system, number)),
+        "view" => add_view(text, born, view_of(system, number)),
+        "message" => add_view(text, born, message_view(system, number)),
+        "free" => add_freedom(alloc, text, number, view_of(system, number)),
         "verdict" => {
             let verdict = verdict_on(alloc, system, number)?;
             add_verdict(text, verdict)
@@ -42,7 +42,7 @@ fn verdict_on<V: Shown>(
     let Some(who) = system.trace().target(message) else {
         return Ok(None);
     };
-    let (Some(history), Some(letter)) = (system.history_of(who), system.message_view(message))
+    let (Some(history), Some(letter)) = (history_of(system, who), message_view(system, message))
     else {
         return Ok(None);
     };
@@ -62,7 +62,7 @@ fn merged_view<V: Shown>(
     if message >= system.trace().sent() || who >= system.trace().born() {
         return Ok(None);
     }
-    let (Some(own), Some(letter)) = (system.view_of(who), system.message_view(message)) else {
+    let (Some(own), Some(letter)) = (view_of(system, who), message_view(system, message)) else {
         return Ok(None);
     };
     let mut merged = own.try_copy()?;

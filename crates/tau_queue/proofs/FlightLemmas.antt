@@ -19,7 +19,7 @@ use Rattle.tau_trace.proofs.Agreement.{agree_appended, step_at-appended, same_at
 use Rattle.tau_trace.proofs.Indexing.{len-appended}
 use Rattle.tau_trace.proofs.Once.{home_once, receives_once}
 use Rattle.tau_rules.proofs.DeliverLemmas.{receiver_exists}
-use Rattle.tau_views.proofs.Appended.{one_if, sent_here, sent_then, flew, flies_on, not_removed, new_flies}
+use Rattle.tau_rules.proofs.AppendedRuns.{one_if, sent_here, sent_then, flew, flies_on, not_removed, new_flies}
 use Rattle.tau_queue.specs.Flight.{IsWaiting, AreInFlight}
 use Rattle.tau_queue.specs.Inner.Index.{IsNoticeLetter}
 use Rattle.tau_queue.proofs.Members.{contains_filter, filter_contains}

@@ -13,7 +13,7 @@ use Rattle.tau_trace.specs.Numbering.{born, sent, Receives, Removes, HasSender, 
 use Rattle.tau_trace.specs.Histories.{EndsAt, IsLiving}
 use Rattle.tau_trace.specs.Turns.{Turn, IsOpenTurn}
 use Rattle.tau_trace.specs.Known.{WellFormed, MayFollow}
-use Rattle.tau_trace.proofs.Agreement.{agree_appended, step_at-appended, born-grows}
+use Rattle.tau_trace.proofs.Agreement.{agree_appended, step_at-appended}
 use Rattle.tau_trace.proofs.Indexing.{len-appended}
 use Rattle.tau_past.proofs.PendingLemmas.{turns_after_step}
 use Rattle.tau_script.specs.Openings.{program_opening}

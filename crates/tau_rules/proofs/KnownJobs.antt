@@ -1,12 +1,12 @@
 -- A job that was the record of a turn is it still, where the turn is open and has so many replies.
-use Rattle.std.proofs.Common.{◌≡◌, ◌↔◌, ◌⊎◌, ⊎_elim, ℕ, zero, suc, ◌<◌, ◌≤◌, Some, List, [], ◌∷◌, ◌++◌, length, take, refl, sym, ap, ◌∙◌, subst, arith, length-append}
+use Rattle.std.proofs.Common.{◌≡◌, ◌↔◌, ⊎_elim, ℕ, zero, suc, ◌<◌, ◌≤◌, Some, List, [], ◌∷◌, ◌++◌, length, take, refl, sym, ap, ◌∙◌, subst, arith, length-append}
 use Rattle.std.proofs.Math.Seq.{take-length}
 use Rattle.tau_value.specs.declared.shared.Value.{Value}
 use Rattle.tau_value.specs.Val.{Val}
 use Rattle.tau_tree.specs.declared.programs.Program.{Program}
 use Rattle.tau_trace.specs.declared.step.Step.{Step}
 use Rattle.tau_trace.specs.declared.step.Step.TheVariants.{Take}
-use Rattle.tau_trace.specs.Run.{Run, Agree, len, step_at}
+use Rattle.tau_trace.specs.Run.{Run, Agree, len}
 use Rattle.tau_trace.specs.Numbering.{born, sent}
 use Rattle.tau_trace.specs.Known.{WellFormed}
 use Rattle.tau_trace.specs.Turns.{Turn, IsOpenTurn}
@@ -22,7 +22,7 @@ use Rattle.tau_legal.proofs.StateLemmas.{well_formed_prefix}
 use Rattle.tau_rules.specs.Answers.{IsOpenJob}
 use Rattle.tau_rules.specs.declared.records.Record.{Record}
 use Rattle.tau_rules.specs.Records.{IsRecord}
-use Rattle.tau_rules.specs.KnownJobs.{front_of, WasOpenJob, IsAt}
+use Rattle.tau_rules.specs.KnownJobs.{WasOpenJob, IsAt}
 
 -- the replies qs still stand at place n, where those there are no more
 pub record Stand (T : Run) (opening : List Value) (t a n : ℕ) (qs rs : List Val) : Type 0 where

@@ -6,10 +6,9 @@ pub mod RecordLemmas
 pub mod MessageLemmas
 pub mod SystemLemmas
 pub mod DeliverLemmas
-pub mod ReadingLemmas
 pub mod ActLemmas
 pub mod ActLemmasOfJobs
 pub mod ActLemmasOfSteps
 pub mod ActLemmasOfAnswers
-pub mod Fronts
+pub mod AppendedRuns
 pub mod KnownJobs

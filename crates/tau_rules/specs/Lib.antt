@@ -2,5 +2,4 @@ pub mod Records
 pub mod System
 pub mod Answers
 pub mod KnownJobs
-pub mod ViewLaws
 pub mod Inner

@@ -1,5 +1,5 @@
 -- What the record of a transactor says.
-use Rattle.std.specs.Prelude.{◌≡◌, ℕ, suc, Bool, true, IsTrue, ◌||◌, Option, Some, None, slice_get, slice_set, length, map, List, [], ◌∷◌, ◌++◌}
+use Rattle.std.specs.Prelude.{◌≡◌, ℕ, suc, Bool, IsTrue, ◌||◌, Option, Some, None, slice_get, slice_set, length, map, List, [], ◌∷◌, ◌++◌}
 use Rattle.tau_value.specs.declared.shared.Value.{Value}
 use Rattle.tau_value.specs.declared.shared.Value.TheVariants as values
 use Rattle.tau_value.specs.Value.{val_of}

@@ -1,5 +1,4 @@
-//! Laws of the views of fitting traces, and of jobs that were the record of a turn.
-ghost use Rattle.tau_rules.specs.ViewLaws.{FittingViewsAreSettled, FittingMessageViewsAreSettled, FittingMergedViewsAreSettled};
+//! Laws of jobs that were the record of a turn.
 ghost use Rattle.tau_rules.specs.KnownJobs.{KnownJobsAreOpen, KnownJobsStayKnown, OpenJobsAreKnown};
 
 /// Whatever the program, a job that was the record of a turn at some moment of a run is it still where the turn is open and has so many
@@ -8,12 +7,4 @@ pub fn known_jobs_are_open()
     ensures still { KnownJobsAreOpen }
     ensures longer { KnownJobsStayKnown }
     ensures known { OpenJobsAreKnown }
-{}
-
-/// Whatever the program, in a trace in which every step fits the views of what was heard are settled: each point of the known past
-/// of a Closed point is firm, on a transactor's view, on a message's, and on the two merged (docs/definitions.md, "Settled").
-pub fn fitting_views_are_settled()
-    ensures own { FittingViewsAreSettled }
-    ensures message { FittingMessageViewsAreSettled }
-    ensures merged { FittingMergedViewsAreSettled }
 {}

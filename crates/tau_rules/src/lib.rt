@@ -13,9 +13,8 @@ mod reading;
 mod records;
 mod system;
 mod turns;
-mod viewing;
 
 pub use answers::{Acted, Delivered, Standing};
 pub use errors::{ActError, DeliverError, FailError, LoseError, RepeatError};
-pub use laws::{fitting_views_are_settled, known_jobs_are_open};
+pub use laws::known_jobs_are_open;
 pub use system::System;

@@ -100,6 +100,14 @@ impl<'p, K: Knowledge + Drop> System<'p, K> {
         self.program
     }
 
+    /// What is known of the run, in the form in which the system keeps it.
+    pub fn known(&self) -> &K
+        ensures knows { K.knows result.now self.now.run }
+        ensures well_formed { WellFormed self.now.run }
+    {
+        &self.known
+    }
+
     /// The state of a transactor; `None` exactly where it doesn't exist or has ended (docs/definitions.md, "State and
     /// saved state").
     pub fn state_of(&self, who: u32) -> Option<&Value>

@@ -12,12 +12,13 @@ use Rattle.tau_trace.specs.Numbering.{born, sent, InFlight}
 use Rattle.tau_trace.specs.Known.{MayFollow, WellFormed}
 use Rattle.tau_trace.proofs.Indexing.{len-appended}
 use Rattle.tau_trace.proofs.Lists.{same_some, slice_get-set_same, slice_get-set_other, slice_get-front, slice_get-last, slice_get-push_cases}
+use Rattle.tau_rules.proofs.AppendedRuns.{one_if, born_then, sent_then, acts_here, flew, flies_on, not_removed, new_flies}
 use Rattle.tau_views.specs.Views.{IsViewOf, IsMessageView}
 use Rattle.tau_views.specs.declared.views.ViewChange.{ViewChange}
 use Rattle.tau_views.specs.Kept.{IsTrimmed, AreViews}
 use Rattle.tau_views.specs.Changes.{with_item, with_last, without_item, with_letter, own_after, letters_after}
 use Rattle.tau_views.proofs.Lists.{length-with_item, length-without_item, left_in, left_other, taken_out}
-use Rattle.tau_views.proofs.Appended.{one_if, born_then, sent_then, acts_here, flew, flies_on, not_removed, new_flies, message_stays, after_step, at_end}
+use Rattle.tau_views.proofs.Appended.{message_stays, after_step, at_end}
 
 -- the actor's view changes to one that it has after the step, or stays one
 abbrev pub OwnFollows : EdgeTest → RootTest → Run → Step → Option (ℕ × Held) → Type 0

@@ -16,6 +16,7 @@ use Rattle.tau_trace.specs.Known.{MayFollow, WellFormed}
 use Rattle.tau_trace.proofs.Agreement.{agree_appended, history-same}
 use Rattle.tau_trace.proofs.Counted.{history-suc, move_at-own}
 use Rattle.tau_past.specs.Heard.{heard_by}
+use Rattle.tau_rules.proofs.AppendedRuns.{here, born_then, does_here, well_formed_then}
 use Rattle.tau_views.specs.Views.{IsViewOf, IsMessageView}
 use Rattle.tau_views.specs.Laws.{only_hears}
 use Rattle.tau_views.specs.declared.views.Views.{Views}
@@ -25,7 +26,7 @@ use Rattle.tau_views.specs.Inner.Trims.{IsAfter, IsAfterBoth}
 use Rattle.tau_views.specs.Inner.Next.{IsNext, AreNext}
 use Rattle.tau_views.proofs.HeardLaws.{views_have_the_own_history}
 use Rattle.tau_views.proofs.Trimmed.{same_history}
-use Rattle.tau_views.proofs.Appended.{here, born_then, does_here, well_formed_then, message_stays, after_step}
+use Rattle.tau_views.proofs.Appended.{message_stays, after_step}
 use Rattle.tau_views.proofs.Next.{own_change, actor_exists, may_move, history_then, next_own}
 
 -- with a message's facts the view has still its own history: it has it after a Drop, which could follow

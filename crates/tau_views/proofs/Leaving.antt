@@ -13,13 +13,14 @@ use Rattle.tau_trace.specs.Run.{Run, len, appended}
 use Rattle.tau_trace.specs.Histories.{history, move_of, move_at}
 use Rattle.tau_trace.proofs.Counted.{move_at-own}
 use Rattle.tau_past.specs.Heard.{heard_by}
+use Rattle.tau_rules.proofs.AppendedRuns.{here, does_here}
 use Rattle.tau_views.specs.Views.{IsViewOf}
 use Rattle.tau_views.specs.declared.views.Views.{Views}
 use Rattle.tau_views.specs.declared.views.ViewChange.{ViewChange}
 use Rattle.tau_views.specs.Kept.{held_of}
 use Rattle.tau_views.specs.Inner.Trims.{IsAfter}
 use Rattle.tau_views.specs.Inner.Next.{IsNext, AreNext}
-use Rattle.tau_views.proofs.Appended.{here, does_here, after_step}
+use Rattle.tau_views.proofs.Appended.{after_step}
 use Rattle.tau_views.proofs.Next.{IsPlain, own_change, actor_exists, own_history_is, may_move, history_then, next_own}
 
 plain_fall : (b : Bool) (s : Step) → move_of b s ≡ fall → IsPlain s

@@ -26,3 +26,5 @@ pub mod Making
 pub mod Leaving
 pub mod Opens
 pub mod Judges
+pub mod ReadingLemmas
+pub mod Fronts

@@ -12,6 +12,7 @@ use Rattle.tau_trace.specs.Steps.{actor, removed_by, is_new, is_send, makes_mess
 use Rattle.tau_trace.specs.Run.{Run, len, step_at, appended}
 use Rattle.tau_trace.specs.Numbering.{born, sent, IsNew, IsSent, IsEchoed, IsRepeated}
 use Rattle.tau_trace.proofs.Lists.{same_some}
+use Rattle.tau_rules.proofs.AppendedRuns.{here, born_here, sent_here, does_here}
 use Rattle.tau_views.specs.Views.{IsViewOf, IsMessageView}
 use Rattle.tau_views.specs.Laws.{ViewAfterStep, with_newborn}
 use Rattle.tau_views.specs.declared.views.Views.{Views}
@@ -19,7 +20,7 @@ use Rattle.tau_views.specs.declared.views.ViewChange.{ViewChange}
 use Rattle.tau_views.specs.Kept.{held_of, letters_of}
 use Rattle.tau_views.specs.Inner.Trims.{IsAfter}
 use Rattle.tau_views.specs.Inner.Next.{IsNext, AreNext, only_removes}
-use Rattle.tau_views.proofs.Appended.{here, born_here, sent_here, does_here, message_stays, after_step}
+use Rattle.tau_views.proofs.Appended.{message_stays, after_step}
 use Rattle.tau_views.proofs.Next.{actor_exists, unborn_history, next_by}
 use Rattle.tau_views.proofs.ViewSteps.{copies_have_their_view}
 use Rattle.tau_trace.specs.Known.{IsKnownAt}

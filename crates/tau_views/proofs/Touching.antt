@@ -15,6 +15,7 @@ use Rattle.tau_trace.specs.Points.{point_at}
 use Rattle.tau_trace.proofs.Agreement.{agree_appended}
 use Rattle.tau_past.specs.Carried.{touches, is_set}
 use Rattle.tau_past.proofs.Agreement.{point-same}
+use Rattle.tau_rules.proofs.AppendedRuns.{here, does_here}
 use Rattle.tau_views.specs.Views.{IsViewOf}
 use Rattle.tau_views.specs.Laws.{only_touches}
 use Rattle.tau_views.specs.declared.views.Views.{Views}
@@ -22,7 +23,7 @@ use Rattle.tau_views.specs.declared.views.ViewChange.{ViewChange}
 use Rattle.tau_views.specs.Kept.{held_of}
 use Rattle.tau_views.specs.Inner.Trims.{IsAfter}
 use Rattle.tau_views.specs.Inner.Next.{IsNext, AreNext}
-use Rattle.tau_views.proofs.Appended.{here, does_here, after_step}
+use Rattle.tau_views.proofs.Appended.{after_step}
 use Rattle.tau_views.proofs.Next.{IsPlain, own_change, actor_exists, turn_then, history_then, next_own}
 
 plain_touch : (s : Step) → IsTrue (only_touches s) → IsPlain s

@@ -1,4 +1,5 @@
 pub mod DecisionLaws
+pub mod FittingLaws
 pub mod NamedPoints
 pub mod Views
 pub mod Laws

@@ -1,6 +1,7 @@
 //! Laws of the views of what was heard, each the contract of a function that does nothing.
 ghost use Rattle.tau_views.specs.Laws.{ViewsStepByStep, StartsOpenAlone, PostsHaveHeardNothing, CopiesHaveTheirView, ViewsHaveTheOwnHistory, ViewsLackTheUnborn, ViewsAreComparable, MergedViewsAreLater, ViewsAreLocal};
 ghost use Rattle.tau_views.specs.DecisionLaws.{FallsAlike, DropsAlike, FreeAlike, ViewsAreSettled, MessageViewsAreSettled, MergedViewsAreSettled, VerdictsAgree, FreedomAgrees};
+ghost use Rattle.tau_views.specs.FittingLaws.{FittingViewsAreSettled, FittingMessageViewsAreSettled, FittingMergedViewsAreSettled};
 ghost use Rattle.tau_views.specs.NamedPoints.{VerdictsNameFallen, FreedomNamesNotFirm};
 
 use tau_view::View;
@@ -59,6 +60,14 @@ pub fn views_are_settled()
     ensures own { ViewsAreSettled }
     ensures message { MessageViewsAreSettled }
     ensures merged { MergedViewsAreSettled }
+{}
+
+/// Whatever the program, in a trace in which every step fits the views of what was heard are settled: each point of the known past
+/// of a Closed point is firm, on a transactor's view, on a message's, and on the two merged (docs/definitions.md, "Settled").
+pub fn fitting_views_are_settled()
+    ensures own { FittingViewsAreSettled }
+    ensures message { FittingMessageViewsAreSettled }
+    ensures merged { FittingMergedViewsAreSettled }
 {}
 
 /// Whatever a type of view drops, the decisions on its views are those by what was heard.

@@ -1,6 +1,5 @@
-use Rattle.std.proofs.Common.{◌≡◌, ◌∙◌, ap, sym, subst, length, List}
+use Rattle.std.proofs.Common.{◌≡◌, ◌∙◌, sym, subst, length, List}
 use Rattle.tau_tree.specs.declared.programs.Program.{Program}
-use Rattle.tau_trace.specs.declared.opening.Opening.{Opening}
 use Rattle.tau_trace.specs.Known.{IsSound}
 use Rattle.tau_trace.specs.Run.{Run}
 use Rattle.tau_script.specs.Openings.{program_opening}

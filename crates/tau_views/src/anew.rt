@@ -7,31 +7,33 @@ ghost use Rattle.tau_script.specs.Openings.{program_opening};
 ghost use Rattle.tau_knowledge.specs.Knowing.{IsReady};
 ghost use Rattle.tau_views.specs.Kept.{AreViews, held_of, letters_of};
 
-use crate::System;
+use crate::views::Views;
 use std::alloc::{AllocError, Global};
 use tau_knowledge::Knowledge;
+use tau_rules::System;
 use tau_script::opening_of;
 use tau_trace::{Step, Trace};
 use tau_tree::Program;
 use tau_view::View;
-use tau_views::Views;
 
-impl<'p, K: Knowledge + Drop> System<'p, K> {
-    /// The views of what the run's transactors and its messages in flight have heard, without what this type of view drops
-    /// (docs/definitions.md, "View of what was heard"), whatever the form in which the system keeps what was heard. They are made step
-    /// by step, over a copy of the run. The error is want of memory.
-    pub fn views<V: View + Drop>(&self) -> Result<Views<V>, AllocError>
-        ensures { IfOk result (λ v. AreViews V.drops_edge V.drops_root self.now.run (held_of V.held v.own.items) (letters_of V.held v.letters.items)) }
-    {
-        let mut front: Front<V> = Front::open(self.alloc, self.program)?;
-        for place in 0..self.trace.len() {
-            match self.trace.step(place) {
-                Some(step) => front.note(self.alloc, step)?,
-                None => unreachable!(),
-            }
+/// The views of what a system's transactors and its messages in flight have heard, without what this type of view drops
+/// (docs/definitions.md, "View of what was heard"), whatever the form in which the system keeps what was heard. They are made step
+/// by step, over a copy of the run. The error is want of memory.
+pub fn views_of<K: Knowledge + Drop, V: View + Drop>(
+    alloc: Global,
+    system: &System<'_, K>,
+) -> Result<Views<V>, AllocError>
+    ensures { IfOk result (λ v. AreViews V.drops_edge V.drops_root system.now.run (held_of V.held v.own.items) (letters_of V.held v.letters.items)) }
+{
+    let trace = system.trace();
+    let mut front: Front<V> = Front::open(alloc, system.program())?;
+    for place in 0..trace.len() {
+        match trace.step(place) {
+            Some(step) => front.note(alloc, step)?,
+            None => unreachable!(),
         }
-        Ok(front.views)
     }
+    Ok(front.views)
 }
 
 /// The first steps of a run, and their views.

@@ -1,7 +1,7 @@
-use Rattle.std.proofs.Common.{◌≡◌, ◌∙◌, ap, sym, subst}
+use Rattle.std.proofs.Common.{◌∙◌, ap, sym, subst}
 use Rattle.tau_trace.specs.Run.{Run, appended}
 use Rattle.tau_views.specs.Kept.{AreViews, held_of, letters_of}
-use Rattle.tau_rules.proofs.viewing.Front.note.Goals as goal
+use Rattle.tau_views.proofs.anew.Front.note.Goals as goal
 
 pub returns-clause-views : goal.returns-clause-views
 returns-clause-views g c =
