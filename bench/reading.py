@@ -6,9 +6,11 @@
 
 It starts from a few names (`tiers` below), in the last tier from those that the contracts of the top calls cite, and follows,
 definition by definition, what a definition names: what its file has or brings in by `use Rattle.CRATE.specs..`, and the types
-of the program in `src/`, by their fields, or by their models where they have one; of a trait its contracts. A definition is in the first
-tier that reaches it. Lines are those of the definitions, without comments and empty lines. Crates stand in the order of their layers in
-docs/crates.md, and files of a crate so that each comes after those that it imports. What the kit's crates define isn't followed.
+of the program in `src/`, by their fields, or by their models where they have one; of a trait its contracts. Where a law that is
+a contract says all that there is to know of a definition (`LAWS` below), the law is listed in its place, and nothing of the
+definition is followed. A definition is in the first tier that reaches it. Lines are those of the definitions, without comments
+and empty lines. Crates stand in the order of their layers in docs/crates.md, and files of a crate so that each comes after those
+that it imports. What the kit's crates define isn't followed.
 """
 
 import re
@@ -28,6 +30,10 @@ VARIANT = re.compile(r"^ +(\w+) :", re.M)
 RUST_HEAD = re.compile(r"^(?:pub(?:\(\w+\))? )?(struct|enum|type|const|trait) (\w+)", re.M)
 RUST_END = re.compile(r";$|^\}$|\{\}$", re.M)
 WORD = re.compile(r"[^\s(){}\[\],;:=λ→×≡<>&]+")
+
+
+# By crate, module and name: the law, of the same module, that determines a definition.
+LAWS = {("tau_eval", "Same", "same_values"): "SameValuesAreEqual"}
 
 
 @dataclass(frozen=True)
@@ -211,14 +217,25 @@ def named_by(definition):
     return resolved(text, source, definition.file)
 
 
+@cache
+def laws():
+    """The law by which each definition is told that has one."""
+    told = {}
+    for (crate, module, name), law in LAWS.items():
+        file = file_of(crate, module)
+        told[found_at(file, name)] = found_at(file, law)
+    return told
+
+
 def reach(starts, before):
     """The definitions that some reach, but those that were reached before."""
     found, left = set(), list(starts)
     while left:
         definition = left.pop()
+        definition = laws().get(definition, definition)
         if definition not in found and definition not in before:
             found.add(definition)
-            left.extend(named_by(definition))
+            left.extend([] if definition in laws().values() else named_by(definition))
     return found
 
 

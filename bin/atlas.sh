@@ -67,25 +67,38 @@ find_broken() {
         END { look() }' "$room/lines" "$room/storm"
 }
 
+# Hands on what a call of `storm` has told, and ends with its status where there is nothing to go on with.
+hand_lines() {
+    if [ -s "$room/lines" ]; then
+        end_watch
+        cat "$room/lines" >&2 || :
+        [ "$1" -ne 0 ] || begin_watch atlas
+    fi
+    [ "$1" -eq 0 ] || exit "$1"
+}
+
 # Writes a page of how the program of a file ends.
 atlas() {
     read_words "$@"
     [ -x "$program" ] || give_up "atlas needs the built program; \`bin/tau prove\` builds it"
     make_room
     cat -- "$file" >"$room/program" || give_up "$file can't be read"
+    begin_watch atlas
     status=0 broken=
     # shellcheck disable=SC2086
     [ -z "$claim" ] || "$root/bin/tau" storm $words --seed "$seed" --seeds "$seeds" --claim "$claim" "$room/program" >"$room/broken" 2>"$room/lines" || status=$?
     case $status in
     0) ;;
-    12) grep '^tau: ' "$room/lines" >&2 || : ;;
-    *)
-        cat "$room/lines" >&2 || :
-        exit "$status"
+    12)
+        echo 'tau: the claim is broken' >"$room/lines"
+        hand_lines 0
         ;;
+    *) hand_lines "$status" ;;
     esac
+    made=0
     # shellcheck disable=SC2086
-    "$root/bin/tau" storm $words --seed "$seed" --seeds "$seeds" "$room/program" >"$room/storm" || exit
+    "$root/bin/tau" storm $words --seed "$seed" --seeds "$seeds" "$room/program" >"$room/storm" 2>"$room/lines" || made=$?
+    hand_lines "$made"
     [ "$status" -eq 0 ] || broken=$(find_broken)
     ask print | sed -n '/^(at /p' >"$room/script"
     # shellcheck disable=SC2013
@@ -98,6 +111,7 @@ atlas() {
     # (awk reads the variables of its command with escapes, and those of the environment as they are)
     export room file words seed claim status broken css
     LC_ALL=C awk -f "$root/share/atlas.awk" <"$room/storm" >"$room/page" || give_up "making the page failed"
+    end_watch
     cat "$room/page" 2>/dev/null || give_up "writing failed"
     exit "$status"
 }

@@ -65,7 +65,7 @@ function large_told(what, which,    most) {
     row = ""
     most = limit[what]
     sub(/, which.*/, "", most)
-    return which " is too large: " most " are allowed"
+    return which " is too large: " most " are allowed" (what == "value" ? " (docs/formats.md, \"Values\")" : "")
 }
 
 function items(count) {
@@ -159,7 +159,7 @@ function step_told(    head, count, at, kind) {
         token = item[at]
         if (!fits(kind)) return cannot_be(kind)
     }
-    return "its value has no right shape"
+    return "its value has no right shape, or more than " limit["value"] " (docs/formats.md, \"Values\")"
 }
 
 function at_limit(    most) {
