@@ -6,6 +6,7 @@ the peak of the memory, and it ends with 1 where a row isn't what docs/manual.md
 
 - the cases of crates/show_commands, each by a process of its own, of which those are printed that take longest;
 - texts of 16 MiB, and what is one past a limit and no case;
+- small programs that ask again and again what the past of many points holds;
 - standard input, output and error that are closed, full, at their end, no file, or not ready yet;
 - limits on memory, threads, the stack and the size of a file.
 
@@ -353,6 +354,35 @@ def add_past(rows):
                 rows.add(name, run([command, str(number)], lambda: HELD), statuses=[status])
 
 
+# Small programs that ask again and again what the past of many points holds.
+
+# Each creates the next one, and tells one that rolls back each time: no search, since none of these points is doomed.
+FALLS = (
+    b"(nodes 1)\n(behaviour k (let x (new k 0 (get)) (seq (send (name s) 0) (send x 3))))\n(behaviour r (rollback))\n"
+    b"(start a k 0 0)\n(start s r 0 0)\n(post a 3)\n"
+)
+
+# A chain of 1,000 stable ones, of which the last asks in each turn whether it depends on one that isn't firm.
+ASKS = (
+    b"(nodes 1)\n(behaviour k (if (< msg 1000) (seq (stabilize) (let x (new k 0 (get)) (send x (+ msg 1))))"
+    b" (seq (set msg) (stabilize) (dependent) (send self msg))))\n(start a k 0 0)\n(post a 1)\n"
+)
+PASTS = [
+    ("transactors that create one another, and one that rolls back each time", FALLS, 17_000, ""),
+    ("a chain of stable transactors, of which the last asks in each turn", ASKS, 20_000, STOPPED),
+]
+
+
+def add_pasts(rows):
+    """Programs of a few bytes, and their steps checked."""
+    for title, program, steps, line in PASTS:
+        if not rows.wants(f"run: {title}") and not rows.wants(f"check: {title}"):
+            continue
+        found = run(["run", "--workers", "1", "--steps", str(steps)], lambda program=program: program)
+        rows.add(f"run: {title}", found, line)
+        rows.add(f"check: {title}", run(["check"], lambda found=found: found.text), "")
+
+
 # Ends.
 
 
@@ -554,6 +584,7 @@ def main():
         add_texts,
         add_long_run,
         add_past,
+        add_pasts,
         add_inputs,
         add_outputs,
         add_fronts,

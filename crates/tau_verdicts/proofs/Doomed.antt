@@ -335,12 +335,3 @@ module _ (T : Run) (n : ℕ) (D : ℕ → Bool) (K : ℕ → List Point) (x : Ar
   leaving_noted None (nobody stays) = stay T n D K x (λ u. (points_grow T u n).stays (stays u)) (λ t f q b. absurd (none (point_at T t (suc n)) q b))
   leaving_noted (Some w) (closes c) = left_noted w (inl c) (inl c)
   leaving_noted (Some w) (falls e d) = left_noted w (inr e) (inr d)
-
--- before the first step nothing is doomed
-pub none_noted : (T : Run) → AreNoted T 0 (λ u. false) (λ u. [])
-none_noted T = record {
-  spread = λ u p d c e. absurd (let clash : false ≡ true = d in cc);
-  accounted = λ t f j q lt b. absurd (omega (arith, lt));
-  exist = λ u p c. absurd (Contains-none p c);
-  reached = λ u p c. absurd (Contains-none p c);
-}

@@ -1,5 +1,6 @@
 pub mod Cleanness
 pub mod Doomed
+pub mod Lasting
 pub mod Lists
 pub mod Receipts
 pub mod Spreads

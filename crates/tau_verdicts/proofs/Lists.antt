@@ -12,7 +12,7 @@ use Rattle.tau_points.specs.declared.point.Point.{Point}
 use Rattle.tau_points.proofs.Membership.{Contains-none, Contains-cons_cases}
 use Rattle.tau_versions.specs.Logs.Told.{Told}
 use Rattle.tau_verdicts.specs.Noting.{IsListed, AreAdded}
-use Rattle.tau_verdicts.specs.Doomed.{doomed_of, takers_of}
+use Rattle.tau_verdicts.specs.Doomed.{flag_of, takers_of}
 
 -- a clause for the answer true, made weaker
 pub on_true : (b : Bool) (P Q : Type 0) → (P → Q) → OnTrue b P → OnTrue b Q
@@ -28,10 +28,10 @@ true_when true P f = f refl
 true_when false P f = tt
 
 -- who is doomed stands in the list
-pub doomed_at : (xs : List Bool) (u : ℕ) → slice_get xs u ≡ Some true → IsTrue (doomed_of xs u)
+pub doomed_at : (xs : List Bool) (u : ℕ) → slice_get xs u ≡ Some true → IsTrue (flag_of xs u)
 doomed_at xs u e = ap (λ (o : Option Bool). option_map_or (λ b. b) o false) e
 
-pub doomed_stands : (xs : List Bool) (u : ℕ) → IsTrue (doomed_of xs u) → slice_get xs u ≡ Some true
+pub doomed_stands : (xs : List Bool) (u : ℕ) → IsTrue (flag_of xs u) → slice_get xs u ≡ Some true
 doomed_stands xs u d = by (slice_get xs u) refl where
   F : Option Bool → Bool
   F = λ o. option_map_or (λ b. b) o false
@@ -42,7 +42,7 @@ doomed_stands xs u d = by (slice_get xs u) refl where
   by (Some false) e = absurd (let clash : false ≡ true = sym (ap F e) ∙ d in cc)
 
 -- places that are added at the end are those of who isn't doomed
-pub doomed_filled : (xs : List Bool) (k u : ℕ) → doomed_of (xs ++ replicate k false) u ≡ doomed_of xs u
+pub doomed_filled : (xs : List Bool) (k u : ℕ) → flag_of (xs ++ replicate k false) u ≡ flag_of xs u
 doomed_filled [] zero u = refl
 doomed_filled [] (suc k) zero = refl
 doomed_filled [] (suc k) (suc u) = doomed_filled [] k u
@@ -55,10 +55,6 @@ takers_pushed [] v zero e = e
 takers_pushed [] v (suc u) e = refl
 takers_pushed (x ∷ xs) v zero e = refl
 takers_pushed (x ∷ xs) v (suc u) e = takers_pushed xs v u e
-
--- what stands at the same place is the same
-pub takers_same : (xs ys : List (Vec Point Global)) (u : ℕ) → slice_get xs u ≡ slice_get ys u → takers_of xs u ≡ takers_of ys u
-takers_same xs ys u e = ap (λ (o : Option (Vec Point Global)). option_map_or (λ v. v.items) o []) e
 
 -- Takers that are added.
 

@@ -1,18 +1,15 @@
 -- A doomed point dooms those that have taken it.
-use Rattle.std.proofs.Common.{◌≡◌, ◌⊎◌, ◌↔◌, inl, inr, ⊎_elim, ℕ, zero, suc, ◌+◌, ◌<◌, ◌≤◌, Bool, true, false, List, [], ◌∷◌, ◌++◌, length, take, get_or, set, Some, refl, sym, ap, ◌∙◌, subst, arith, length-set, length-append}
+use Rattle.std.proofs.Common.{◌≡◌, ◌⊎◌, ◌↔◌, inl, inr, ⊎_elim, ℕ, zero, suc, ◌+◌, ◌<◌, Bool, true, false, List, [], ◌∷◌, ◌++◌, length, take, get_or, set, Some, refl, sym, ap, ◌∙◌, subst, arith, length-set, length-append}
 use Rattle.std.specs.Prelude.{slice_get, Contains}
 use Rattle.std.proofs.lemmas.Bool.{cases_eq}
 use Rattle.std.proofs.lemmas.List.{take_more}
 use Rattle.std.proofs.lemmas.List.Elements.{Contains-append_left, Contains-push, Contains-push_cases}
 use Rattle.tau_points.specs.declared.point.Point.{Point}
-use Rattle.tau_points.proofs.Membership.{Contains-none}
 use Rattle.tau_past.specs.Pasts.{Is}
 use Rattle.tau_versions.specs.Logs.Told.{Told}
 use Rattle.tau_versions.specs.Search.Walks.{Meets, known, fresh, unmet}
 use Rattle.tau_versions.proofs.Meeting.{set_here, set_other}
-use Rattle.tau_verdicts.specs.Doomed.{doomed_of}
-use Rattle.tau_verdicts.specs.Spreading.{IsSpread, IsPassed, Comes, Spreads}
-use Rattle.tau_verdicts.proofs.Lists.{doomed_at, doomed_stands}
+use Rattle.tau_verdicts.specs.Spreading.{IsPassed, Comes, Spreads}
 
 -- Lists of those met.
 
@@ -148,14 +145,3 @@ module _ (logs : List Told) where
 
     pub spreads_end : (met : List Bool) (left : List ℕ) → left ≡ [] → Spreads logs takers who met0 met left → Spreads logs takers who met0 met []
     spreads_end met left e s = let F : List ℕ → Type 0 = Spreads logs takers who met0 met in subst F e s
-
-    -- what was met at the end
-    pub spread_end : (doomed : ℕ → Bool) (met : List Bool) → ((u : ℕ) → doomed_of met0 u ≡ doomed u) → length logs + 1 ≤ length met0 → Spreads logs takers who met0 met [] → IsSpread logs takers who doomed (doomed_of met)
-    spread_end doomed met same count s = record {
-      kept = λ u d. doomed_at met u (s.kept u (doomed_stands met0 u (same u ∙ d)));
-      begun = doomed_at met who s.begun;
-      passed = λ u p d c few. ⊎_elim
-          (λ h. inl (sym (same u) ∙ doomed_at met0 u h))
-          (λ h. ⊎_elim (λ x. inr (⊎_elim (λ l. inl l) (λ e. inr (doomed_at met p.who e)) (x (omega (arith, s.count, count, few))))) (λ l. absurd (Contains-none u l)) h)
-          (s.passed u p (doomed_stands met u d) c);
-    }

@@ -36,11 +36,12 @@ use Rattle.tau_heard.proofs.Sending.{new_of}
 use Rattle.tau_heard.proofs.Turns.{along_pending}
 use Rattle.tau_verdicts.specs.Clean.{GoesOn}
 use Rattle.tau_verdicts.specs.Doomed.{AreNoted, AreDoomed, cleared}
+use Rattle.tau_verdicts.specs.Freedom.{LeavesAtMost}
 use Rattle.tau_verdicts.specs.Kinds.{taker, faller, closer}
 use Rattle.tau_verdicts.specs.Latest.{latest}
 use Rattle.tau_verdicts.specs.Noting.{IsListed, AreListed, AreAdded, MayTake, AreNew}
 use Rattle.tau_verdicts.specs.Spreading.{IsSpread}
-use Rattle.tau_verdicts.proofs.Doomed.{up_refl, first_up, more_doomed, more_takers, IsTaking, IsHandled, closed, taken, listed, taking_noted, IsLeaving, nobody, closes, falls, leaving_noted}
+use Rattle.tau_verdicts.proofs.Doomed.{more_doomed, more_takers, IsTaking, IsHandled, closed, taken, listed, taking_noted, IsLeaving, nobody, closes, falls, leaving_noted}
 use Rattle.tau_verdicts.proofs.Telling.{closed_told, present_told, left_told, taken_told}
 
 -- By a step that makes no point take others none takes.
@@ -116,18 +117,38 @@ closer_is x u e = absurd (cc)
 
 -- However the run goes on.
 
+pub goes_before : (T : Run) (s : Step) (V : Run) → GoesOn (appended T s) (suc (len T)) V → GoesOn T (len T) V
+goes_before T s V go =
+    let a = agree_appended T s in
+    record { known = go.known; agree = record { opening = a.opening ∙ go.agree.opening; steps = λ j lt. a.steps j lt ∙ go.agree.steps j (omega (arith, lt)) }; rules = go.rules }
+
+pub goes_here : (T : Run) (s : Step) (V : Run) → GoesOn (appended T s) (suc (len T)) V → step_at V (len T) ≡ Some s
+goes_here T s V go = sym (go.agree.steps (len T) (omega arith)) ∙ step_at-appended T s
+
 -- what is noted is right in the run with one step more, where it is in each that goes on with the step
 leads : (T : Run) (s : Step) (D : ℕ → Bool) (K : ℕ → List Point) (l : Option ℕ) → AreDoomed T (len T) D K
     → ((V : Run) → GoesOn T (len T) V → step_at V (len T) ≡ Some s → AreNoted V (len T) D K → AreNoted V (suc (len T)) (cleared l false D) (cleared l [] K))
     → AreDoomed (appended T s) (len (appended T s)) (cleared l false D) (cleared l [] K)
-leads T s D K l are on = let F : ℕ → Type 0 = λ k. AreDoomed (appended T s) k (cleared l false D) (cleared l [] K) in subst F (sym (len-appended T s)) later where
-  before : (V : Run) → GoesOn (appended T s) (suc (len T)) V → GoesOn T (len T) V
-  before V go =
-      let a = agree_appended T s in
-      record { known = go.known; agree = record { opening = a.opening ∙ go.agree.opening; steps = λ j lt. a.steps j lt ∙ go.agree.steps j (omega (arith, lt)) }; rules = go.rules }
+leads T s D K l are on =
+    let F : ℕ → Type 0 = λ k. AreDoomed (appended T s) k (cleared l false D) (cleared l [] K) in
+    subst F (sym (len-appended T s)) (λ V go. let before = goes_before T s V go in on V before (goes_here T s V go) (are V before))
 
-  later : (V : Run) → GoesOn (appended T s) (suc (len T)) V → AreNoted V (suc (len T)) (cleared l false D) (cleared l [] K)
-  later V go = on V (before V go) (sym (go.agree.steps (len T) (omega arith)) ∙ step_at-appended T s) (are V (before V go))
+-- Who leaves its point at most.
+
+pub closer_leaves : (T : Run) (s : Step) → None ≡ faller s → LeavesAtMost T s (closer s)
+closer_leaves T s f = λ V go here u l. by V here u l where
+  by : (V : Run) → step_at V (len T) ≡ Some s → (u : ℕ) → Leaves V u (len T) → closer s ≡ Some u
+  by V here u (inl c) = closing_is V (len T) s here u c
+  by V here u (inr e) = absurd (let clash : None ≡ Some u = f ∙ falling_is V (len T) s here u (falls_falling V u (len T) e) in cc)
+
+pub faller_leaves : (T : Run) (s : Step) (t : ℕ) → Some t ≡ faller s → LeavesAtMost T s (Some t)
+faller_leaves T s t e = λ V go here u l. by V here u l where
+  by : (V : Run) → step_at V (len T) ≡ Some s → (u : ℕ) → Leaves V u (len T) → Some t ≡ Some u
+  by V here u (inl c) = absurd (let clash : None ≡ Some u = closer_none V (len T) s here t e ∙ closing_is V (len T) s here u c in cc)
+  by V here u (inr f) = e ∙ falling_is V (len T) s here u (falls_falling V u (len T) f)
+
+pub stable_leaves : (T : Run) (s : Step) (t : ℕ) → Some t ≡ faller s → falls_if_volatile s ≡ true → IsTrue (history T t (len T)).stable → LeavesAtMost T s None
+stable_leaves T s t e v stable = λ V go here u l. absurd (stable_stays V (len T) s here t e v (ap (λ h. h.stable) (sym (history-same t (len T) go.agree)) ∙ stable) u l)
 
 module _ (T : Run) (s : Step) (D : ℕ → Bool) (K : ℕ → List Point) (are : AreDoomed T (len T) D K) where
   -- a step that is neither a Set nor a New, and none that may fall
@@ -182,14 +203,6 @@ module _ (T : Run) (h : Hearing) (knows : Knows h T) (w : WellFormed T) (D : ℕ
   added_doomed p M may a = λ V go.
       let F : Point → Type 0 = IsUpTo p in
       more_takers V (len T) D K (are V go) M p a (omega (arith, may.exists, born-same (len T) go.agree)) (subst F (point-same p.who (len T) go.agree) may.reached)
-
-pub me_may : (T : Run) (t : ℕ) (me : Point) → t < born T (len T) → me ≡ point_at T t (len T) → MayTake T me
-me_may T t me lt is =
-    let F : Point → Type 0 = MayTake T in
-    subst F (sym is) (record { exists = omega (arith, lt); reached = up_refl (point_at T t (len T)) })
-
-pub first_may : (T : Run) (b : ℕ) → b ≡ born T (len T) → MayTake T (first_point b)
-first_may T b is = record { exists = omega (arith, is); reached = first_up b (point_at T b (len T)) }
 
 -- what a turn takes along is its own point, or a root, where it hasn't depended
 along_cases : (touched depended : Bool) (me : Point) (roots : List Point) (q : Point) → Contains (taken_along touched depended me roots) q → (q ≡ me) ⊎ (depended ≡ false) × Contains roots q
@@ -300,14 +313,6 @@ pub set_leads_on : (T : Run) (s : Step) (t : ℕ) → actor s ≡ Some t → (h 
 set_leads_on T s t by h knows w D K are lt me is set points new noted = set_leads T s t by h knows w D K are there.0 there.1 me is set points (new there.0 there.1) noted where
   there : (x : Own) × (slice_get h.own.items t ≡ Some x)
   there = ⊎_elim (λ x. (x.0, x.2)) (λ p. absurd (omega (arith, p.0, knows.transactors, lt))) (slice_get_cases h.own.items t).1
-
--- The transactor whose step makes a point take others, or may fall, exists.
-pub taker_exists : (T : Run) (s : Step) (t : ℕ) → MayFollow T s → Some t ≡ taker s → t < born T (len T)
-taker_exists T s t follows is = by s is follows.known where
-  by : (x : Step) → Some t ≡ taker x → IsKnownAt T (len T) x → t < born T (len T)
-  by (Set u v) e k = let F : ℕ → Type 0 = λ w. w < born T (len T) in subst F (sym (same_some e)) k.0
-  by (New u b n v) e k = let F : ℕ → Type 0 = λ w. w < born T (len T) in subst F (sym (same_some e)) k.0
-  by x e k = absurd (cc)
 
 pub faller_exists : (T : Run) (s : Step) (t : ℕ) → MayFollow T s → Some t ≡ faller s → t < born T (len T)
 faller_exists T s t follows is = by s is follows.known where

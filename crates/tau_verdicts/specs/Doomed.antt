@@ -13,9 +13,9 @@ use Rattle.tau_past.specs.Pasts.{PastIn, Is}
 use Rattle.tau_versions.specs.Logs.Takes.{ClosedIn}
 use Rattle.tau_verdicts.specs.Clean.{Before, GoesOn}
 
--- whether u's present point is doomed; nothing is kept of one that isn't
-abbrev pub doomed_of : List Bool → ℕ → Bool
-doomed_of doomed u = option_map_or (λ b. b) (slice_get doomed u) false
+-- the flag of u in a list; where nothing is kept of u it is false
+abbrev pub flag_of : List Bool → ℕ → Bool
+flag_of flags u = option_map_or (λ b. b) (slice_get flags u) false
 
 -- the points that have taken u's present point, and such as may have
 abbrev pub takers_of : List (Vec Point Global) → ℕ → List Point

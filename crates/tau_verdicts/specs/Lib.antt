@@ -1,5 +1,6 @@
 pub mod Clean
 pub mod Doomed
+pub mod Freedom
 pub mod Kept
 pub mod Kinds
 pub mod Latest

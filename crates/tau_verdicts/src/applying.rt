@@ -1,7 +1,7 @@
 //! Changes applied, in room that was made before.
 ghost use Rattle.std.specs.Prelude.{◌≡◌, ◌≢◌, ◌<◌, ℕ, [], false, length, slice_get};
 ghost use Rattle.tau_heard.specs.After.{HasRoom, IsAfter};
-ghost use Rattle.tau_verdicts.specs.Doomed.{doomed_of, takers_of, cleared};
+ghost use Rattle.tau_verdicts.specs.Doomed.{flag_of, takers_of, cleared};
 
 use crate::change::MarkedChange;
 use crate::marked::MarkedHearing;
@@ -9,27 +9,29 @@ use tau_points::Point;
 
 impl MarkedHearing {
     /// Applies a change, in the room that there is, without memory. The next point of a transactor that leaves its point isn't doomed
-    /// and has no takers.
+    /// and has no takers, and it isn't known to be free there.
     pub fn change(&mut self, change: MarkedChange)
         requires { HasRoom self.old.hearing change.change }
         ensures hearing { IsAfter self.old.hearing change.change self.new.hearing }
-        ensures doomed { (u : ℕ) → doomed_of self.new.doomed.items u ≡ cleared change.leaves false (doomed_of self.old.doomed.items) u }
+        ensures doomed { (u : ℕ) → flag_of self.new.doomed.items u ≡ cleared change.leaves false (flag_of self.old.doomed.items) u }
+        ensures free { (u : ℕ) → flag_of self.new.free.items u ≡ cleared change.leaves false (flag_of self.old.free.items) u }
         ensures takers { (u : ℕ) → takers_of self.new.takers.items u ≡ cleared change.leaves [] (takers_of self.old.takers.items) u }
     {
         let MarkedChange { change, leaves } = change;
         self.hearing.change(change);
-        save(&mut self.doomed, leaves);
+        lower(&mut self.doomed, leaves);
         clear(&mut self.takers, leaves);
+        lower(&mut self.free, leaves);
     }
 }
 
-/// The present point of this transactor, if there is one, isn't doomed.
-fn save(doomed: &mut Vec<bool>, who: Option<u32>)
-    ensures { (u : ℕ) → doomed_of doomed.new.items u ≡ cleared who false (doomed_of doomed.old.items) u }
+/// Lowers the flag of this transactor, if there is one.
+fn lower(flags: &mut Vec<bool>, who: Option<u32>)
+    ensures { (u : ℕ) → flag_of flags.new.items u ≡ cleared who false (flag_of flags.old.items) u }
 {
     if let Some(who) = who {
-        if (who as usize) < doomed.len() {
-            doomed[who as usize] = false;
+        if (who as usize) < flags.len() {
+            flags[who as usize] = false;
         }
     }
 }

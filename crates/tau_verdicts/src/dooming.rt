@@ -6,13 +6,14 @@ ghost use Rattle.tau_trace.specs.Numbering.{born};
 ghost use Rattle.tau_trace.specs.Histories.{history};
 ghost use Rattle.tau_trace.specs.Known.{MayFollow};
 ghost use Rattle.tau_heard.specs.Hears.{Knows};
-ghost use Rattle.tau_verdicts.specs.Doomed.{doomed_of};
+ghost use Rattle.tau_verdicts.specs.Doomed.{flag_of};
+ghost use Rattle.tau_verdicts.specs.Freedom.{LeavesAtMost};
 ghost use Rattle.tau_verdicts.specs.Kept.{KnowsMarked, LeadsNoted};
 ghost use Rattle.tau_verdicts.specs.Kinds.{faller};
 
 use crate::kinds::falls_if_volatile;
 use crate::marked::MarkedHearing;
-use crate::noting::is_doomed;
+use crate::noting::flag;
 use crate::spreading::doomed_from;
 use std::alloc::{AllocError, Global};
 use tau_trace::{Step, Trace};
@@ -26,11 +27,11 @@ impl MarkedHearing {
         requires few { who ≤ born trace.now.run (len trace.now.run) }
         ensures knows { KnowsMarked self.new trace.now.run }
         ensures hearing { self.new.hearing ≡ self.old.hearing }
-        ensures ok { OnOk result (IsTrue (doomed_of self.new.doomed.items who)) }
+        ensures ok { OnOk result (IsTrue (flag_of self.new.doomed.items who)) }
     {
         // Its contract says that the trace is well-formed.
         let _steps = trace.len();
-        if is_doomed(&self.doomed, who) {
+        if flag(&self.doomed, who) {
             return Ok(());
         }
         let doomed = doomed_from(alloc, &self.hearing.logs, &self.takers, &self.doomed, who)?;
@@ -51,6 +52,7 @@ impl MarkedHearing {
         requires by { Some who ≡ faller step.now }
         ensures knows { KnowsMarked self.new trace.now.run }
         ensures ok { IfOk result (λ l. LeadsNoted self.new l (appended trace.now.run step.now)) }
+        ensures leaves { IfOk result (λ l. LeavesAtMost trace.now.run step.now l) }
     {
         if falls_if_volatile(step) && self.is_stable(trace, who) {
             return Ok(None);

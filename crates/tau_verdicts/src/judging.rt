@@ -9,7 +9,7 @@ ghost use Rattle.tau_knowledge.specs.Knowing.{judged};
 ghost use Rattle.tau_verdicts.specs.Kept.{KnowsMarked};
 
 use crate::marked::MarkedHearing;
-use crate::noting::{are_well, is_doomed};
+use crate::noting::{are_well, flag};
 use std::alloc::{AllocError, Global};
 use tau_knowledge::Receipt;
 use tau_trace::Trace;
@@ -46,7 +46,7 @@ impl MarkedHearing {
     {
         // Its contract says that the trace is well-formed.
         let _steps = trace.len();
-        if is_doomed(&self.doomed, who) {
+        if flag(&self.doomed, who) {
             return false;
         }
         let letter = self.hearing.letter_of(trace, message);

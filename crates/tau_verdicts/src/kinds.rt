@@ -1,7 +1,7 @@
 //! Kinds of steps by which a point takes others, or is left.
 ghost use Rattle.std.specs.Prelude.{◌≡◌};
 ghost use Rattle.tau_heard.specs.Next.{falls_if_volatile};
-ghost use Rattle.tau_verdicts.specs.Kinds.{taker, faller, closer};
+ghost use Rattle.tau_verdicts.specs.Kinds.{taker, faller, closer, free_asker};
 
 use tau_trace::Step;
 
@@ -39,6 +39,16 @@ pub(crate) fn closer(step: &Step) -> Option<u32>
 {
     match step {
         Step::Checkpoint { who } => Some(*who),
+        _ => None,
+    }
+}
+
+/// The transactor that asks whether it depends on anything that isn't firm, and is told that it doesn't.
+pub(crate) fn free_asker(step: &Step) -> Option<u32>
+    ensures { result ≡ free_asker step.now }
+{
+    match step {
+        Step::Ask { who, answer: false } => Some(*who),
         _ => None,
     }
 }

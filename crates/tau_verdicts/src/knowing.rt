@@ -43,6 +43,6 @@ impl Knowledge for MarkedHearing {
     }
 
     fn is_free(&self, alloc: Global, trace: &Trace, who: u32) -> Result<bool, AllocError> {
-        self.hearing.free(alloc, trace, who)
+        self.free(alloc, trace, who)
     }
 }

@@ -8,6 +8,7 @@ pub use marked::MarkedHearing;
 mod applying;
 mod change;
 mod dooming;
+mod freedom;
 mod judging;
 mod kinds;
 mod knowing;

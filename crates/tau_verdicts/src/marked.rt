@@ -10,8 +10,8 @@ use tau_heard::Hearing;
 use tau_points::Point;
 
 /// What the transactors and messages of a run have heard, and of each transactor whether its present point is doomed, and which
-/// points have taken that (docs/definitions.md, "Clean"). Where nothing is kept of a transactor, its point isn't doomed, and
-/// has no takers.
+/// points have taken that (docs/definitions.md, "Clean"), and whether it was found free there. Where nothing is kept of a transactor, its
+/// point isn't doomed and has no takers, and it wasn't found free.
 #[derive(Drop)]
 pub struct MarkedHearing {
     /// What was heard.
@@ -20,6 +20,8 @@ pub struct MarkedHearing {
     pub doomed: Vec<bool>,
     /// The points that have taken the present point of a transactor. Some may be left, or may not have taken it.
     pub takers: Vec<Vec<Point>>,
+    /// Whether a transactor was found free at its present point, which it is then until it leaves that.
+    pub free: Vec<bool>,
 }
 
 impl MarkedHearing {
@@ -30,14 +32,15 @@ impl MarkedHearing {
         let hearing = Hearing::begin(alloc, starts, posts)?;
         Ok(MarkedHearing {
             hearing,
-            doomed: none_doomed(alloc),
+            doomed: no_flags(alloc),
             takers: no_takers(alloc),
+            free: no_flags(alloc),
         })
     }
 }
 
-/// Nothing is doomed.
-fn none_doomed(alloc: Global) -> Vec<bool>
+/// No flag.
+fn no_flags(alloc: Global) -> Vec<bool>
     ensures { result.items ≡ [] }
 {
     Vec::new(alloc)

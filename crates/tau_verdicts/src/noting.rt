@@ -3,7 +3,7 @@ ghost use Rattle.std.specs.Bool.{OnTrue};
 ghost use Rattle.tau_points.specs.declared.point.Point.{Point};
 ghost use Rattle.std.specs.Prelude.{◌≡◌, ◌≢◌, ◌⊎◌, ◌<◌, ◌≤◌, ◌++◌, ◌∷◌, [], ℕ, length, slice_get, Contains, IfOk, OnOk};
 ghost use Rattle.tau_history.specs.declared.fate.Fate.TheVariants.{Closed};
-ghost use Rattle.tau_verdicts.specs.Doomed.{doomed_of, takers_of};
+ghost use Rattle.tau_verdicts.specs.Doomed.{flag_of, takers_of};
 ghost use Rattle.tau_verdicts.specs.Noting.{IsWell, AreWell, IsListed, AreListed, AreAdded};
 
 use crate::latest::fate_now;
@@ -14,31 +14,31 @@ use tau_versions::logs::Log;
 use tau_versions::roots::Roots;
 use tau_versions::search::goes_on;
 
-/// Whether the present point of a transactor is doomed.
-pub(crate) fn is_doomed(doomed: &[bool], who: u32) -> bool
-    ensures { result ≡ doomed_of doomed.now who }
+/// The flag of a transactor.
+pub(crate) fn flag(flags: &[bool], who: u32) -> bool
+    ensures { result ≡ flag_of flags.now who }
 {
-    match doomed.get(who as usize) {
-        Some(doomed) => *doomed,
+    match flags.get(who as usize) {
+        Some(flag) => *flag,
         None => false,
     }
 }
 
 /// Whether a point is closed, or the present point of a transactor and not doomed.
 pub(crate) fn is_well(logs: &[Log], doomed: &[bool], point: Point) -> bool
-    ensures { OnTrue result (IsWell logs.now (doomed_of doomed.now) point) }
+    ensures { OnTrue result (IsWell logs.now (flag_of doomed.now) point) }
 {
     match fate_now(logs, point) {
         Fate::Closed => true,
-        Fate::Open => !is_doomed(doomed, point.who),
-        Fate::Stable => !is_doomed(doomed, point.who),
+        Fate::Open => !flag(doomed, point.who),
+        Fate::Stable => !flag(doomed, point.who),
         Fate::Ahead | Fate::Fallen => false,
     }
 }
 
 /// Whether each of these points is.
 fn all_well(logs: &[Log], doomed: &[bool], points: &[Point]) -> bool
-    ensures { OnTrue result (AreWell logs.now (doomed_of doomed.now) points.now) }
+    ensures { OnTrue result (AreWell logs.now (flag_of doomed.now) points.now) }
 {
     for point in points {
         if !is_well(logs, doomed, *point) {
@@ -50,7 +50,7 @@ fn all_well(logs: &[Log], doomed: &[bool], points: &[Point]) -> bool
 
 /// Whether each of the points that a message carries is.
 pub(crate) fn are_well(logs: &[Log], doomed: &[bool], roots: &Roots) -> bool
-    ensures { OnTrue result (AreWell logs.now (doomed_of doomed.now) roots.now) }
+    ensures { OnTrue result (AreWell logs.now (flag_of doomed.now) roots.now) }
 {
     let (many, one) = roots.parts();
     if !all_well(logs, doomed, many) {
@@ -72,7 +72,7 @@ fn note(
     taker: Point,
     point: Point,
 ) -> Result<bool, AllocError>
-    ensures added { AreAdded (doomed_of doomed.now) taker (takers_of takers.old.items) (takers_of takers.new.items) }
+    ensures added { AreAdded (flag_of doomed.now) taker (takers_of takers.old.items) (takers_of takers.new.items) }
     ensures listed { IfOk result (λ b. OnTrue b (IsListed logs.now (takers_of takers.new.items) taker point)) }
 {
     let fate = fate_now(logs, point);
@@ -99,10 +99,10 @@ fn note_present(
     taker: Point,
     who: u32,
 ) -> Result<bool, AllocError>
-    ensures added { AreAdded (doomed_of doomed.now) taker (takers_of takers.old.items) (takers_of takers.new.items) }
+    ensures added { AreAdded (flag_of doomed.now) taker (takers_of takers.old.items) (takers_of takers.new.items) }
     ensures listed { IfOk result (λ b. OnTrue b (Contains (takers_of takers.new.items who) taker)) }
 {
-    if is_doomed(doomed, who) {
+    if flag(doomed, who) {
         return Ok(false);
     }
     add_taker(takers, alloc, who, taker)?;
@@ -118,7 +118,7 @@ pub(crate) fn note_all(
     taker: Point,
     points: &[Point],
 ) -> Result<bool, AllocError>
-    ensures added { AreAdded (doomed_of doomed.now) taker (takers_of takers.old.items) (takers_of takers.new.items) }
+    ensures added { AreAdded (flag_of doomed.now) taker (takers_of takers.old.items) (takers_of takers.new.items) }
     ensures listed { IfOk result (λ b. OnTrue b (AreListed logs.now (takers_of takers.new.items) taker points.now)) }
 {
     for point in points {

@@ -4,6 +4,7 @@ ghost use Rattle.tau_trace.specs.Run.{appended};
 ghost use Rattle.tau_trace.specs.Steps.{is_new};
 ghost use Rattle.tau_trace.specs.Known.{MayFollow};
 ghost use Rattle.tau_knowledge.specs.Knowing.{IsReady};
+ghost use Rattle.tau_verdicts.specs.Freedom.{LeavesAtMost};
 ghost use Rattle.tau_verdicts.specs.Kept.{KnowsMarked, LeadsMarked, LeadsNoted};
 ghost use Rattle.tau_verdicts.specs.Kinds.{taker};
 
@@ -15,7 +16,7 @@ use tau_trace::{Step, Trace};
 
 impl MarkedHearing {
     /// What a step at the end of the run changes, with all memory that it takes. What was heard stays the same; points may be
-    /// doomed, and may come to takers. The error is want of memory.
+    /// doomed, and may come to takers, and a transactor may be known to be free from then on. The error is want of memory.
     pub fn prepare_change(
         &mut self,
         alloc: Global,
@@ -28,6 +29,7 @@ impl MarkedHearing {
         ensures ok { IfOk result (λ c. LeadsMarked self.new c (appended trace.now.run step.now)) }
         ensures kept { KnowsMarked self.new trace.now.run }
     {
+        self.note_freedom(alloc, trace, step)?;
         let leaves = self.note_step(alloc, trace, step)?;
         let change = self.hearing.prepare_change(trace, step)?;
         Ok(MarkedChange { change, leaves })
@@ -45,6 +47,7 @@ impl MarkedHearing {
         requires follows { MayFollow trace.now.run step.now }
         ensures knows { KnowsMarked self.new trace.now.run }
         ensures ok { IfOk result (λ l. LeadsNoted self.new l (appended trace.now.run step.now)) }
+        ensures leaves { IfOk result (λ l. LeavesAtMost trace.now.run step.now l) }
     {
         if let Some(who) = taker(step) {
             self.note_taker(alloc, trace, step, who)?;

@@ -3,7 +3,7 @@ ghost use Rattle.std.specs.Bool.{OnTrue};
 ghost use Rattle.std.specs.Prelude.{◌≡◌, ◌<◌, ◌≤◌, ◌+◌, ℕ, [], true, length, slice_get, Some, Contains, IfOk, OnOk};
 ghost use Rattle.tau_past.specs.Pasts.{Is};
 ghost use Rattle.tau_versions.specs.Search.Walks.{Meets};
-ghost use Rattle.tau_verdicts.specs.Doomed.{doomed_of, takers_of};
+ghost use Rattle.tau_verdicts.specs.Doomed.{flag_of, takers_of};
 ghost use Rattle.tau_verdicts.specs.Spreading.{IsLeft, IsSpread, Comes, Spreads};
 
 use crate::latest::fate_now;
@@ -29,7 +29,7 @@ pub(crate) fn doomed_from(
     who: u32,
 ) -> Result<Vec<bool>, AllocError>
     requires { who ≤ length logs.now }
-    ensures { IfOk result (λ v. IsSpread logs.now (takers_of takers.now) who (doomed_of doomed.now) (doomed_of v.items)) }
+    ensures { IfOk result (λ v. IsSpread logs.now (takers_of takers.now) who (flag_of doomed.now) (flag_of v.items)) }
 {
     let mut spread = Spread {
         doomed: copied(alloc, logs, doomed)?,
@@ -41,7 +41,7 @@ pub(crate) fn doomed_from(
 
 /// A copy with a place for each transactor and for the one that comes next. The error is want of memory.
 fn copied(alloc: Global, logs: &[Log], doomed: &[bool]) -> Result<Vec<bool>, AllocError>
-    ensures same { IfOk result (λ v. (u : ℕ) → doomed_of v.items u ≡ doomed_of doomed.now u) }
+    ensures same { IfOk result (λ v. (u : ℕ) → flag_of v.items u ≡ flag_of doomed.now u) }
     ensures count { IfOk result (λ v. length logs.now + 1 ≤ length v.items) }
 {
     let Some(count) = logs.len().checked_add(1) else {

@@ -10,7 +10,7 @@ ghost use Rattle.tau_versions.specs.Search.Searching.{takes_of};
 ghost use Rattle.tau_heard.specs.declared.own.Own.{Own};
 ghost use Rattle.tau_heard.specs.Hears.{Knows};
 ghost use Rattle.tau_heard.specs.Turns.{taken_along};
-ghost use Rattle.tau_verdicts.specs.Doomed.{doomed_of, takers_of};
+ghost use Rattle.tau_verdicts.specs.Doomed.{flag_of, takers_of};
 ghost use Rattle.tau_verdicts.specs.Kept.{KnowsMarked, LeadsNoted};
 ghost use Rattle.tau_verdicts.specs.Latest.{latest};
 ghost use Rattle.tau_verdicts.specs.Noting.{AreListed, MayTake, AreNew};
