@@ -1,9 +1,8 @@
--- The options of a hand that has the jobs of all open turns are those of the serial run.
-use Rattle.std.proofs.Common.{◌≡◌, ◌≢◌, ⊎_elim, ℕ, zero, suc, ◌+◌, ◌%◌, ◌<◌, ◌≤◌, Bool, true, false, cond, ◌||◌, eqb, eqb-true, eq-eqb, ltb-false, Option, Some, None, List, [], ◌∷◌, ◌++◌, length, get_or, map, refl, sym, ap, ◌∙◌, subst, arith}
+-- What the jobs of a hand are, and which option a number chooses.
+use Rattle.std.proofs.Common.{◌≡◌, ◌≢◌, ⊎_elim, ℕ, zero, suc, ◌+◌, ◌%◌, ◌<◌, ◌≤◌, Bool, true, false, cond, ◌||◌, eqb, eqb-true, eq-eqb, ltb-false, Some, List, [], ◌∷◌, ◌++◌, length, get_or, map, refl, sym, ap, ◌∙◌, subst, arith}
 use Rattle.std.specs.List.{Contains, AllPairs, list_any}
-use Rattle.std.specs.Prelude.{count_by, nat_lt, slice_get, option_map, if◌then◌else◌}
-use Rattle.std.specs.Option.{option_to_list}
-use Rattle.std.proofs.lemmas.List.{append-nil, length-append, length-map}
+use Rattle.std.specs.Prelude.{nat_lt, slice_get, option_map, if◌then◌else◌}
+use Rattle.std.proofs.lemmas.List.{length-append, length-map}
 use Rattle.std.proofs.lemmas.List.Kept.{AllPairs-cons, AllPairs-filter}
 use Rattle.std.proofs.lemmas.List.Elements.{All-map, Contains-append_left, Contains-append_right, Contains-append_cases, Contains-get_or}
 use Rattle.std.proofs.lemmas.List.Folds.{list_any_at}
@@ -14,13 +13,12 @@ use Rattle.tau_trace.specs.Run.{Run}
 use Rattle.tau_eval.specs.Turn as jobs
 use Rattle.tau_rules.specs.Answers.{IsOpenJob}
 use Rattle.tau_queue.specs.OpenTurns.{IsOpenFrom, AreOpenTurns}
-use Rattle.tau_queue.proofs.Members.{contains_nothing, contains_here, contains_there, contains_cases, contains_filter, filter_contains, contains_map, map_contains}
-use Rattle.tau_book.specs.Hands.{Held, is_earlier, is_of, IsNumbered}
-use Rattle.tau_book.specs.Offers.{open_jobs, without, taken_up, jobs_with, store_without, options}
+use Rattle.tau_queue.proofs.Members.{contains_nothing, contains_here, contains_there, contains_cases, contains_filter, filter_contains}
+use Rattle.tau_book.specs.Offers.{open_jobs, options}
 use Rattle.tau_book.specs.SerialRun.{Choosable, turn, message}
 use Rattle.tau_book.specs.Adopted.{HasJobFrom}
 use Rattle.tau_book.specs.Working.{AreJobs}
-use Rattle.tau_book.proofs.Counts.{AreDistinct, count_none, count_map, count_all, same_counts, place_of, ascending_distinct}
+use Rattle.tau_book.proofs.Counts.{AreDistinct}
 
 -- elements of two lists in a row
 nth_left : {X : Type 0} (xs ys : List X) (k : ℕ) → k < length xs → slice_get (xs ++ ys) k ≡ slice_get xs k
@@ -32,26 +30,12 @@ nth_right : {X : Type 0} (xs ys : List X) (k : ℕ) → slice_get (xs ++ ys) (le
 nth_right [] ys k = ap (slice_get ys) (omega arith)
 nth_right (x ∷ xs) ys k = let e : suc (length xs) + k ≡ suc (length xs + k) = omega arith in ap (slice_get (x ∷ xs ++ ys)) e ∙ nth_right xs ys k
 
--- with no returned job, none is taken up
-neither : {X : Type 0} (o : Option X) (b : Bool) → o ≡ None → cond b o o ≡ None
-neither o true e = e
-neither o false e = e
-
-taken_none : (turns : List ℕ) (h : Held) → taken_up turns h [] ≡ None
-taken_none turns h = neither None (nat_lt (length (open_jobs turns h.jobs)) h.size) refl
-
-pub with_none : (turns : List ℕ) (h : Held) → jobs_with turns h [] ≡ open_jobs turns h.jobs
-with_none turns h = ap (λ o. open_jobs turns h.jobs ++ option_to_list o) (taken_none turns h) ∙ append-nil (open_jobs turns h.jobs)
-
-pub store_none : (turns : List ℕ) (h : Held) → store_without turns h [] ≡ []
-store_none turns h = ap (λ o. without o (open_jobs turns [])) (taken_none turns h)
-
 -- numbers among numbers
 any_step : (t q : ℕ) (ts : List ℕ) (b : Bool) → eqb t q ≡ b → (list_any (λ p. eqb p q) ts ≡ true → Contains ts q) → (b || list_any (λ p. eqb p q) ts) ≡ true → Contains (t ∷ ts) q
 any_step t q ts true e back h = subst (λ x. Contains (t ∷ ts) x) (eqb-true t q e) (contains_here t ts)
 any_step t q ts false e back h = contains_there t q ts (back h)
 
-any_has : (ts : List ℕ) (q : ℕ) → list_any (λ p. eqb p q) ts ≡ true → Contains ts q
+pub any_has : (ts : List ℕ) (q : ℕ) → list_any (λ p. eqb p q) ts ≡ true → Contains ts q
 any_has [] q h = absurd (cc)
 any_has (t ∷ ts) q h = any_step t q ts (eqb t q) refl (any_has ts q) h
 
@@ -125,41 +109,7 @@ module _ (P : Program) (T : Run) (turns : List ℕ) (are : AreOpenTurns T turns)
       let listed : Contains turns f.job.place = subst (λ q. Contains turns q) (sym f.from) ((are.each place).1 is_open) in
       record { job = f.job; among = kept f.job f.among listed; from = f.from }
 
-  place_among : (q : ℕ) → Contains (map (λ j. j.place) (open_jobs turns js)) q → Contains turns q
-  place_among q c =
-      let r = map_contains (λ (j : jobs.TurnSoFar). j.place) (open_jobs turns js) q c in
-      subst (λ x. Contains turns x) r.2 (taken r.0 r.1).1
-
-  among_places : (q : ℕ) → Contains turns q → Contains (map (λ j. j.place) (open_jobs turns js)) q
-  among_places q c =
-      let f = job_from q ((are.each q).0 c) in
-      subst (λ x. Contains (map (λ (j : jobs.TurnSoFar). j.place) (open_jobs turns js)) x) f.from (contains_map (λ (j : jobs.TurnSoFar). j.place) (open_jobs turns js) f.job f.among)
-
-  counts : (p : ℕ → Bool) → count_by (λ j. p j.place) (open_jobs turns js) ≡ count_by p turns
-  counts p =
-      sym (count_map p (λ (j : jobs.TurnSoFar). j.place) (open_jobs turns js))
-      ∙ same_counts p (map (λ j. j.place) (open_jobs turns js)) turns (places_distinct (open_jobs turns js) open_apart) (ascending_distinct turns are.ascending) (λ q. (place_among q, among_places q))
-
-  pub lengths : length (open_jobs turns js) ≡ length turns
-  lengths = sym (count_all (open_jobs turns js)) ∙ counts (λ _. true) ∙ count_all turns
-
-  -- the job of a number is that of the turn of that number
-  pub numbered : (number : ℕ) (job : jobs.TurnSoFar) (others : List jobs.TurnSoFar) → IsNumbered (open_jobs turns js) number job others → slice_get turns number ≡ Some job.place
-  numbered number job others n =
-      let among : Contains (open_jobs turns js) job = subst (λ (xs : List jobs.TurnSoFar). Contains xs job) (sym n.stands) (Contains-append_right n.front (job ∷ n.back) job (contains_here job n.back)) in
-      let apart : AreApart (n.front ++ job ∷ n.back) = subst AreApart n.stands open_apart in
-      let none : count_by (is_of job.place) n.front ≡ 0 = count_none (is_of job.place) n.front (λ q c. other q (apart_front n.front job n.back q apart c)) in
-      let earlier : count_by (is_earlier job.place) (open_jobs turns js) ≡ count_by (λ y. nat_lt y job.place) turns = counts (λ y. nat_lt y job.place) in
-      let is : number ≡ count_by (λ y. nat_lt y job.place) turns = n.number_is ∙ omega (arith, none, earlier) in
-      ap (slice_get turns) is ∙ place_of turns job.place are.ascending (taken job among).1
-    where
-      other : (q : jobs.TurnSoFar) → q.place ≢ job.place → is_of job.place q ≡ false
-      other q ne = by (eqb q.place job.place) refl where
-        by : (b : Bool) → eqb q.place job.place ≡ b → b ≡ false
-        by true e = absurd (ne (eqb-true q.place job.place e))
-        by false e = refl
-
--- the options of the serial run, by the turns and the messages, and which of them a number chooses
+-- the options, by the turns and the messages, and which of them a number chooses
 abbrev pub options_of : List ℕ → List ℕ → ℕ → List Choosable
 options_of turns messages size = map turn turns ++ (if nat_lt (length turns) size then map message messages else [])
 

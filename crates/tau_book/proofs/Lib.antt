@@ -2,8 +2,10 @@ pub mod Counts
 pub mod Chosen
 pub mod Kept
 pub mod Together
+pub mod Own
 pub mod AllJobs
 pub mod Works
+pub mod Onward
 pub mod OneRun
 pub mod JobLists
 pub mod StoreLemmas

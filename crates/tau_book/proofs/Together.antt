@@ -127,7 +127,7 @@ earlier_among job jobs (Some other) among = by (nat_le job.place other.place) wh
   by true = contains_here job jobs
   by false = contains_there job other jobs among
 
-earliest_among : (jobs : List TurnSoFar) → IsAmong jobs (earliest jobs)
+pub earliest_among : (jobs : List TurnSoFar) → IsAmong jobs (earliest jobs)
 earliest_among [] = tt
 earliest_among (job ∷ jobs) = earlier_among job jobs (earliest jobs) (earliest_among jobs)
 
@@ -174,7 +174,7 @@ module _ (P : Program) (T : Run) where
 
   -- once jobs of turns that aren't open are given up and the hand has taken up a returned job, there is one job of each open turn
   module _ (turns : List ℕ) (are : AreOpenTurns T turns) (h : Held) (store : List TurnSoFar) (all : AreJobs P T (h.jobs ++ store)) where
-    opened : AreOpenJobs P T (open_jobs turns h.jobs ++ open_jobs turns store)
+    pub opened : AreOpenJobs P T (open_jobs turns h.jobs ++ open_jobs turns store)
     opened = subst (λ (js : List TurnSoFar). AreOpenJobs P T js) (filter-append (λ j. list_any (λ p. eqb p j.place) turns) h.jobs store) (record {
       one_each = open_apart P T turns are (h.jobs ++ store) all;
       records = are_open P T turns are (h.jobs ++ store) all;

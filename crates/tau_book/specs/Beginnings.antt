@@ -18,14 +18,23 @@ pub record IsEmptyHand (h : Held) : Type 0 where
   pub some : 1 ≤ h.size
   pub none : h.jobs ≡ []
 
--- over an opened book, an empty hand of a seed is at work on the serial run
+-- the hand's words are those of this seed, and none is drawn
+abbrev pub IsSeeded : ℕ → Held → Type 0
+IsSeeded seed h = h.generator ≡ pcg32_of_seed (pcg32_seed 16 seed)
+
+-- over an opened book, an empty hand of a seed is at work behind its run, which has no steps
 abbrev pub OpenedIsAtWork : Type 0
-OpenedIsAtWork = (seed : ℕ) (b : Booked) (h : Held) → IsOpened b → IsEmptyHand h → h.generator ≡ pcg32_of_seed (pcg32_seed 16 seed) → IsAtWork seed b h
+OpenedIsAtWork = (seed : ℕ) (b : Booked) (h : Held) → IsOpened b → IsEmptyHand h → IsSeeded seed h → IsAtWork seed b.system.run b h
 
 -- and has all jobs
 abbrev pub OpenedHasAllJobs : Type 0
 OpenedHasAllJobs = (b : Booked) (h : Held) → IsOpened b → IsEmptyHand h → HasAllJobs b h
 
--- over a book that had no returned jobs and has adopted, an empty hand has all jobs
+-- over a book that had no returned jobs and has adopted, an empty hand of a seed is at work behind its run
+abbrev pub AdoptedIsAtWork : Type 0
+AdoptedIsAtWork = (seed : ℕ) (before b : Booked) (h : Held) (count : ℕ) → before.store ≡ [] → IsAdopted before b count → IsEmptyHand h → IsSeeded seed h
+    → IsAtWork seed b.system.run b h
+
+-- and has all jobs
 abbrev pub AdoptedHasAllJobs : Type 0
 AdoptedHasAllJobs = (before b : Booked) (h : Held) (count : ℕ) → before.store ≡ [] → IsAdopted before b count → IsEmptyHand h → HasAllJobs b h

@@ -10,6 +10,7 @@ pub mod Places
 pub mod Knowing
 pub mod Lefts
 pub mod Working
+pub mod Alone
 pub mod Beginnings
 pub mod Onward
 pub mod Inner

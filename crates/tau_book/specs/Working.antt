@@ -1,5 +1,5 @@
 -- What one hand over a book keeps of a run (docs/rules.md, "Choice of a worker").
-use Rattle.std.specs.Prelude.{◌≡◌, ◌≢◌, ◌≤◌, ℕ, List, [], ◌++◌}
+use Rattle.std.specs.Prelude.{◌≢◌, ◌≤◌, ℕ, List, ◌++◌, map}
 use Rattle.std.specs.List.{AllPairs, Contains}
 use Rattle.tau_tree.specs.declared.programs.Program.{Program}
 use Rattle.tau_trace.specs.Run.{Run}
@@ -9,7 +9,7 @@ pub use Rattle.tau_queue.specs.OpenTurns.{IsOpenFrom}
 use Rattle.tau_book.specs.Hands.{Held}
 use Rattle.tau_book.specs.Books.{Booked}
 use Rattle.tau_book.specs.Adopted.{HasJobFrom}
-use Rattle.tau_book.specs.SerialRun.{ComesAbout}
+use Rattle.tau_book.specs.Alone.{ComesAfter}
 
 -- the jobs are of different turns, those of open turns are their records, and each open turn has one
 pub record AreJobs (P : Program) (T : Run) (js : List jobs.TurnSoFar) : Type 0 where
@@ -22,9 +22,6 @@ pub record HasAllJobs (b : Booked) (h : Held) : Type 0 where
   pub some : 1 ≤ h.size
   pub jobs_are : AreJobs b.system.program b.system.run (h.jobs ++ b.store)
 
--- the book's run comes about as the serial run with this seed, and the hand has the jobs of the open turns
-pub record IsAtWork (seed : ℕ) (b : Booked) (h : Held) : Type 0 where
-  pub none_back : b.store ≡ []
-  pub some : 1 ≤ h.size
-  pub comes_about : ComesAbout b.system.program h.size seed b.system.run h.generator
-  pub jobs_are : AreJobs b.system.program b.system.run h.jobs
+-- the hand makes the book's run behind the steps of `start`, and the returned jobs are those of the turns that wait for it
+abbrev pub IsAtWork : ℕ → Run → Booked → Held → Type 0
+IsAtWork seed start b h = ComesAfter b.system.program h.size seed start b.system.run (map (λ j. j.place) b.store) h.generator

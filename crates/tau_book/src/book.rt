@@ -168,6 +168,13 @@ impl<'p, K: Knowledge + Drop> Book<'p, K> {
         choose(&mut self.scripted, &mut self.store, hand)
     }
 
+    /// Gives up all returned jobs.
+    pub fn give_up(&mut self)
+        ensures { self.new ≡ record self.old { store = [] } }
+    {
+        self.store.clear();
+    }
+
     /// Whether there is something for a hand that has room: a deliverable message, or a returned job, which may be one of a turn that
     /// isn't open any more.
     pub fn offers_more(&self) -> bool

@@ -1,11 +1,22 @@
 //! Laws of serial runs, of books and of the jobs of hands, each the contract of a function that does nothing.
-ghost use Rattle.tau_book.specs.Laws.{SerialRunIsUnique, AdoptedIsNotIdle};
+ghost use Rattle.tau_book.specs.Laws.{SerialRunIsUnique, RunAfterIsUnique, ComesAfterNone, AdoptedIsNotIdle};
 ghost use Rattle.tau_book.specs.Knowing.{NextHandsOnKnown, ActHandsOnKnown};
 
 /// Of a program, a number of jobs, a seed and a limit there is one serial run at most (docs/definitions.md, "Serial run"). So `run_serially`
 /// makes the same trace each time, and so does every other maker of the serial run.
 pub fn serial_run_is_unique()
     ensures { SerialRunIsUnique }
+{}
+
+/// Of a program, a legal run of it, a number of jobs, a seed and a limit there is one run after it at most (docs/definitions.md, "Run after a
+/// run").
+pub fn run_after_is_unique()
+    ensures { RunAfterIsUnique }
+{}
+
+/// A run after the run without steps is the serial run (docs/definitions.md, "Run after a run").
+pub fn run_after_none_is_serial()
+    ensures { ComesAfterNone }
 {}
 
 /// A book that has adopted, as `Book::adopt` does, isn't Idle for an empty hand (docs/rules.md, "Workers").

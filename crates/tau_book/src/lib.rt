@@ -20,13 +20,18 @@ mod stepping;
 mod tidying;
 
 pub use answers::{Next, Told};
-pub use beginnings::{adopted_has_all_jobs, opened_has_all_jobs, opened_is_at_work};
+pub use beginnings::{
+    adopted_has_all_jobs, adopted_is_at_work, opened_has_all_jobs, opened_is_at_work,
+};
 pub use book::Book;
 pub use gates::{Gate, OpenGate};
 pub use hand::Hand;
-pub use laws::{adopted_is_not_idle, known_jobs_are_handed_on, serial_run_is_unique};
+pub use laws::{
+    adopted_is_not_idle, known_jobs_are_handed_on, run_after_is_unique, run_after_none_is_serial,
+    serial_run_is_unique,
+};
 pub use limits::JOB_LIMIT;
 pub use place::StepPlace;
 pub use ran::Ran;
 pub use serial::run_serially;
-pub use stepping::next_step;
+pub use stepping::{make_rest, next_step};

@@ -63,11 +63,12 @@ is_fault_8 (Some file) need fault at full = full.0
 
 -- the disk has no room for the last step
 pub no_room : (P : Program) (T U : Run) (s : Step) → U ≡ appended T s → (old new : Option (List ℕ)) (gate fault at : ℕ) (text : HasStepText T s) → IsTooLarge old (gate + 5 + length text.0 + 1) (Fault fault at) → new ≡ old → StandsAt old gate P T
-    → HasNoRoom P U new at
+    → HasNoRoom P T U new at
 no_room P T U s last old new gate fault at text full same stands =
     let need = gate + 5 + length text.0 + 1 in
     record {
       before = T;
+      begins = begins_itself T;
       step = s;
       run_is = last;
       text = text.0;
@@ -78,5 +79,17 @@ no_room P T U s last old new gate fault at text full same stands =
     }
 
 -- nor, where it stood for the program and the run as calls began
-pub no_room_more : (P Q : Program) → Q ≡ P → (S T U : Run) (told held now : Option (List ℕ)) (a b at : ℕ) → (StandsAt told a P S → StandsAt held b P T) → (StandsAt held b Q T → HasNoRoom Q U now at) → StandsAt told a P S → HasNoRoom P U now at
-no_room_more P Q same S T U told held now a b at one two stands = subst (λ R. HasNoRoom R U now at) same (two (subst (λ R. StandsAt held b R T) (sym same) (one stands)))
+pub no_room_more : (P Q : Program) → Q ≡ P → (S T U : Run) → BeginsWith S T → (told held now : Option (List ℕ)) (a b at : ℕ) → (StandsAt told a P S → StandsAt held b P T) → (StandsAt held b Q T → HasNoRoom Q T U now at) → StandsAt told a P S → HasNoRoom P S U now at
+no_room_more P Q same S T U earlier told held now a b at one two stands =
+    let full : HasNoRoom P T U now at = subst (λ R. HasNoRoom R T U now at) same (two (subst (λ R. StandsAt held b R T) (sym same) (one stands))) in
+    record {
+      before = full.before;
+      begins = begins_further S T full.before earlier full.begins;
+      step = full.step;
+      run_is = full.run_is;
+      text = full.text;
+      is_text = full.is_text;
+      gate = full.gate;
+      stands = full.stands;
+      full = full.full;
+    }

@@ -17,13 +17,15 @@ use Rattle.tau_book.specs.Books.{Booked, IsBook}
 use Rattle.tau_book.specs.Onward.{GoesOnFrom}
 use Rattle.tau_book.specs.Hands.{Held}
 use Rattle.tau_book.specs.Working.{IsAtWork}
-use Rattle.tau_book.specs.SerialRun.{ComesAbout}
+use Rattle.tau_book.specs.Alone.{ComesAfter}
+use Rattle.tau_book.specs.Laws.{ComesAfterNone}
+use Rattle.tau_book.proofs.Own.{places}
 use Rattle.tau_run_journal.specs.Standing.{IsProgramText, opened, begins, Stands, StandsAt, StandsForEither, IsBlankOrBegins}
 use Rattle.tau_run_journal.specs.Laws.{IsRunOf, RecordsStandForRuns}
 use Rattle.tau_run_journal.proofs.Kept.{leaves_at_first}
 use Rattle.tau_run_journal.proofs.Finds.{no_failure}
 use Rattle.tau_journaling.specs.Going.{StandsBetween, HasNoRoom}
-use Rattle.tau_journaling.specs.Kept.{IsKeptOn, StandsForLonger, HasNoRoomFrom, HasNoRoomInSerial, IsBlankOrStands, IsBlankOrFrontOf, first_size, IsKeepFault}
+use Rattle.tau_journaling.specs.Kept.{IsKeptOn, StandsForLonger, HasNoRoomAfter, HasNoRoomInSerial, IsBlankOrStands, IsBlankOrFrontOf, first_size, IsKeepFault}
 use Rattle.tau_journaling.proofs.Onward.{begins_itself}
 use Rattle.tau_journaling.proofs.Fronts.{begins_opened, legal_opened, legal_front}
 
@@ -55,15 +57,14 @@ module _ (old new : Booked) (goes : GoesOnFrom old new) (is : IsBook new) where
   within_limit : len new.system.run ≤ old.limit
   within_limit = subst (λ n. len new.system.run ≤ n) goes.limit is.limited
 
-  pub no_room_from : (bytes : Option (List ℕ)) (at : ℕ) → HasNoRoom P new.system.run bytes at → HasNoRoomFrom P old.system.run old.limit bytes at
-  no_room_from bytes at full = record { run = new.system.run; begins = goes.begins; legal = legal_then; within = within_limit; no_room = full }
-
-  -- by a hand that is at work on the serial run
-  pub no_room_serial : (seed : ℕ) (h k : Held) → k.size ≡ h.size → IsAtWork seed new k → (bytes : Option (List ℕ)) (at : ℕ) → HasNoRoom P new.system.run bytes at → HasNoRoomInSerial P h.size seed old.limit bytes at
-  no_room_serial seed h k size w bytes at full = record {
+  -- by a hand that is at work
+  pub no_room_after : (seed : ℕ) (h k : Held) → k.size ≡ h.size → IsAtWork seed old.system.run new k → (bytes : Option (List ℕ)) (at : ℕ) → HasNoRoom P old.system.run new.system.run bytes at
+      → HasNoRoomAfter P h.size seed old.limit old.system.run bytes at
+  no_room_after seed h k size w bytes at full = record {
     run = new.system.run;
+    waiting = places new.store;
     generator = k.generator;
-    comes_about = subst (λ n. ComesAbout P n seed new.system.run k.generator) size (subst (λ Q. ComesAbout Q k.size seed new.system.run k.generator) goes.program w.comes_about);
+    comes_after = subst (λ n. ComesAfter P n seed old.system.run new.system.run (places new.store) k.generator) size (subst (λ Q. ComesAfter Q k.size seed old.system.run new.system.run (places new.store) k.generator) goes.program w);
     legal = legal_then;
     within = within_limit;
     no_room = full;
@@ -135,6 +136,17 @@ module _ {D : Type 0} (images : D → List ℕ → Type 0) (moment : D → ℕ) 
           joined moment left_since old mid new (IsBlankOrFrontOf P U)
           (weaker moment left_since old mid (IsBlankOrBegins P) (IsBlankOrFrontOf P U) (front_begun U) (left blank only))
           (weaker moment left_since mid new (StandsBetween P (opened P) U) (IsBlankOrFrontOf P U) (λ c x. inr (x.run, x.comes_to, x.stands)) (more at))
+
+-- behind the run without steps it is that of the serial run
+pub no_room_serial : ComesAfterNone → (P : Program) (jobs seed limit : ℕ) (bytes : Option (List ℕ)) (at : ℕ) → HasNoRoomAfter P jobs seed limit (opened P) bytes at → HasNoRoomInSerial P jobs seed limit bytes at
+no_room_serial law P jobs seed limit bytes at full = record {
+  run = full.run;
+  generator = full.generator;
+  comes_about = law P jobs seed full.run full.waiting full.generator full.comes_after;
+  legal = full.legal;
+  within = full.within;
+  no_room = full.no_room;
+}
 
 -- a journal isn't made of the program, or its run isn't kept
 module _ (P : Program) (jobs seed limit : ℕ) (after : Option (List ℕ)) (fault at : ℕ) where

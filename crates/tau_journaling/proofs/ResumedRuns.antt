@@ -18,6 +18,7 @@ use Rattle.tau_journal.specs.declared.errors.JournalError.TheVariants.{Fault, Di
 use Rattle.tau_revival.specs.Revival.{IsRevival}
 use Rattle.tau_revival.specs.Laws.{RevivalKeepsLegality}
 use Rattle.tau_book.specs.Onward.{BeginsWith}
+use Rattle.tau_book.specs.Alone.{IsRunAfter}
 use Rattle.tau_run_journal.specs.Standing.{Stands, StandsAt}
 use Rattle.tau_run_journal.specs.Laws.{IsRunOf, BytesStandForOneRun}
 use Rattle.tau_run_journal.proofs.Finds.{no_failure}
@@ -121,10 +122,10 @@ module _ (P : Program) (T : Run) (gate : ℕ) where
       let same = once file Q P U T stands (stands_there file gate P T at) in
       absurd (incomplete (of_same Complete Q P U T same.0 same.1 complete))
 
-  pub going_fault : (steps : ℕ) → Legal P T → (¬ Complete P T) → (o after : Option (List ℕ)) (fault at : ℕ) → IfSome o (λ _. StandsAt o gate P T) → (StandsAt o gate P T → IsGoneOnFault P T steps gate o after fault at)
-      → IfSome o (λ file. IsResumeRunFault steps file after fault at)
-  going_fault steps legal incomplete None after fault at stands found = tt
-  going_fault steps legal incomplete (Some file) after fault at stands found = in_going P T gate (record { stands = stands; legal = legal; incomplete = incomplete }) (found stands)
+  pub going_fault : (jobs seed steps : ℕ) → Legal P T → (¬ Complete P T) → (o after : Option (List ℕ)) (fault at : ℕ) → IfSome o (λ _. StandsAt o gate P T) → (StandsAt o gate P T → IsGoneOnFault P T jobs seed steps gate o after fault at)
+      → IfSome o (λ file. IsResumeRunFault jobs seed steps file after fault at)
+  going_fault jobs seed steps legal incomplete None after fault at stands found = tt
+  going_fault jobs seed steps legal incomplete (Some file) after fault at stands found = in_going P T gate (record { stands = stands; legal = legal; incomplete = incomplete }) (found stands)
 
   -- the gate is that of each list of records
   same_gate : RecordsAreUnique → (file : List ℕ) (Q : Program) (U : Run) (by : ℕ) → StandsAt (Some file) gate P T → StandsAt (Some file) by Q U → by ≡ gate
@@ -206,9 +207,9 @@ resume_number fault (inl six) = inl (omega (arith, six), omega (arith, six))
 resume_number fault (inr eight) = inr eight
 
 -- nothing was found
-pub finding_fault : (steps : ℕ) (o after : Option (List ℕ)) (fault at : ℕ) → IfSome o (λ file. IsResumeFault file fault at) → IfSome o (λ file. IsResumeRunFault steps file after fault at)
-finding_fault steps None after fault at found = tt
-finding_fault steps (Some file) after fault at found = in_finding found
+pub finding_fault : (jobs seed steps : ℕ) (o after : Option (List ℕ)) (fault at : ℕ) → IfSome o (λ file. IsResumeFault file fault at) → IfSome o (λ file. IsResumeRunFault jobs seed steps file after fault at)
+finding_fault jobs seed steps None after fault at found = tt
+finding_fault jobs seed steps (Some file) after fault at found = in_finding found
 
 failed : {X : Type 0} (e : JournalError) (fault at : ℕ) → IsFailure e → IsFaultOrFailure {X = X} fault at (Err e)
 failed (Fault f a) fault at fails = absurd fails
@@ -230,8 +231,8 @@ not_complete A b off told a =
     cc
 
 -- a complete run that was found
-pub resumed_whole : (P : Program) (T : Run) (bytes : Option (List ℕ)) (steps : ℕ) → IsRunOf P T → Legal P T → IfSome bytes (λ file. Stands file P T) → Complete P T → IsResumed bytes steps P T true
-resumed_whole P T bytes steps of legal told complete = record {
+pub resumed_whole : (P : Program) (T : Run) (bytes : Option (List ℕ)) (jobs seed steps : ℕ) → IsRunOf P T → Legal P T → IfSome bytes (λ file. Stands file P T) → Complete P T → IsResumed bytes jobs seed steps P T true
+resumed_whole P T bytes jobs seed steps of legal told complete = record {
   program = P;
   run = T;
   is_run = of;
@@ -244,21 +245,21 @@ resumed_whole P T bytes steps of legal told complete = record {
 }
 
 -- and one that isn't
-pub resumed_further : (P Q : Program) (T U : Run) (bytes : Option (List ℕ)) (steps : ℕ) (is_complete : Bool) → IsRunOf P T → Legal P T → IfSome bytes (λ file. Stands file P T) → (¬ Complete P T)
-    → IsRevival P T Q → Sound Q → BeginsWith T U → EndsAt (max steps (len T)) Q U is_complete → IsResumed bytes steps Q U is_complete
-resumed_further P Q T U bytes steps is_complete of legal told incomplete revival sound begins ends = record {
+pub resumed_further : (P Q : Program) (T U : Run) (bytes : Option (List ℕ)) (jobs seed steps : ℕ) (is_complete : Bool) → IsRunOf P T → Legal P T → IfSome bytes (λ file. Stands file P T) → (¬ Complete P T)
+    → IsRevival P T Q → Sound Q → BeginsWith T U → IsRunAfter Q jobs seed (max steps (len T)) T U → EndsAt (max steps (len T)) Q U is_complete → IsResumed bytes jobs seed steps Q U is_complete
+resumed_further P Q T U bytes jobs seed steps is_complete of legal told incomplete revival sound begins after ends = record {
   program = P;
   run = T;
   is_run = of;
   legal = legal;
   told = told;
-  how = inr (incomplete, revival);
+  how = inr (incomplete, revival, after);
   begins = begins;
   sound = sound;
   ends = ends;
 }
 
--- four things that are said of an answer
-pub if_ok_all : {X E : Type 0} (A B C D F : X → Type 0) (r : Result X E) → ((x : X) → A x → B x → C x → D x → F x) → IfOk r A → IfOk r B → IfOk r C → IfOk r D → IfOk r F
-if_ok_all A B C D F (Ok x) all a b c d = all x a b c d
-if_ok_all A B C D F (Err e) all a b c d = tt
+-- five things that are said of an answer
+pub if_ok_all : {X E : Type 0} (A B C D F G : X → Type 0) (r : Result X E) → ((x : X) → A x → B x → C x → D x → F x → G x) → IfOk r A → IfOk r B → IfOk r C → IfOk r D → IfOk r F → IfOk r G
+if_ok_all A B C D F G (Ok x) all a b c d f = all x a b c d f
+if_ok_all A B C D F G (Err e) all a b c d f = tt

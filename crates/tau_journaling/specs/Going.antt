@@ -15,9 +15,10 @@ pub record StandsBetween (P : Program) (old new : Run) (file : List ℕ) : Type 
   pub comes_to : BeginsWith run new
   pub stands : Stands file P run
 
--- the run has a last step of whose record the disk has no room; without it the disk stands for the run
-pub record HasNoRoom (P : Program) (T : Run) (bytes : Option (List ℕ)) (at : ℕ) : Type 0 where
+-- the run goes on from an old one up to a last step of whose record the disk has no room; without it the disk stands for the run
+pub record HasNoRoom (P : Program) (old T : Run) (bytes : Option (List ℕ)) (at : ℕ) : Type 0 where
   pub before : Run
+  pub begins : BeginsWith old before
   pub step : Step
   pub run_is : T ≡ appended before step
   pub text : List ℕ

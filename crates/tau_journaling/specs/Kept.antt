@@ -11,7 +11,8 @@ use Rattle.tau_journal.specs.Found.{IsBlank, IsCreateFault}
 use Rattle.tau_journal.specs.Room.{most_bytes}
 use Rattle.tau_book.specs.Onward.{BeginsWith}
 use Rattle.tau_book.specs.SerialRun.{ComesAbout}
-use Rattle.tau_run_journal.specs.Standing.{Stands}
+use Rattle.tau_book.specs.Alone.{ComesAfter}
+use Rattle.tau_run_journal.specs.Standing.{opened, Stands}
 use Rattle.tau_journaling.specs.Going.{HasNoRoom}
 
 -- a disk tells bytes that stand for the program and the run, they are its one image, and they aren't too many
@@ -37,14 +38,16 @@ IsBlankOrStands P file = IsBlank file ⊎ ((T : Run) × Stands file P T × Legal
 abbrev pub IsBlankOrFrontOf : Program → Run → List ℕ → Type 0
 IsBlankOrFrontOf P U file = IsBlank file ⊎ ((T : Run) × BeginsWith T U × Stands file P T)
 
--- a legal run of the program, which begins with this one and has no more steps than the limit, has a last step of whose record a disk
--- of these bytes has no room
-pub record HasNoRoomFrom (P : Program) (T : Run) (limit : ℕ) (bytes : Option (List ℕ)) (at : ℕ) : Type 0 where
+-- the run that one hand with so many jobs and this seed makes behind the steps of `start` comes to one with no more steps than the limit,
+-- and this has a last step, which `start` hasn't, of whose record a disk of these bytes has no room
+pub record HasNoRoomAfter (P : Program) (jobs seed limit : ℕ) (start : Run) (bytes : Option (List ℕ)) (at : ℕ) : Type 0 where
   pub run : Run
-  pub begins : BeginsWith T run
+  pub waiting : List ℕ
+  pub generator : Lcg
+  pub comes_after : ComesAfter P jobs seed start run waiting generator
   pub legal : Legal P run
   pub within : len run ≤ limit
-  pub no_room : HasNoRoom P run bytes at
+  pub no_room : HasNoRoom P start run bytes at
 
 -- the serial run of the program with so many jobs and this seed comes to a run with no more steps than the limit, and this has a last
 -- step of whose record a disk of these bytes has no room
@@ -54,7 +57,7 @@ pub record HasNoRoomInSerial (P : Program) (jobs seed limit : ℕ) (bytes : Opti
   pub comes_about : ComesAbout P jobs seed run generator
   pub legal : Legal P run
   pub within : len run ≤ limit
-  pub no_room : HasNoRoom P run bytes at
+  pub no_room : HasNoRoom P (opened P) run bytes at
 
 -- how many bytes a journal of the program has that has no steps
 abbrev pub first_size : Program → ℕ

@@ -1,7 +1,7 @@
 //! Going on with a run, each step of which is kept before the next is made.
 ghost use Rattle.std.specs.Prelude.{◌≡◌, ◌⊎◌, ◌≤◌, ℕ, suc, IfOk, IfSome, IsErrOf, IsFalse, IsTrue, OnOk, length};
 ghost use Rattle.tau_io.specs.Faults.{HasRisen};
-ghost use Rattle.tau_trace.specs.Run.{len};
+ghost use Rattle.tau_trace.specs.Run.{Run, len};
 ghost use Rattle.tau_journal.specs.Disk.Moments.{LeavesOnly};
 ghost use Rattle.tau_journal.specs.Records.{IsAtRest};
 ghost use Rattle.tau_journal.specs.Room.{most_bytes};
@@ -40,7 +40,7 @@ pub fn go_on<'p, G: Gate, D: Disk>(
     ensures grows { GoesOnFrom book.old book.new }
     ensures size { hand.new.size ≡ hand.old.size }
     ensures finished { OnOk result (IsComplete book.new ⊎ IsAtLimit book.new) }
-    ensures serial { OnOk result ((seed : ℕ) → IsAtWork seed book.old hand.old → IsAtWork seed book.new hand.new) }
+    ensures works { OnOk result ((seed : ℕ) (start : Run) → IsAtWork seed start book.old hand.old → IsAtWork seed start book.new hand.new) }
 
     // Where the disk stands for the run, it stands for the longer one, whatever crash comes then.
     ensures rest { IfOk result (λ j. IsAtRest (D.bytes disk.new) (D.images disk.new) (gate_of j)) }
@@ -55,11 +55,11 @@ pub fn go_on<'p, G: Gate, D: Disk>(
 
     // Where the disk has no room for the last step, that is the next one of the run.
     ensures fault { (fault at : ℕ) → IsErrOf result (JournalError.Fault fault at) → fault ≡ 8 }
-    ensures unkept { (fault at : ℕ) → IsErrOf result (JournalError.Fault fault at) → (seed : ℕ)
-        → IsAtWork seed book.old hand.old → IsAtWork seed book.new hand.new }
+    ensures unkept { (fault at : ℕ) → IsErrOf result (JournalError.Fault fault at) → (seed : ℕ) (start : Run)
+        → IsAtWork seed start book.old hand.old → IsAtWork seed start book.new hand.new }
     ensures full { (fault at : ℕ) → IsErrOf result (JournalError.Fault fault at)
         → StandsAt (D.bytes disk.old) (gate_of journal) book.old.system.program book.old.system.run
-        → HasNoRoom book.old.system.program book.new.system.run (D.bytes disk.new) at }
+        → HasNoRoom book.old.system.program book.old.system.run book.new.system.run (D.bytes disk.new) at }
     ensures disk_fault { IsErrOf result JournalError.DiskFault → HasRisen (D.faults disk.old) (D.faults disk.new) }
     ensures never_falls { D.faults disk.old ≤ D.faults disk.new }
 {
@@ -93,7 +93,7 @@ fn keep_next<'p, G: Gate, D: Disk>(
     ensures size { hand.new.size ≡ hand.old.size }
     ensures stepped { IfOk result (λ p. IsTrue p.1 → len book.new.system.run ≡ suc (len book.old.system.run)) }
     ensures over { IfOk result (λ p. IsFalse p.1 → IsComplete book.new ⊎ IsAtLimit book.new) }
-    ensures serial { OnOk result ((seed : ℕ) → IsAtWork seed book.old hand.old → IsAtWork seed book.new hand.new) }
+    ensures works { OnOk result ((seed : ℕ) (start : Run) → IsAtWork seed start book.old hand.old → IsAtWork seed start book.new hand.new) }
     ensures rest { IfOk result (λ p. IsAtRest (D.bytes disk.new) (D.images disk.new) (gate_of p.0)) }
     ensures stands { IfOk result (λ p. StandsAt (D.bytes disk.old) (gate_of journal) book.old.system.program book.old.system.run
         → StandsAt (D.bytes disk.new) (gate_of p.0) book.old.system.program book.new.system.run) }
@@ -102,11 +102,11 @@ fn keep_next<'p, G: Gate, D: Disk>(
     ensures any_moment { StandsAt (D.bytes disk.old) (gate_of journal) book.old.system.program book.old.system.run
         → LeavesOnly D.moment D.left_since disk.old disk.new (StandsBetween book.old.system.program book.old.system.run book.new.system.run) }
     ensures fault { (fault at : ℕ) → IsErrOf result (JournalError.Fault fault at) → fault ≡ 8 }
-    ensures unkept { (fault at : ℕ) → IsErrOf result (JournalError.Fault fault at) → (seed : ℕ)
-        → IsAtWork seed book.old hand.old → IsAtWork seed book.new hand.new }
+    ensures unkept { (fault at : ℕ) → IsErrOf result (JournalError.Fault fault at) → (seed : ℕ) (start : Run)
+        → IsAtWork seed start book.old hand.old → IsAtWork seed start book.new hand.new }
     ensures full { (fault at : ℕ) → IsErrOf result (JournalError.Fault fault at)
         → StandsAt (D.bytes disk.old) (gate_of journal) book.old.system.program book.old.system.run
-        → HasNoRoom book.old.system.program book.new.system.run (D.bytes disk.new) at }
+        → HasNoRoom book.old.system.program book.old.system.run book.new.system.run (D.bytes disk.new) at }
     ensures disk_fault { IsErrOf result JournalError.DiskFault → HasRisen (D.faults disk.old) (D.faults disk.new) }
     ensures never_falls { D.faults disk.old ≤ D.faults disk.new }
 {

@@ -14,7 +14,9 @@ ghost use Rattle.tau_journaling.specs.Kept.{IsKeptOn, IsBlankOrStands, IsBlankOr
 
 use crate::running::run_on;
 use std::alloc::Global;
-use tau_book::{Book, Gate, Hand, Ran, opened_has_all_jobs, opened_is_at_work};
+use tau_book::{
+    Book, Gate, Hand, Ran, opened_has_all_jobs, opened_is_at_work, run_after_none_is_serial,
+};
 use tau_journal::JournalError;
 use tau_journal::disk::Disk;
 use tau_run_journal::create;
@@ -70,6 +72,7 @@ pub fn keep_run<G: Gate, D: Disk>(
 {
     opened_is_at_work();
     opened_has_all_jobs();
+    run_after_none_is_serial();
     let journal = create(alloc, disk, program)?;
     let book: Book<'_, MarkedHearing> = Book::open(alloc, program, limit)?;
     let hand = Hand::new(alloc, seed, jobs)?;

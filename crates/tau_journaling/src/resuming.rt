@@ -50,7 +50,7 @@ pub fn resume_run<G: Gate, D: Disk>(
     requires some { 1 ≤ jobs }
     requires few { jobs ≤ JOB_LIMIT }
     requires limit { steps ≤ STEP_LIMIT }
-    ensures resumed { IfOk result (λ r. IsResumed (D.bytes disk.old) steps r.program r.ran.trace.run r.ran.is_complete) }
+    ensures resumed { IfOk result (λ r. IsResumed (D.bytes disk.old) jobs seed steps r.program r.ran.trace.run r.ran.is_complete) }
 
     // The disk then stands for the program and the run, whatever crash comes. Where the run that it stood for was complete, nothing was
     // written, whatever is answered.
@@ -67,7 +67,7 @@ pub fn resume_run<G: Gate, D: Disk>(
         → LeavesOnly D.moment D.left_since disk.old disk.new (StandsForFrontOf r.ran.trace.run))) }
 
     ensures fault { (fault at : ℕ) → IsErrOf result (JournalError.Fault fault at)
-        → IfSome (D.bytes disk.old) (λ file. IsResumeRunFault steps file (D.bytes disk.new) fault at) }
+        → IfSome (D.bytes disk.old) (λ file. IsResumeRunFault jobs seed steps file (D.bytes disk.new) fault at) }
     ensures faulty { IfSome (D.bytes disk.old) (λ file. (fault at : ℕ) → IsResumeFault file fault at → IsFaultOrFailure fault at result) }
     ensures unrevived { IfSome (D.bytes disk.old) (λ file. (fault at : ℕ) → length file ≤ most_bytes → IsUnrevived file fault at
         → IsFaultOrFailure fault at result) }

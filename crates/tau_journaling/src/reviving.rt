@@ -13,17 +13,18 @@ ghost use Rattle.tau_journal.specs.Gates.{gate_of};
 ghost use Rattle.tau_revival.specs.Revival.{IsRevival};
 ghost use Rattle.tau_book.specs.declared.limits.TheConstants.{JOB_LIMIT};
 ghost use Rattle.tau_book.specs.Onward.{BeginsWith};
+ghost use Rattle.tau_book.specs.Alone.{IsRunAfter};
 ghost use Rattle.tau_run_journal.specs.Standing.{StandsAt};
 ghost use Rattle.tau_journaling.specs.Found.Reviving.{IsReviveFault};
 ghost use Rattle.tau_journaling.specs.Going.{StandsBetween};
-ghost use Rattle.tau_journaling.specs.Kept.{IsKeptOn, StandsForLonger, HasNoRoomFrom};
+ghost use Rattle.tau_journaling.specs.Kept.{IsKeptOn, StandsForLonger, HasNoRoomAfter};
 ghost use Rattle.tau_journaling.specs.Resumed.{StandsForResumed, StandsForFrontOf, IsGoneOnFault};
 
 use crate::Resumed;
 use crate::found::{FoundRun, revive};
 use crate::running::run_on;
 use std::alloc::Global;
-use tau_book::{Book, Gate, Hand, Ran, adopted_has_all_jobs};
+use tau_book::{Book, Gate, Hand, Ran, adopted_has_all_jobs, adopted_is_at_work};
 use tau_journal::disk::Disk;
 use tau_journal::{Journal, JournalError};
 use tau_revival::laws::revival_keeps_legality;
@@ -51,6 +52,7 @@ pub(crate) fn run_on_revived<G: Gate, D: Disk>(
     ensures revival { IfOk result (λ r. IsRevival found.program found.trace.run r.program) }
     ensures sound { IfOk result (λ r. Sound r.program) }
     ensures begins { IfOk result (λ r. BeginsWith found.trace.run r.ran.trace.run) }
+    ensures after { IfOk result (λ r. IsRunAfter r.program jobs seed (max steps (len found.trace.run)) found.trace.run r.ran.trace.run) }
     ensures ends { IfOk result (λ r. EndsAt (max steps (len found.trace.run)) r.program r.ran.trace.run r.ran.is_complete) }
     ensures kept { IfOk result (λ r. StandsAt (D.bytes disk.old) (gate_of found.journal) found.program found.trace.run
         → IsKeptOn (D.bytes disk.new) (D.images disk.new) r.program r.ran.trace.run) }
@@ -60,7 +62,7 @@ pub(crate) fn run_on_revived<G: Gate, D: Disk>(
         → LeavesOnly D.moment D.left_since disk.old disk.new (StandsForFrontOf r.ran.trace.run)) }
     ensures fault { (fault at : ℕ) → IsErrOf result (JournalError.Fault fault at)
         → StandsAt (D.bytes disk.old) (gate_of found.journal) found.program found.trace.run
-        → IsGoneOnFault found.program found.trace.run steps (gate_of found.journal) (D.bytes disk.old) (D.bytes disk.new) fault at }
+        → IsGoneOnFault found.program found.trace.run jobs seed steps (gate_of found.journal) (D.bytes disk.old) (D.bytes disk.new) fault at }
     ensures faulty { (fault at : ℕ) → StandsAt (D.bytes disk.old) (gate_of found.journal) found.program found.trace.run
         → IsReviveFault found.program (D.bytes disk.old) (gate_of found.journal + 5 + length going_on + 1) fault at → IsFaultOrFailure fault at result }
     ensures among { (fault at : ℕ) → IsErrOf result (JournalError.Fault fault at) → (fault ≡ 6) ⊎ (fault ≡ 8) }
@@ -112,6 +114,7 @@ fn run_on_trace<G: Gate, D: Disk>(
     requires legal { Legal program.now trace.now.run }
     requires rest { IsAtRest (D.bytes disk.old) (D.images disk.old) (gate_of journal) }
     ensures begins { IfOk result (λ r. BeginsWith trace.now.run r.trace.run) }
+    ensures after { IfOk result (λ r. IsRunAfter program.now jobs seed limit trace.now.run r.trace.run) }
     ensures ends { IfOk result (λ r. EndsAt limit program.now r.trace.run r.is_complete) }
     ensures kept { IfOk result (λ r. StandsAt (D.bytes disk.old) (gate_of journal) program.now trace.now.run
         → IfSome (D.bytes disk.old) (λ file. length file ≤ most_bytes)
@@ -123,10 +126,11 @@ fn run_on_trace<G: Gate, D: Disk>(
     ensures fault { (fault at : ℕ) → IsErrOf result (JournalError.Fault fault at) → fault ≡ 8 }
     ensures full { (fault at : ℕ) → IsErrOf result (JournalError.Fault fault at)
         → StandsAt (D.bytes disk.old) (gate_of journal) program.now trace.now.run
-        → HasNoRoomFrom program.now trace.now.run limit (D.bytes disk.new) at }
+        → HasNoRoomAfter program.now jobs seed limit trace.now.run (D.bytes disk.new) at }
     ensures disk_fault { IsErrOf result JournalError.DiskFault → HasRisen (D.faults disk.old) (D.faults disk.new) }
     ensures never_falls { D.faults disk.old ≤ D.faults disk.new }
 {
+    adopted_is_at_work();
     adopted_has_all_jobs();
     let mut book = Book::resume(alloc, program, trace, limit)?;
     book.adopt()?;

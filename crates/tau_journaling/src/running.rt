@@ -1,6 +1,7 @@
 //! Running a book to its end, each step of which is kept.
 ghost use Rattle.std.specs.Prelude.{◌≡◌, ◌≤◌, ℕ, IfOk, IfSome, IsErrOf, length};
 ghost use Rattle.tau_io.specs.Faults.{HasRisen};
+ghost use Rattle.tau_trace.specs.Run.{Run};
 ghost use Rattle.tau_legal.specs.Ends.{EndsAt};
 ghost use Rattle.tau_journal.specs.Disk.Moments.{LeavesOnly};
 ghost use Rattle.tau_journal.specs.Records.{IsAtRest};
@@ -9,9 +10,9 @@ ghost use Rattle.tau_journal.specs.Room.{most_bytes};
 ghost use Rattle.tau_run_journal.specs.Standing.{StandsAt};
 ghost use Rattle.tau_book.specs.Onward.{BeginsWith};
 ghost use Rattle.tau_book.specs.Working.{HasAllJobs, IsAtWork};
-ghost use Rattle.tau_book.specs.SerialRun.{IsSerialRun};
+ghost use Rattle.tau_book.specs.Alone.{IsRunAfter};
 ghost use Rattle.tau_journaling.specs.Going.{StandsBetween};
-ghost use Rattle.tau_journaling.specs.Kept.{IsKeptOn, StandsForLonger, HasNoRoomFrom, HasNoRoomInSerial};
+ghost use Rattle.tau_journaling.specs.Kept.{IsKeptOn, StandsForLonger, HasNoRoomAfter};
 
 use crate::go_on;
 use std::alloc::Global;
@@ -35,8 +36,8 @@ pub(crate) fn run_on<'p, G: Gate, D: Disk>(
     requires rest { IsAtRest (D.bytes disk.old) (D.images disk.old) (gate_of journal) }
     ensures begins { IfOk result (λ r. BeginsWith book.entry.system.run r.trace.run) }
     ensures ends { IfOk result (λ r. EndsAt book.entry.limit book.entry.system.program r.trace.run r.is_complete) }
-    ensures serial { IfOk result (λ r. (seed : ℕ) → IsAtWork seed book.entry hand.entry
-        → IsSerialRun book.entry.system.program hand.entry.size seed book.entry.limit r.trace.run) }
+    ensures after { IfOk result (λ r. (seed : ℕ) (start : Run) → IsAtWork seed start book.entry hand.entry
+        → IsRunAfter book.entry.system.program hand.entry.size seed book.entry.limit start r.trace.run) }
     ensures kept { IfOk result (λ r. StandsAt (D.bytes disk.old) (gate_of journal) book.entry.system.program book.entry.system.run
         → IfSome (D.bytes disk.old) (λ file. length file ≤ most_bytes)
         → IsKeptOn (D.bytes disk.new) (D.images disk.new) book.entry.system.program r.trace.run) }
@@ -47,11 +48,8 @@ pub(crate) fn run_on<'p, G: Gate, D: Disk>(
     ensures fault { (fault at : ℕ) → IsErrOf result (JournalError.Fault fault at) → fault ≡ 8 }
     ensures full { (fault at : ℕ) → IsErrOf result (JournalError.Fault fault at)
         → StandsAt (D.bytes disk.old) (gate_of journal) book.entry.system.program book.entry.system.run
-        → HasNoRoomFrom book.entry.system.program book.entry.system.run book.entry.limit (D.bytes disk.new) at }
-    ensures full_serial { (fault at : ℕ) → IsErrOf result (JournalError.Fault fault at)
-        → StandsAt (D.bytes disk.old) (gate_of journal) book.entry.system.program book.entry.system.run
-        → (seed : ℕ) → IsAtWork seed book.entry hand.entry
-        → HasNoRoomInSerial book.entry.system.program hand.entry.size seed book.entry.limit (D.bytes disk.new) at }
+        → (seed : ℕ) → IsAtWork seed book.entry.system.run book.entry hand.entry
+        → HasNoRoomAfter book.entry.system.program hand.entry.size seed book.entry.limit book.entry.system.run (D.bytes disk.new) at }
     ensures disk_fault { IsErrOf result JournalError.DiskFault → HasRisen (D.faults disk.old) (D.faults disk.new) }
     ensures never_falls { D.faults disk.old ≤ D.faults disk.new }
 {

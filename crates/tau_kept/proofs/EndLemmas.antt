@@ -109,25 +109,25 @@ module _ (jobs seed steps : ℕ) (source sink : Effect) (disk : DiskEffect) wher
 
 -- ---- resume
 
-module _ (steps : ℕ) (sink : Effect) (disk : DiskEffect) where
-  resume_failed : (o : Output) → ResumeRefusals steps disk (of_end o.end) → ResumeRefusals steps disk WriteFault
-  resume_failed o refuses = resuming.quiet disk steps WriteFault tt
+module _ (jobs seed steps : ℕ) (sink : Effect) (disk : DiskEffect) where
+  resume_failed : (o : Output) → ResumeRefusals jobs seed steps disk (of_end o.end) → ResumeRefusals jobs seed steps disk WriteFault
+  resume_failed o refuses = resuming.quiet disk jobs seed steps WriteFault tt
       (λ file fault at told h. absurd (never_failed o.end fault at (refuses.faulty file fault at told h)))
       (λ file fault at told few h. absurd (never_failed o.end fault at (refuses.unrevived file fault at told few h)))
 
-  pub resume_finished : (made : Result Output Status) (status : Status) → Resumes steps disk made → Finishes made sink status → ResumeEnds steps sink disk status
+  pub resume_finished : (made : Result Output Status) (status : Status) → Resumes jobs seed steps disk made → Finishes made sink status → ResumeEnds jobs seed steps sink disk status
   resume_finished (Ok o) status k t =
       let runs = k.text.runs in
-      let both = told (IsResumedText steps disk) sink o k.text (λ s. IsTextStatus s × ResumeRefusals steps disk s)
-      (text_status _ runs.program runs.run o.end runs.ends, k.refusals) (tt, resume_failed o k.refusals) (tt, resuming.no_memory disk steps) status t in
+      let both = told (IsResumedText jobs seed steps disk) sink o k.text (λ s. IsTextStatus s × ResumeRefusals jobs seed steps disk s)
+      (text_status _ runs.program runs.run o.end runs.ends, k.refusals) (tt, resume_failed o k.refusals) (tt, resuming.no_memory disk jobs seed steps) status t in
       record { is_status = inr both.0.0; refusals = both.0.1; stays = k.stays; any_moment = k.any_moment; text = both.1 }
   resume_finished (Err s) status k t =
-      subst (ResumeEnds steps sink disk) (sym t.0) (record {
+      subst (ResumeEnds jobs seed steps sink disk) (sym t.0) (record {
         is_status = inl k.is_status;
         refusals = k.refusals;
         stays = k.stays;
         any_moment = k.any_moment;
-        text = writes_nothing (IsResumedText steps disk) sink s (resume_keeps s k.is_status) t.1;
+        text = writes_nothing (IsResumedText jobs seed steps disk) sink s (resume_keeps s k.is_status) t.1;
       })
 
 -- ---- all commands
@@ -147,10 +147,10 @@ module _ (W : Writing) (line : List (List ℕ)) (source sink : Effect) (disk : D
     unread,
     record {
       is_status = inr tt;
-      refusals = resuming.no_memory disk steps;
+      refusals = resuming.no_memory disk jobs seed steps;
       stays = record { faulty = λ file fault at told h. nothing; unrevived = λ file fault at told few h. nothing; complete = λ file P T told stands legal whole. nothing };
       any_moment = left_resumed;
-      text = writes_nothing (IsResumedText steps disk) sink NoMemory tt unwritten;
+      text = writes_nothing (IsResumedText jobs seed steps disk) sink NoMemory tt unwritten;
     },
   )
 

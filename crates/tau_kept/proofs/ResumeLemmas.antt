@@ -60,8 +60,8 @@ module _ (disk : DiskEffect) where
       told_each (λ f. Only disk.before disk.images_before → (Q : Program) (U : Run) → Stands f Q U → Legal Q U → disk.Leaves (StandsForResumed Q U)) disk.before left file told only P T stands legal
 
   -- a status of a text
-  pub quiet : (steps : ℕ) (s : Status) → IsTextStatus s → TellsFaulty s → TellsUnrevived s → ResumeRefusals steps disk s
-  quiet steps s is faulty unrevived = record {
+  pub quiet : (jobs seed steps : ℕ) (s : Status) → IsTextStatus s → TellsFaulty s → TellsUnrevived s → ResumeRefusals jobs seed steps disk s
+  quiet jobs seed steps s is faulty unrevived = record {
     journal = λ fault at e. absurd (another s (Journal fault at) is (λ x. x) e);
     among = λ fault at e. absurd (another s (Journal fault at) is (λ x. x) e);
     faulty = faulty;
@@ -70,17 +70,17 @@ module _ (disk : DiskEffect) where
     disk_fault = λ e. absurd (another s DiskFault is (λ x. x) e);
   }
 
-  pub no_memory : (steps : ℕ) → ResumeRefusals steps disk NoMemory
-  no_memory steps = quiet steps NoMemory tt (λ file fault at told h. inr (inr refl)) (λ file fault at told few h. inr (inr refl))
+  pub no_memory : (jobs seed steps : ℕ) → ResumeRefusals jobs seed steps disk NoMemory
+  no_memory jobs seed steps = quiet jobs seed steps NoMemory tt (λ file fault at told h. inr (inr refl)) (λ file fault at told few h. inr (inr refl))
 
   -- of an error of the journal
-  pub refused : (steps : ℕ) (X : Type 0) (e : JournalError)
-      → ((fault at : ℕ) → e ≡ journals.Fault fault at → IfSome disk.before (λ file. IsResumeRunFault steps file disk.after fault at))
+  pub refused : (jobs seed steps : ℕ) (X : Type 0) (e : JournalError)
+      → ((fault at : ℕ) → e ≡ journals.Fault fault at → IfSome disk.before (λ file. IsResumeRunFault jobs seed steps file disk.after fault at))
       → ((fault at : ℕ) → e ≡ journals.Fault fault at → IsResumeNumber fault)
       → IfSome disk.before (λ file. (fault at : ℕ) → IsResumeFault file fault at → IsFaultOrFailure {X = X} fault at (Err e))
       → IfSome disk.before (λ file. (fault at : ℕ) → length file ≤ most_bytes → IsUnrevived file fault at → IsFaultOrFailure {X = X} fault at (Err e))
-      → ((fault at : ℕ) → fault ≢ 8 → e ≡ journals.Fault fault at → IsUnwritten disk) → (e ≡ journals.DiskFault → disk.Failed) → ResumeRefusals steps disk (of_journal_error e)
-  refused steps X e fault_is among faulty unrevived unwritten failed = record {
+      → ((fault at : ℕ) → fault ≢ 8 → e ≡ journals.Fault fault at → IsUnwritten disk) → (e ≡ journals.DiskFault → disk.Failed) → ResumeRefusals jobs seed steps disk (of_journal_error e)
+  refused jobs seed steps X e fault_is among faulty unrevived unwritten failed = record {
     journal = λ fault at is. fault_is fault at (fault_of_status e fault at is);
     among = λ fault at is. among fault at (fault_of_status e fault at is);
     faulty = λ file fault at told h. failure_told {X = X} e fault at
@@ -92,17 +92,17 @@ module _ (disk : DiskEffect) where
   }
 
   -- the run was gone on with
-  module _ (X : Type 0) (x : X) (steps : ℕ) (Q : Program) (U : Run) (is_complete : Bool) (o : Output)
+  module _ (X : Type 0) (x : X) (jobs seed steps : ℕ) (Q : Program) (U : Run) (is_complete : Bool) (o : Output)
       (faulty : IfSome disk.before (λ file. (fault at : ℕ) → IsResumeFault file fault at → IsFaultOrFailure {X = X} fault at (Ok x)))
       (unrevived : IfSome disk.before (λ file. (fault at : ℕ) → length file ≤ most_bytes → IsUnrevived file fault at → IsFaultOrFailure {X = X} fault at (Ok x)))
-      (resumed : IsResumed disk.before steps Q U is_complete)
+      (resumed : IsResumed disk.before jobs seed steps Q U is_complete)
       (r : RunsAs (max steps (len resumed.run)) (printed (forms.printed Q)) o.end o.text.items) (program : r.program ≡ Q) (run_is : r.run ≡ U)
       (kept : IfSome disk.before (λ _. IsKeptOn disk.after disk.images_after Q U))
       (front : IfSome disk.before (λ _. Only disk.before disk.images_before → disk.Leaves (StandsForFrontOf U))) where
-    pub resumes : ResumeStays disk → LeavesResumed → Resumes steps disk (Ok o)
+    pub resumes : ResumeStays disk → LeavesResumed → Resumes jobs seed steps disk (Ok o)
     resumes stays left = record {
       is_status = tt;
-      refusals = quiet steps (of_end o.end) (text_status (max steps (len resumed.run)) r.program r.run o.end r.ends)
+      refusals = quiet jobs seed steps (of_end o.end) (text_status (max steps (len resumed.run)) r.program r.run o.end r.ends)
           (λ file fault at told h. absurd (no_failure x fault at (told_each (λ f. (n a : ℕ) → IsResumeFault f n a → IsFaultOrFailure {X = X} n a (Ok x)) disk.before faulty file told fault at h)))
           (λ file fault at told few h. absurd (no_failure x fault at
           (told_each (λ f. (n a : ℕ) → length f ≤ most_bytes → IsUnrevived f n a → IsFaultOrFailure {X = X} n a (Ok x)) disk.before unrevived file told fault at few h)));
@@ -122,10 +122,10 @@ module _ (disk : DiskEffect) where
     }
 
   -- no text came of it
-  pub resumes_not : (steps : ℕ) (made : Result Output Status) (e : Status) → IsErrAnd made (λ s. s ≡ e) → IsResumeRefusal e → ResumeRefusals steps disk e → ResumeStays disk → LeavesResumed → Resumes steps disk made
-  resumes_not steps (Ok o) e h is refuses stays left = absurd h
-  resumes_not steps (Err s) e h is refuses stays left =
-      subst (λ x. Resumes steps disk (Err x)) (sym h) (record { is_status = is; refusals = refuses; stays = stays; any_moment = left; text = tt })
+  pub resumes_not : (jobs seed steps : ℕ) (made : Result Output Status) (e : Status) → IsErrAnd made (λ s. s ≡ e) → IsResumeRefusal e → ResumeRefusals jobs seed steps disk e → ResumeStays disk → LeavesResumed → Resumes jobs seed steps disk made
+  resumes_not jobs seed steps (Ok o) e h is refuses stays left = absurd h
+  resumes_not jobs seed steps (Err s) e h is refuses stays left =
+      subst (λ x. Resumes jobs seed steps disk (Err x)) (sym h) (record { is_status = is; refusals = refuses; stays = stays; any_moment = left; text = tt })
 
 -- a disk to which nothing was written
 module _ {D : Type 0} (bytes : D → Option (List ℕ)) (images : D → List ℕ → Type 0) (moment : D → ℕ) (left_since : D → ℕ → List ℕ → Type 0) (old new : D) where

@@ -97,10 +97,10 @@ pub record KeepEnds (jobs seed steps : ℕ) (source sink : Effect) (disk : DiskE
 
 -- ---- resume
 
--- why `resume` with so many steps ended with a status before it wrote
-pub record ResumeRefusals (steps : ℕ) (disk : DiskEffect) (status : Status) : Type 0 where
+-- why `resume` with these numbers ended with a status before it wrote
+pub record ResumeRefusals (jobs seed steps : ℕ) (disk : DiskEffect) (status : Status) : Type 0 where
   -- nothing is found to go on with, or it isn't gone on with; on every disk it is 1 to 6, or 8
-  pub journal : (fault at : ℕ) → status ≡ Journal fault at → IfSome disk.before (λ file. IsResumeRunFault steps file disk.after fault at)
+  pub journal : (fault at : ℕ) → status ≡ Journal fault at → IfSome disk.before (λ file. IsResumeRunFault jobs seed steps file disk.after fault at)
   pub among : (fault at : ℕ) → status ≡ Journal fault at → IsResumeNumber fault
   pub faulty : (file : List ℕ) (fault at : ℕ) → disk.before ≡ Some file → IsResumeFault file fault at → IsUnlessFailed status (Journal fault at)
   pub unrevived : (file : List ℕ) (fault at : ℕ) → disk.before ≡ Some file → length file ≤ most_bytes → IsUnrevived file fault at
@@ -116,23 +116,23 @@ pub record ResumeStays (disk : DiskEffect) : Type 0 where
   pub unrevived : (file : List ℕ) (fault at : ℕ) → disk.before ≡ Some file → length file ≤ most_bytes → IsUnrevived file fault at → IsUnwritten disk
   pub complete : (file : List ℕ) (P : Program) (T : Run) → disk.before ≡ Some file → Stands file P T → Legal P T → Complete P T → IsUnwritten disk
 
--- what `resume` with so many steps did that ended with this status
-pub record ResumeEnds (steps : ℕ) (sink : Effect) (disk : DiskEffect) (status : Status) : Type 0 where
+-- what `resume` with these numbers did that ended with this status
+pub record ResumeEnds (jobs seed steps : ℕ) (sink : Effect) (disk : DiskEffect) (status : Status) : Type 0 where
   pub is_status : IsResumeRefusal status ⊎ IsTextStatus status
-  pub refusals : ResumeRefusals steps disk status
+  pub refusals : ResumeRefusals jobs seed steps disk status
   pub stays : ResumeStays disk
   -- on a disk on which nothing is pending, which stands for a program and a legal run, a crash at any moment of the call leaves it
   -- standing for the program, or for its revival, and a legal run that begins with that one, whatever the status
   pub any_moment : (file : List ℕ) (P : Program) (T : Run) → disk.before ≡ Some file → Only disk.before disk.images_before → Stands file P T → Legal P T
       → disk.Leaves (StandsForResumed P T)
-  pub text : WritesText (IsResumedText steps disk) sink status
+  pub text : WritesText (IsResumedText jobs seed steps disk) sink status
 
 -- ---- all commands
 
 -- what a command over a journal did; `resume` reads nothing
 abbrev pub EndsOverJournal : JournalCommand → Effect → Effect → DiskEffect → Status → Type 0
 EndsOverJournal (Keep jobs seed steps) source sink disk status = KeepEnds jobs seed steps source sink disk status
-EndsOverJournal (Resume jobs seed steps) source sink disk status = source.Stayed × ResumeEnds steps sink disk status
+EndsOverJournal (Resume jobs seed steps) source sink disk status = source.Stayed × ResumeEnds jobs seed steps sink disk status
 
 -- what a call for the words of a command line did that ended with this status: that of a command over a journal, or else what the
 -- call without a disk does, and the disk stayed as it was

@@ -30,13 +30,13 @@ pub record Keeps (jobs seed steps : ℕ) (source : Effect) (disk : DiskEffect) (
   pub text : IfOk made (λ o. IsKeptText jobs seed steps source.before disk o.end o.text.items)
 
 -- a run was gone on with and has this text, or wasn't for a reason
-pub record Resumes (steps : ℕ) (disk : DiskEffect) (made : Result Output Status) : Type 0 where
+pub record Resumes (jobs seed steps : ℕ) (disk : DiskEffect) (made : Result Output Status) : Type 0 where
   pub is_status : IfErr made IsResumeRefusal
-  pub refusals : ResumeRefusals steps disk (status_of made)
+  pub refusals : ResumeRefusals jobs seed steps disk (status_of made)
   pub stays : ResumeStays disk
   pub any_moment : (file : List ℕ) (P : Program) (T : Run) → disk.before ≡ Some file → Only disk.before disk.images_before → Stands file P T → Legal P T
       → disk.Leaves (StandsForResumed P T)
-  pub text : IfOk made (λ o. IsResumedText steps disk o.end o.text.items)
+  pub text : IfOk made (λ o. IsResumedText jobs seed steps disk o.end o.text.items)
 
 -- an output was told, or nothing was, and the status
 abbrev pub Finishes : Result Output Status → Effect → Status → Type 0

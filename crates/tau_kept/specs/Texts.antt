@@ -46,13 +46,14 @@ pub record IsKeptText (jobs seed steps : ℕ) (left : Option (List ℕ)) (disk :
   -- and a crash at any moment of the call leaves a blank disk, or one that stands for the program and a front of the run
   pub front : IfSome disk.before (λ file. IsBlank file → Only disk.before disk.images_before → disk.Leaves (IsBlankOrFrontOf runs.runs.program runs.runs.run))
 
--- `resume` with so many steps writes this text, and ends so
-pub record IsResumedText (steps : ℕ) (disk : DiskEffect) (end : End) (text : List ℕ) : Type 0 where
-  -- what came of going on: the program that was found or its revival, and a run that begins with the one that was found
+-- `resume` with these numbers writes this text, and ends so
+pub record IsResumedText (jobs seed steps : ℕ) (disk : DiskEffect) (end : End) (text : List ℕ) : Type 0 where
+  -- what came of going on: the program and the run that were found, or its revival and the run that one hand with so many jobs and this
+  -- seed makes behind it
   pub program : Program
   pub run : Run
   pub is_complete : Bool
-  pub resumed : IsResumed disk.before steps program run is_complete
+  pub resumed : IsResumed disk.before jobs seed steps program run is_complete
   -- the text is that of the two, with as many steps at most as are told or were found
   pub runs : RunsAs (max steps (len resumed.run)) (printed (forms.printed program)) end text
   pub program_is : runs.program ≡ program

@@ -23,7 +23,7 @@ pub(crate) fn resumed_text<G: Gate, D: Disk>(
     requires some { 1 ≤ jobs }
     requires few { jobs ≤ JOB_LIMIT }
     requires limit { steps ≤ STEP_LIMIT }
-    ensures { Resumes steps (disk_effect D.bytes D.images D.moment D.left_since D.faults disk.old disk.new) result }
+    ensures { Resumes jobs seed steps (disk_effect D.bytes D.images D.moment D.left_since D.faults disk.old disk.new) result }
 {
     let resumed = resume_run(alloc, jobs, seed, steps, disk, gate)?;
     let ran = resumed.ran;

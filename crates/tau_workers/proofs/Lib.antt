@@ -1,4 +1,3 @@
 pub mod Sends
 pub mod Joins
 pub mod SeatSends
-pub mod Going

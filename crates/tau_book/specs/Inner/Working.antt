@@ -1,5 +1,5 @@
 -- What one hand over a book keeps while a job of it is evaluated.
-use Rattle.std.specs.Prelude.{◌≡◌, ◌≢◌, ◌⊎◌, ◌%◌, ◌≤◌, ℕ, List, [], ◌++◌, Some, length, slice_get}
+use Rattle.std.specs.Prelude.{◌≡◌, ◌≢◌, ◌⊎◌, ◌%◌, ◌≤◌, ℕ, List, ◌++◌, Some, length, map, slice_get}
 use Rattle.std.specs.List.{AllPairs, Contains}
 use Rattle.rand_pcg.specs.Lcg.{Lcg}
 use Rattle.rand_pcg.specs.Pcg.{pcg32}
@@ -11,7 +11,8 @@ use Rattle.tau_queue.specs.OpenTurns.{IsOpenFrom}
 use Rattle.tau_book.specs.Hands.{Held}
 use Rattle.tau_book.specs.Books.{Booked, GoesOn}
 use Rattle.tau_book.specs.Adopted.{HasJobFrom}
-use Rattle.tau_book.specs.SerialRun.{Choosable, turn, AreOptions, ComesAbout}
+use Rattle.tau_book.specs.SerialRun.{Choosable, turn}
+use Rattle.tau_book.specs.Alone.{AreOwnOptions, ComesAfter}
 
 -- the jobs are the records of the open turns, one of each
 pub record AreOpenJobs (P : Program) (T : Run) (js : List jobs.TurnSoFar) : Type 0 where
@@ -32,18 +33,12 @@ pub record HasHandedOut (b : Booked) (h : Held) (job : jobs.TurnSoFar) : Type 0 
   pub is_open : IsOpenJob b.system.program b.system.run job
   pub others : AreOtherJobs b.system.program b.system.run job (h.jobs ++ b.store)
 
--- the word before the hand's generator has chosen the turn of the job in the serial run with this seed
-pub record HasChosen (seed : ℕ) (b : Booked) (h : Held) (job : jobs.TurnSoFar) : Type 0 where
-  pub none_back : b.store ≡ []
+-- the word before the hand's generator has chosen the turn of the job, behind the steps of `start`
+pub record HasChosen (seed : ℕ) (start : Run) (b : Booked) (h : Held) (job : jobs.TurnSoFar) : Type 0 where
+  pub waiting : List ℕ
   pub before : Lcg
-  pub comes_about : ComesAbout b.system.program h.size seed b.system.run before
+  pub comes_after : ComesAfter b.system.program h.size seed start b.system.run waiting before
   pub after : h.generator ≡ (pcg32 before).1
   pub options : List Choosable
-  pub options_are : AreOptions b.system.run h.size options
+  pub options_are : AreOwnOptions b.system.run h.size waiting (map (λ j. j.place) b.store) options
   pub chosen : slice_get options ((pcg32 before).0 % length options) ≡ Some (turn job.place)
-
--- the same program, limit and room
-pub record IsSameWork (old new : Booked) (h k : Held) : Type 0 where
-  pub program : new.system.program ≡ old.system.program
-  pub limit : new.limit ≡ old.limit
-  pub size : k.size ≡ h.size

@@ -16,9 +16,9 @@ returns-clause-jobs g c = on_ok_weaker c.act_open.result
     (subst (λ (j : TurnSoFar). IsTurnStep c.args.book.now c.act_open.new.self c.args.hand.now c.act_open.new.hand j) c.in_ok-pending.ensures made))
     c.act_open.ensures.ok
 
-pub returns-clause-serial : goal.returns-clause-serial
-returns-clause-serial g c = on_ok_weaker c.act_open.result
-    (λ made seed x. works_made seed c.args.book.now c.act_open.new.self c.args.hand.now c.act_open.new.hand c.args.job c.act_open.ensures.was_book c.act_open.ensures.is_book c.requires.handed_out x
+pub returns-clause-works : goal.returns-clause-works
+returns-clause-works g c = on_ok_weaker c.act_open.result
+    (λ made seed start x. works_made seed start c.args.book.now c.act_open.new.self c.args.hand.now c.act_open.new.hand c.args.job c.requires.handed_out x
     (subst (λ (j : TurnSoFar). IsTurnStep c.args.book.now c.act_open.new.self c.args.hand.now c.act_open.new.hand j) c.in_ok-pending.ensures made))
     c.act_open.ensures.ok
 

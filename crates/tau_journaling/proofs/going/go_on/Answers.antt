@@ -12,7 +12,7 @@ loop-init g c =
       rest = c.requires.rest;
       grows = goes_nowhere first;
       size = refl;
-      serial = λ seed w. w;
+      works = λ seed start w. w;
       stands = λ at. at;
       within = λ small. small;
       any_moment = λ at.
@@ -48,11 +48,11 @@ returns-in_err-kept-clause-full g c fault at is =
     let before = c.loop.book in
     let after = c.keep_next.new.book in
     let so_far = c.loop.invariant in
-    no_room_more first.system.program before.system.program so_far.grows.program first.system.run before.system.run after.system.run
+    no_room_more first.system.program before.system.program so_far.grows.program first.system.run before.system.run after.system.run so_far.grows.begins
     (g.D.Disk.bytes c.args.disk.now) (g.D.Disk.bytes c.loop.disk) (g.D.Disk.bytes c.keep_next.new.disk) (gate_of c.args.journal) (gate_of c.loop.journal) at so_far.stands (c.in_err-kept.ensures.full fault at (search rules))
 
 pub returns-in_err-kept-clause-unkept : goal.returns-in_err-kept-clause-unkept
-returns-in_err-kept-clause-unkept g c fault at is seed w = c.in_err-kept.ensures.unkept fault at (search rules) seed (c.loop.invariant.serial seed w)
+returns-in_err-kept-clause-unkept g c fault at is seed start w = c.in_err-kept.ensures.unkept fault at (search rules) seed start (c.loop.invariant.works seed start w)
 
 pub returns-in_err-kept-clause-disk_fault : goal.returns-in_err-kept-clause-disk_fault
 returns-in_err-kept-clause-disk_fault g c is = risen_later _ _ _ c.loop.invariant.never_falls (c.in_err-kept.ensures.disk_fault (search rules))
@@ -66,8 +66,8 @@ returns-then-not-made-clause-grows g c = goes_further c.args.book.now c.loop.boo
 pub returns-then-not-made-clause-size : goal.returns-then-not-made-clause-size
 returns-then-not-made-clause-size g c = c.in_ok-kept.ensures.size ∙ c.loop.invariant.size
 
-pub returns-then-not-made-clause-serial : goal.returns-then-not-made-clause-serial
-returns-then-not-made-clause-serial g c seed w = c.in_ok-kept.ensures.serial seed (c.loop.invariant.serial seed w)
+pub returns-then-not-made-clause-works : goal.returns-then-not-made-clause-works
+returns-then-not-made-clause-works g c seed start w = c.in_ok-kept.ensures.works seed start (c.loop.invariant.works seed start w)
 
 pub returns-then-not-made-clause-stands : goal.returns-then-not-made-clause-stands
 returns-then-not-made-clause-stands g c =
@@ -104,7 +104,7 @@ loop-preserved g c =
       rest = c.in_ok-kept.ensures.rest;
       grows = goes_further first before after so_far.grows c.in_ok-kept.ensures.grows;
       size = c.in_ok-kept.ensures.size ∙ so_far.size;
-      serial = λ seed w. c.in_ok-kept.ensures.serial seed (so_far.serial seed w);
+      works = λ seed start w. c.in_ok-kept.ensures.works seed start (so_far.works seed start w);
       stands =
           stands_more first.system.program before.system.program so_far.grows.program first.system.run before.system.run after.system.run
           (g.D.Disk.bytes c.args.disk.now) (g.D.Disk.bytes c.loop.disk) (g.D.Disk.bytes c.keep_next.new.disk) (gate_of c.args.journal) (gate_of c.loop.journal) (gate_of c.in_ok-kept.kept) so_far.stands c.in_ok-kept.ensures.stands;
@@ -122,8 +122,8 @@ returns-clause-grows g c = c.loop.invariant.grows
 pub returns-clause-size : goal.returns-clause-size
 returns-clause-size g c = c.loop.invariant.size
 
-pub returns-clause-serial : goal.returns-clause-serial
-returns-clause-serial g c = c.loop.invariant.serial
+pub returns-clause-works : goal.returns-clause-works
+returns-clause-works g c = c.loop.invariant.works
 
 pub returns-clause-rest : goal.returns-clause-rest
 returns-clause-rest g c = c.loop.invariant.rest

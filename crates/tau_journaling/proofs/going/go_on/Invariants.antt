@@ -1,5 +1,5 @@
 use Rattle.std.proofs.Common.{◌≡◌, ◌≤◌, ℕ, IfSome, length}
-use Rattle.tau_trace.specs.Run.{len}
+use Rattle.tau_trace.specs.Run.{Run, len}
 use Rattle.tau_journal.specs.Disk.Moments.{LeavesOnly}
 use Rattle.tau_journal.specs.Records.{IsAtRest}
 use Rattle.tau_journal.specs.Room.{most_bytes}
@@ -16,7 +16,7 @@ invariant-loop g l = record {
   rest : IsAtRest (g.D.Disk.bytes l.disk) (g.D.Disk.images l.disk) (gate_of l.journal);
   grows : GoesOnFrom l.fn.book l.book;
   size : l.hand.size ≡ l.fn.hand.size;
-  serial : (seed : ℕ) → IsAtWork seed l.fn.book l.fn.hand → IsAtWork seed l.book l.hand;
+  works : (seed : ℕ) (start : Run) → IsAtWork seed start l.fn.book l.fn.hand → IsAtWork seed start l.book l.hand;
   stands : StandsAt (g.D.Disk.bytes l.fn.disk) (gate_of l.fn.journal) l.fn.book.system.program l.fn.book.system.run → StandsAt (g.D.Disk.bytes l.disk) (gate_of l.journal) l.fn.book.system.program l.book.system.run;
   within : IfSome (g.D.Disk.bytes l.fn.disk) (λ file. length file ≤ most_bytes) → IfSome (g.D.Disk.bytes l.disk) (λ file. length file ≤ most_bytes);
   any_moment : StandsAt (g.D.Disk.bytes l.fn.disk) (gate_of l.fn.journal) l.fn.book.system.program l.fn.book.system.run

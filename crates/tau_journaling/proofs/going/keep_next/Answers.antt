@@ -43,4 +43,4 @@ returns-clause-any_moment g c at =
     (c.in_ok-kept.ensures.any_moment was.system.program was.system.run step.0 (last_is was now step.0 step.1 c.trace.result.now.run run) at)
 
 pub returns-in_err-kept-clause-unkept : goal.returns-in_err-kept-clause-unkept
-returns-in_err-kept-clause-unkept g c fault at is = c.in_ok-made.ensures.serial
+returns-in_err-kept-clause-unkept g c fault at is = c.in_ok-made.ensures.works

@@ -1,4 +1,4 @@
-use Rattle.std.proofs.Common.{◌≡◌, inr, ℕ, List, length, Option, IfSome, ◌≤◌, rules}
+use Rattle.std.proofs.Common.{◌≡◌, inr, ℕ, List, length, Option, IfSome, ◌≤◌, sym, rules}
 use Rattle.tau_journal.specs.Disk.Moments.{LeavesOnly}
 use Rattle.tau_journal.specs.Found.{IsCreateFault}
 use Rattle.tau_journal.specs.Gates.{gate_of}
@@ -7,10 +7,11 @@ use Rattle.tau_journal.proofs.Blank.{with_told}
 use Rattle.tau_run_journal.specs.Standing.{opened, StandsAt}
 use Rattle.tau_run_journal.proofs.Answered.{if_ok_then}
 use Rattle.tau_journaling.specs.Going.{StandsBetween}
-use Rattle.tau_journaling.specs.Kept.{IsKeptOn, StandsForLonger, HasNoRoomInSerial, first_size}
+use Rattle.tau_journaling.specs.Kept.{IsKeptOn, StandsForLonger, first_size}
 use Rattle.tau_journaling.proofs.Faulted.{of_same, faulty_failed, faulty_never}
-use Rattle.tau_journaling.proofs.Ended.{same_serial, same_no_room}
-use Rattle.tau_journaling.proofs.KeptRuns.{keeping_begun, keeping_on, front_on, fault_making, fault_keeping, never_held}
+use Rattle.tau_book.proofs.Works.{same_after}
+use Rattle.tau_journaling.proofs.Ended.{same_no_room, serial_then}
+use Rattle.tau_journaling.proofs.KeptRuns.{keeping_begun, keeping_on, front_on, fault_making, fault_keeping, never_held, no_room_serial}
 use Rattle.tau_journaling.proofs.keeping.keep_run.Goals as goal
 
 pub returns-in_err-journal-clause-any_moment : goal.returns-in_err-journal-clause-any_moment
@@ -39,10 +40,12 @@ returns-in_err-hand-clause-faulty g c =
 
 pub returns-clause-serial : goal.returns-clause-serial
 returns-clause-serial g c =
+    let P = c.args.program.now in
     let begun = c.opened_is_at_work.ensures c.args.seed c.in_ok-book.book c.in_ok-hand.hand (search rules) (search rules) c.in_ok-hand.ensures.generator in
     if_ok_then _ _ c.run_on.result
-    (λ r serial. same_serial c.args.program.now c.in_ok-book.book.system.program c.in_ok-hand.hand.size c.args.jobs c.args.seed c.in_ok-book.book.limit c.args.limit r.trace.run
-    c.in_ok-book.ensures.program c.in_ok-hand.ensures.size c.in_ok-book.ensures.limit (serial c.args.seed begun)) c.run_on.ensures.serial
+    (λ r after. serial_then c.run_after_none_is_serial.ensures P c.args.jobs c.args.seed c.args.limit r.trace.run
+    (same_after c.in_ok-book.book.system.program P c.in_ok-hand.hand.size c.args.jobs c.args.seed c.in_ok-book.book.limit c.args.limit c.in_ok-book.book.system.run (opened P) r.trace.run
+    c.in_ok-book.ensures.program c.in_ok-hand.ensures.size c.in_ok-book.ensures.limit c.in_ok-book.ensures.run (after c.args.seed c.in_ok-book.book.system.run begun))) c.run_on.ensures.after
 
 pub returns-clause-kept : goal.returns-clause-kept
 returns-clause-kept g c =
@@ -81,10 +84,10 @@ returns-clause-fault g c fault at is =
     let after = g.D.Disk.bytes c.run_on.new.disk in
     let begun = c.opened_is_at_work.ensures c.args.seed c.in_ok-book.book c.in_ok-hand.hand (search rules) (search rules) c.in_ok-hand.ensures.generator in
     fault_keeping P c.args.jobs c.args.seed c.args.limit after fault at (g.D.Disk.bytes c.args.disk.now) bytes gate (c.run_on.ensures.fault fault at is) c.in_ok-journal.ensures.stands
-    (λ there. same_no_room P c.in_ok-book.book.system.program c.in_ok-hand.hand.size c.args.jobs c.args.seed c.in_ok-book.book.limit c.args.limit after at
-    c.in_ok-book.ensures.program c.in_ok-hand.ensures.size c.in_ok-book.ensures.limit
-    (of_same (λ Q T. StandsAt bytes gate Q T → HasNoRoomInSerial c.in_ok-book.book.system.program c.in_ok-hand.hand.size c.args.seed c.in_ok-book.book.limit after at)
-    c.in_ok-book.book.system.program P c.in_ok-book.book.system.run (opened P) c.in_ok-book.ensures.program c.in_ok-book.ensures.run (λ stands. c.run_on.ensures.full_serial fault at is stands c.args.seed begun) there))
+    (λ there. no_room_serial c.run_after_none_is_serial.ensures P c.args.jobs c.args.seed c.args.limit after at
+    (same_no_room P c.in_ok-book.book.system.program c.in_ok-hand.hand.size c.args.jobs c.args.seed c.in_ok-book.book.limit c.args.limit c.in_ok-book.book.system.run (opened P) after at
+    c.in_ok-book.ensures.program c.in_ok-hand.ensures.size c.in_ok-book.ensures.limit c.in_ok-book.ensures.run
+    (c.run_on.ensures.full fault at is (of_same (λ Q T. StandsAt bytes gate Q T) _ _ _ _ (sym c.in_ok-book.ensures.program) (sym c.in_ok-book.ensures.run) there) c.args.seed begun)))
 
 pub returns-clause-among : goal.returns-clause-among
 returns-clause-among g c fault at is = inr (c.run_on.ensures.fault fault at is)

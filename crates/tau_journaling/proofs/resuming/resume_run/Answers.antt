@@ -17,7 +17,7 @@ returns-in_err-found-clause-any_moment g c =
 
 pub returns-in_err-found-clause-fault : goal.returns-in_err-found-clause-fault
 returns-in_err-found-clause-fault g c fault at is =
-    finding_fault c.args.steps (g.D.Disk.bytes c.args.disk.now) (g.D.Disk.bytes c.find_legal.new.disk) fault at (c.in_err-found.ensures.fault fault at (search rules))
+    finding_fault c.args.jobs c.args.seed c.args.steps (g.D.Disk.bytes c.args.disk.now) (g.D.Disk.bytes c.find_legal.new.disk) fault at (c.in_err-found.ensures.fault fault at (search rules))
 
 pub returns-in_err-found-clause-faulty : goal.returns-in_err-found-clause-faulty
 returns-in_err-found-clause-faulty g c =
@@ -31,7 +31,7 @@ pub returns-then-found-clause-resumed : goal.returns-then-found-clause-resumed
 returns-then-found-clause-resumed g c =
     let found = c.in_ok-found.found in
     let told = g.D.Disk.bytes c.args.disk.now in
-    resumed_whole found.program found.trace.run told c.args.steps c.in_ok-found.ensures.run c.in_ok-found.ensures.legal
+    resumed_whole found.program found.trace.run told c.args.jobs c.args.seed c.args.steps c.in_ok-found.ensures.run c.in_ok-found.ensures.legal
     (told_there found.program found.trace.run (gate_of found.journal) told c.in_ok-found.ensures.stands) (c.in_ok-found.ensures.complete.0 (search rules))
 
 pub returns-then-found-clause-any_moment : goal.returns-then-found-clause-any_moment
@@ -57,10 +57,10 @@ returns-clause-resumed g c =
     let found = c.in_ok-found.found in
     let told = g.D.Disk.bytes c.args.disk.now in
     let gone = c.run_on_revived.ensures in
-    if_ok_all _ _ _ _ _ c.run_on_revived.result
-    (λ r revival sound begins ends. resumed_further found.program r.program found.trace.run r.ran.trace.run told c.args.steps r.ran.is_complete c.in_ok-found.ensures.run c.in_ok-found.ensures.legal
-    (told_there found.program found.trace.run (gate_of found.journal) told c.in_ok-found.ensures.stands) (not_complete _ found.complete c.if-found.false c.in_ok-found.ensures.complete) revival sound begins ends)
-    gone.revival gone.sound gone.begins gone.ends
+    if_ok_all _ _ _ _ _ _ c.run_on_revived.result
+    (λ r revival sound begins after ends. resumed_further found.program r.program found.trace.run r.ran.trace.run told c.args.jobs c.args.seed c.args.steps r.ran.is_complete c.in_ok-found.ensures.run c.in_ok-found.ensures.legal
+    (told_there found.program found.trace.run (gate_of found.journal) told c.in_ok-found.ensures.stands) (not_complete _ found.complete c.if-found.false c.in_ok-found.ensures.complete) revival sound begins after ends)
+    gone.revival gone.sound gone.begins gone.after gone.ends
 
 pub returns-clause-kept : goal.returns-clause-kept
 returns-clause-kept g c =
@@ -99,8 +99,8 @@ returns-clause-fault g c fault at is =
     let found = c.in_ok-found.found in
     let told = g.D.Disk.bytes c.args.disk.now in
     let after = g.D.Disk.bytes c.run_on_revived.new.disk in
-    going_fault found.program found.trace.run (gate_of found.journal) c.args.steps c.in_ok-found.ensures.legal (not_complete _ found.complete c.if-found.false c.in_ok-found.ensures.complete) told after fault at c.in_ok-found.ensures.stands
-    (λ there. subst (λ (o : Option (List ℕ)). IsGoneOnFault found.program found.trace.run c.args.steps (gate_of found.journal) o after fault at) c.find_legal.ensures.same
+    going_fault found.program found.trace.run (gate_of found.journal) c.args.jobs c.args.seed c.args.steps c.in_ok-found.ensures.legal (not_complete _ found.complete c.if-found.false c.in_ok-found.ensures.complete) told after fault at c.in_ok-found.ensures.stands
+    (λ there. subst (λ (o : Option (List ℕ)). IsGoneOnFault found.program found.trace.run c.args.jobs c.args.seed c.args.steps (gate_of found.journal) o after fault at) c.find_legal.ensures.same
     (c.run_on_revived.ensures.fault fault at is (stands_still found.program found.trace.run (gate_of found.journal) told (g.D.Disk.bytes c.find_legal.new.disk) c.find_legal.ensures.same there)))
 
 pub returns-clause-faulty : goal.returns-clause-faulty

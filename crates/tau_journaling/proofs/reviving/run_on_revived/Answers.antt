@@ -3,7 +3,8 @@ use Rattle.tau_trace.specs.Run.{len}
 use Rattle.tau_journal.specs.Records.{going_on}
 use Rattle.tau_journal.specs.Gates.{gate_of}
 use Rattle.tau_run_journal.proofs.Finds.{no_failure}
-use Rattle.tau_journaling.specs.Kept.{HasNoRoomFrom}
+use Rattle.tau_book.specs.Alone.{IsRunAfter}
+use Rattle.tau_journaling.specs.Kept.{HasNoRoomAfter}
 use Rattle.tau_journaling.proofs.Faulted.{failed_told, unrevived_told, unrevived_stays, revive_number}
 use Rattle.tau_journaling.proofs.ResumedRuns.{leaves_marked, leaves_gone_on, leaves_fronts}
 use Rattle.tau_journaling.proofs.reviving.run_on_revived.Goals as goal
@@ -53,7 +54,7 @@ returns-in_err-ran-clause-fault g c fault at is stands =
       c.in_err-ran.ensures.fault fault at (search rules),
       Q,
       c.in_ok-revived.ensures.revival,
-      subst (λ (n : ℕ). HasNoRoomFrom Q T n (g.D.Disk.bytes c.run_on_trace.new.disk) at) limit (c.in_err-ran.ensures.full fault at (search rules) (c.in_ok-revived.ensures.stands stands)),
+      subst (λ (n : ℕ). HasNoRoomAfter Q c.args.jobs c.args.seed n T (g.D.Disk.bytes c.run_on_trace.new.disk) at) limit (c.in_err-ran.ensures.full fault at (search rules) (c.in_ok-revived.ensures.stands stands)),
     )
 
 pub returns-in_err-ran-clause-among : goal.returns-in_err-ran-clause-among
@@ -78,6 +79,11 @@ returns-clause-front g c at =
     let T = c.args.found.trace.run in
     leaves_fronts g.D.Disk.images g.D.Disk.moment g.D.Disk.left_since P T c.in_ok-ran.ran.trace.run c.in_ok-ran.ensures.begins c.in_ok-revived.revived.program
     c.args.disk.now c.revive.new.disk c.run_on_trace.new.disk (c.revive.ensures.any_moment at) (c.in_ok-ran.ensures.front (c.in_ok-revived.ensures.stands at))
+
+pub returns-clause-after : goal.returns-clause-after
+returns-clause-after g c =
+    let limit : c.max-limit.result ≡ max c.args.steps (len c.args.found.trace.run) = search rules in
+    subst (λ (n : ℕ). IsRunAfter c.in_ok-revived.revived.program c.args.jobs c.args.seed n c.args.found.trace.run c.in_ok-ran.ran.trace.run) limit c.in_ok-ran.ensures.after
 
 pub returns-clause-faulty : goal.returns-clause-faulty
 returns-clause-faulty g c fault at stands found =

@@ -1,16 +1,17 @@
-use Rattle.std.proofs.Common.{◌≡◌, ◌≤◌, ℕ, length, ap, ◌∙◌, subst, arith}
-use Rattle.std.specs.Prelude.{IfOk, IfSome, IsErrOf}
+use Rattle.std.proofs.Common.{◌≤◌, length, sym, ◌∙◌, subst, arith}
+use Rattle.std.specs.Prelude.{IfOk, IfSome}
 use Rattle.tau_trace.specs.Run.{Run}
 use Rattle.tau_journal.specs.Disk.Moments.{LeavesOnly}
 use Rattle.tau_journal.specs.Gates.{gate_of}
 use Rattle.tau_journal.specs.Room.{most_bytes}
-use Rattle.tau_journal.specs.declared.errors.JournalError.TheVariants.{Fault}
 use Rattle.tau_book.specs.Onward.{BeginsWith}
 use Rattle.tau_run_journal.specs.Standing.{StandsAt}
+use Rattle.tau_run_journal.proofs.Answered.{if_ok_then}
 use Rattle.tau_journaling.specs.Going.{StandsBetween}
-use Rattle.tau_journaling.specs.Kept.{IsKeptOn, HasNoRoomFrom}
+use Rattle.tau_journaling.specs.Kept.{IsKeptOn}
 use Rattle.tau_journaling.proofs.Faulted.{of_same}
-use Rattle.tau_journaling.proofs.Ended.{adopted_program, adopted_run, adopted_limit}
+use Rattle.tau_book.proofs.Works.{same_after}
+use Rattle.tau_journaling.proofs.Ended.{adopted_program, adopted_run, adopted_limit, same_no_room}
 use Rattle.tau_journaling.proofs.reviving.run_on_trace.Goals as goal
 
 pub run_on-requires-clause-jobs : goal.run_on-requires-clause-jobs
@@ -39,12 +40,24 @@ returns-clause-front g c =
     → LeavesOnly g.D.Disk.moment g.D.Disk.left_since c.args.disk.now c.run_on.new.disk (StandsBetween P T r.trace.run)))
     _ _ _ _ program run c.run_on.ensures.front
 
-pub returns-clause-full : goal.returns-clause-full
-returns-clause-full g c =
+pub returns-clause-after : goal.returns-clause-after
+returns-clause-after g c =
     let program = adopted_program c.in_ok-book.book c.adopt.new.self c.in_ok-adopt.field-0 c.in_ok-adopt.ensures.ok ∙ c.in_ok-book.ensures.program in
     let run = adopted_run c.in_ok-book.book c.adopt.new.self c.in_ok-adopt.field-0 c.in_ok-adopt.ensures.ok ∙ c.in_ok-book.ensures.run in
     let most = adopted_limit c.in_ok-book.book c.adopt.new.self c.in_ok-adopt.field-0 c.in_ok-adopt.ensures.ok ∙ c.in_ok-book.ensures.limit in
-    let after = g.D.Disk.bytes c.run_on.new.disk in
-    subst (λ (n : ℕ). (fault at : ℕ) → IsErrOf c.run_on.result (Fault fault at) → StandsAt (g.D.Disk.bytes c.args.disk.now) (gate_of c.args.journal) c.args.program.now c.args.trace.now.run → HasNoRoomFrom c.args.program.now c.args.trace.now.run n after at) most
-    (of_same (λ P T. (fault at : ℕ) → IsErrOf c.run_on.result (Fault fault at) → StandsAt (g.D.Disk.bytes c.args.disk.now) (gate_of c.args.journal) P T → HasNoRoomFrom P T c.adopt.new.self.limit after at)
-    _ _ _ _ program run c.run_on.ensures.full)
+    let begun = c.adopted_is_at_work.ensures c.args.seed c.in_ok-book.book c.adopt.new.self c.in_ok-hand.hand c.in_ok-adopt.field-0 c.in_ok-book.ensures.store c.in_ok-adopt.ensures.ok
+    (record { some = omega (arith, c.in_ok-hand.ensures.size, c.requires.some); none = c.in_ok-hand.ensures.jobs }) c.in_ok-hand.ensures.generator in
+    if_ok_then _ _ c.run_on.result
+    (λ r after. same_after c.adopt.new.self.system.program c.args.program.now c.in_ok-hand.hand.size c.args.jobs c.args.seed c.adopt.new.self.limit c.args.limit c.adopt.new.self.system.run c.args.trace.now.run r.trace.run
+    program c.in_ok-hand.ensures.size most run (after c.args.seed c.adopt.new.self.system.run begun)) c.run_on.ensures.after
+
+pub returns-clause-full : goal.returns-clause-full
+returns-clause-full g c fault at is stands =
+    let program = adopted_program c.in_ok-book.book c.adopt.new.self c.in_ok-adopt.field-0 c.in_ok-adopt.ensures.ok ∙ c.in_ok-book.ensures.program in
+    let run = adopted_run c.in_ok-book.book c.adopt.new.self c.in_ok-adopt.field-0 c.in_ok-adopt.ensures.ok ∙ c.in_ok-book.ensures.run in
+    let most = adopted_limit c.in_ok-book.book c.adopt.new.self c.in_ok-adopt.field-0 c.in_ok-adopt.ensures.ok ∙ c.in_ok-book.ensures.limit in
+    let begun = c.adopted_is_at_work.ensures c.args.seed c.in_ok-book.book c.adopt.new.self c.in_ok-hand.hand c.in_ok-adopt.field-0 c.in_ok-book.ensures.store c.in_ok-adopt.ensures.ok
+    (record { some = omega (arith, c.in_ok-hand.ensures.size, c.requires.some); none = c.in_ok-hand.ensures.jobs }) c.in_ok-hand.ensures.generator in
+    let there = of_same (λ P T. StandsAt (g.D.Disk.bytes c.args.disk.now) (gate_of c.args.journal) P T) _ _ _ _ (sym program) (sym run) stands in
+    same_no_room c.args.program.now c.adopt.new.self.system.program c.in_ok-hand.hand.size c.args.jobs c.args.seed c.adopt.new.self.limit c.args.limit c.adopt.new.self.system.run c.args.trace.now.run (g.D.Disk.bytes c.run_on.new.disk) at
+    program c.in_ok-hand.ensures.size most run (c.run_on.ensures.full fault at is there c.args.seed begun)

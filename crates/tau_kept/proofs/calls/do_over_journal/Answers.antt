@@ -19,4 +19,4 @@ returns-in-Resume g c =
     let sink = effect_on g.O.Sink.held g.O.Sink.faults c.args.output.now c.finish-in-Resume.new.output in
     let disk = disk_effect g.D.Disk.bytes g.D.Disk.images g.D.Disk.moment g.D.Disk.left_since g.D.Disk.faults c.args.disk.now c.resumed_text.new.disk in
     subst (λ command. EndsOverJournal command source sink disk c.finish-in-Resume.result) (sym c.in-Resume.is)
-    (refl, resume_finished c.in-Resume.steps sink disk c.resumed_text.result c.finish-in-Resume.result c.resumed_text.ensures c.finish-in-Resume.ensures)
+    (refl, resume_finished c.in-Resume.jobs c.in-Resume.seed c.in-Resume.steps sink disk c.resumed_text.result c.finish-in-Resume.result c.resumed_text.ensures c.finish-in-Resume.ensures)

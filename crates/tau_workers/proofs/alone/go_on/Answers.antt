@@ -1,14 +1,6 @@
-use Rattle.tau_workers.proofs.Going.{goes_nowhere, goes_further, goes_by_adopting}
+use Rattle.std.proofs.Common.{◌≡◌, refl, sym, ap, ◌∙◌, arith}
+use Rattle.tau_book.specs.Books.{Booked}
+use Rattle.tau_book.specs.Onward.{GoesOnFrom}
+use Rattle.tau_book.proofs.Onward.{goes_nowhere, goes_further, no_step}
+use Rattle.tau_book.proofs.Works.{has_ended, goes_on_still, same_after}
 use Rattle.tau_workers.proofs.alone.go_on.Goals as goal
-
-pub returns-then-is_some : goal.returns-then-is_some
-returns-then-is_some c = goes_nowhere c.args.book.now
-
-pub loop-init : goal.loop-init
-loop-init c = goes_by_adopting _ _ _ c.in_ok-adopt.ensures.ok
-
-pub loop-preserved : goal.loop-preserved
-loop-preserved c = goes_further _ _ _ c.loop.invariant c.in_ok-make_step.ensures
-
-pub returns-then-not-branch : goal.returns-then-not-branch
-returns-then-not-branch c = goes_further _ _ _ c.loop.invariant c.in_ok-make_step.ensures
