@@ -361,15 +361,15 @@ def tried(judge, name, many=1, workers=0):
 
 
 def cases():
-    """The name, the words and the input of each case whose text is shown, but for large inputs. `run` without a number of workers has
-    one."""
+    """The name, the words and the input of each case whose text is shown, but for large inputs. `run` and `storm` without a number of
+    workers have one."""
     for line, section in sections_of(CASES, "stdin"):
         command, _, title = line.decode().partition(" ; ")
         shows, *words = command.split(" ")
         if shows not in ("", "#"):
             continue
         words = [word for word in words if word]
-        if words[:1] == ["run"] and not any(word.startswith("--workers") for word in words):
+        if words[:1] in (["run"], ["storm"]) and not any(word.startswith("--workers") for word in words):
             words += ["--workers", "1"]
         given = spelled(section)
         if len(given) > LARGE:

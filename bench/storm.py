@@ -1,7 +1,8 @@
 #!/usr/bin/env python3
 """What `storm` takes, and whether it tells what a plain recursion over the definitions tells.
 
-    bench/storm.py              the figures, each the median of five runs, beside `run`, `report` and `cut` of the same program
+    bench/storm.py              the figures, each the median of five runs, beside `run`, `report` and `cut` of the same program, and by how
+                                many workers a storm takes how long
     bench/storm.py --check [N]  compares the text of `storm` with that of the recursion, on N random programs (20)
 
 The recursion makes each run by `run --workers 1` of the program with the faults in its script, and reads what can come at a place
@@ -14,6 +15,7 @@ import statistics
 import subprocess
 import sys
 import tempfile
+import time
 
 import programs
 
@@ -178,6 +180,7 @@ def check(count):
             "repeats": chosen.choice([0, 1]),
             "every": chosen.choice([3, 5, 9]),
             "steps": chosen.choice([10, 25, 40]),
+            "workers": chosen.choice([1, 2, 3, 32]),
         }
         same = tau(text, "storm", *words_of(options))[0] == told(text, options)
         bad += not same
@@ -208,7 +211,7 @@ def figures():
     print("| words | seconds | MB | runs a second | steps a second | first line |")
     print("|---|---|---|---|---|---|")
     for options in ("", "--fails 2 --seeds 3", "--losses 1 --seeds 10", "--fails 2 --losses 1 --seeds 3", "--fails 2 --seeds 100"):
-        seconds, memory, first = measured(text, ["storm", *options.split()])
+        seconds, memory, first = measured(text, ["storm", "--workers", "1", *options.split()])
         runs = int(first.split("(runs ")[1].split(")")[0])
         steps = int(first.split("(steps ")[1].split(")")[0])
         print(f"| `storm {options}` | {seconds:.3f} | {memory:.0f} | {runs / seconds:,.0f} | {steps / seconds:,.0f} | `{first}` |", flush=True)
@@ -216,8 +219,24 @@ def figures():
     alone = [measured(ring, ["run", "--workers", "1", "--steps", "20000"])[0]]
     trace = tau(ring, "run", "--workers", "1", "--steps", "20000")[0]
     alone += [measured(trace, [it])[0] for it in ("report", "cut")]
-    one = measured(ring, ["storm", "--fails", "0", "--seeds", "1", "--steps", "20000"])[0]
+    one = measured(ring, ["storm", "--workers", "1", "--fails", "0", "--seeds", "1", "--steps", "20000"])[0]
     print(f"\none run of 20,000 steps: `run` {alone[0]:.3f}, `report` {alone[1]:.3f}, `cut` {alone[2]:.3f}, `storm` of it {one:.3f} seconds")
+    by_workers(text, ["storm", "--fails", "2", "--seeds", "100"])
+
+
+def by_workers(text, words):
+    """The seconds that pass, as the median of five storms by so many workers, and as a part of those of one."""
+    print(f"\n| workers, `{' '.join(words)}` | seconds | of one worker's |\n|---|---|---|")
+    alone = None
+    for workers in (1, 2, 4):
+        found = []
+        for _ in range(5):
+            begun = time.monotonic()
+            tau(text, *words, "--workers", str(workers))
+            found.append(time.monotonic() - begun)
+        seconds = statistics.median(found)
+        alone = alone or seconds
+        print(f"| {workers} | {seconds:.2f} | {seconds / alone:.2f} |", flush=True)
 
 
 if __name__ == "__main__":

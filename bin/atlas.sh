@@ -4,7 +4,7 @@
 # How many outcomes have their picture in the page.
 pictures=20
 
-# Sets `file`, `words` (the options of storm but --claim, --seed and --seeds), and these three. The FILE may be the first word, or the last one.
+# Sets `file`, `words` (the options of storm but --claim, --seed, --seeds and --workers), and these four. The FILE may be the first word, or the last one.
 read_words() {
     case ${1--} in
     -*) ;;
@@ -23,6 +23,7 @@ read_words() {
         exit 2
     fi
     claim=$(value_of --claim "" "$@") seed=$(value_of --seed 0 "$@") seeds=$(value_of --seeds 100 "$@")
+    workers=$(value_of --workers 4 "$@")
     words=
     for word in fails:1 losses:0 repeats:0 every:1 steps:1000 jobs:1; do
         value=$(value_of "--${word%:*}" "${word#*:}" "$@")
@@ -86,7 +87,7 @@ atlas() {
     begin_watch atlas
     status=0 broken=
     # shellcheck disable=SC2086
-    [ -z "$claim" ] || "$root/bin/tau" storm $words --seed "$seed" --seeds "$seeds" --claim "$claim" "$room/program" >"$room/broken" 2>"$room/lines" || status=$?
+    [ -z "$claim" ] || "$root/bin/tau" storm $words --workers "$workers" --seed "$seed" --seeds "$seeds" --claim "$claim" "$room/program" >"$room/broken" 2>"$room/lines" || status=$?
     case $status in
     0) ;;
     12)
@@ -97,7 +98,7 @@ atlas() {
     esac
     made=0
     # shellcheck disable=SC2086
-    "$root/bin/tau" storm $words --seed "$seed" --seeds "$seeds" "$room/program" >"$room/storm" 2>"$room/lines" || made=$?
+    "$root/bin/tau" storm $words --workers "$workers" --seed "$seed" --seeds "$seeds" "$room/program" >"$room/storm" 2>"$room/lines" || made=$?
     hand_lines "$made"
     [ "$status" -eq 0 ] || broken=$(find_broken)
     ask print | sed -n '/^(at /p' >"$room/script"

@@ -5,7 +5,7 @@ numbered=' gen drill why draw '
 needing=' gen drill why '
 reading=' run check audit report print migrate keep why cut draw storm '
 options=' --workers --jobs --seed --steps --from --to --seeds --fails --losses --repeats --every --claim --show '
-pairs=' run:--workers run:--jobs run:--seed run:--steps keep:--workers keep:--jobs keep:--seed keep:--steps resume:--workers resume:--jobs resume:--seed resume:--steps draw:--from draw:--to storm:--claim storm:--show storm:--jobs storm:--seed storm:--seeds storm:--fails storm:--losses storm:--repeats storm:--every storm:--steps '
+pairs=' run:--workers run:--jobs run:--seed run:--steps keep:--workers keep:--jobs keep:--seed keep:--steps resume:--workers resume:--jobs resume:--seed resume:--steps draw:--from draw:--to storm:--claim storm:--show storm:--workers storm:--jobs storm:--seed storm:--seeds storm:--fails storm:--losses storm:--repeats storm:--every storm:--steps '
 
 # The range of an option, or of the number of a command.
 range_of() {

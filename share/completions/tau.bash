@@ -25,8 +25,8 @@ _tau() {
     keep) options="--workers --jobs --seed --steps --over" ;;
     resume) options="--workers --jobs --seed --steps" ;;
     draw) options="--from --to" ;;
-    storm) options="--claim --show --jobs --seed --seeds --fails --losses --repeats --every --steps" ;;
-    atlas) options="--claim --jobs --seed --seeds --fails --losses --repeats --every --steps" ;;
+    storm) options="--claim --show --workers --jobs --seed --seeds --fails --losses --repeats --every --steps" ;;
+    atlas) options="--claim --workers --jobs --seed --seeds --fails --losses --repeats --every --steps" ;;
     help)
         [[ $COMP_CWORD -gt 2 ]] || mapfile -t COMPREPLY < <(compgen -W "$commands" -- "$word")
         return

@@ -43,7 +43,8 @@ complete -c tau -n "__fish_seen_subcommand_from draw; and not __fish_seen_subcom
 complete -c tau -n "__fish_seen_subcommand_from draw; and not __fish_seen_subcommand_from help" -F
 complete -c tau -n "__fish_seen_subcommand_from storm; and not __fish_seen_subcommand_from help" -l claim -x -d "the behaviour that is to hold at each end (the name of a behaviour)"
 complete -c tau -n "__fish_seen_subcommand_from storm; and not __fish_seen_subcommand_from help" -l show -x -d "writes the simplest run with this outcome (0 to 4,294,967,295)"
-complete -c tau -n "__fish_seen_subcommand_from storm; and not __fish_seen_subcommand_from help" -l jobs -x -d "how many turns the worker has open at a time (1 to 16)"
+complete -c tau -n "__fish_seen_subcommand_from storm; and not __fish_seen_subcommand_from help" -l workers -x -d "how many workers share the seeds; what is written doesn't depend on it (1 to 32)"
+complete -c tau -n "__fish_seen_subcommand_from storm; and not __fish_seen_subcommand_from help" -l jobs -x -d "how many turns the worker of a run has open at a time (1 to 16)"
 complete -c tau -n "__fish_seen_subcommand_from storm; and not __fish_seen_subcommand_from help" -l seed -x -d "the first seed (0 to 18,446,744,073,709,551,615)"
 complete -c tau -n "__fish_seen_subcommand_from storm; and not __fish_seen_subcommand_from help" -l seeds -x -d "how many seeds, one after the other (1 to 1,000,000,000)"
 complete -c tau -n "__fish_seen_subcommand_from storm; and not __fish_seen_subcommand_from help" -l fails -x -d "the most failures of nodes in a run (0 to 16)"
@@ -53,13 +54,14 @@ complete -c tau -n "__fish_seen_subcommand_from storm; and not __fish_seen_subco
 complete -c tau -n "__fish_seen_subcommand_from storm; and not __fish_seen_subcommand_from help" -l steps -x -d "the most steps of a run (0 to 200,000)"
 complete -c tau -n "__fish_seen_subcommand_from storm; and not __fish_seen_subcommand_from help" -F
 complete -c tau -n "__fish_seen_subcommand_from atlas; and not __fish_seen_subcommand_from help" -l claim -x -d "the behaviour that is to hold at each end (the name of a behaviour)"
-complete -c tau -n "__fish_seen_subcommand_from atlas; and not __fish_seen_subcommand_from help" -l jobs -x -d "how many turns a worker has open at a time (1 to 16)"
-complete -c tau -n "__fish_seen_subcommand_from atlas; and not __fish_seen_subcommand_from help" -l seed -x -d "the seed of the choices (0 to 18,446,744,073,709,551,615)"
+complete -c tau -n "__fish_seen_subcommand_from atlas; and not __fish_seen_subcommand_from help" -l workers -x -d "how many workers share the seeds; what is written doesn't depend on it (1 to 32)"
+complete -c tau -n "__fish_seen_subcommand_from atlas; and not __fish_seen_subcommand_from help" -l jobs -x -d "how many turns the worker of a run has open at a time (1 to 16)"
+complete -c tau -n "__fish_seen_subcommand_from atlas; and not __fish_seen_subcommand_from help" -l seed -x -d "the first seed (0 to 18,446,744,073,709,551,615)"
 complete -c tau -n "__fish_seen_subcommand_from atlas; and not __fish_seen_subcommand_from help" -l seeds -x -d "how many seeds, one after the other (1 to 1,000,000,000)"
 complete -c tau -n "__fish_seen_subcommand_from atlas; and not __fish_seen_subcommand_from help" -l fails -x -d "the most failures of nodes in a run (0 to 16)"
 complete -c tau -n "__fish_seen_subcommand_from atlas; and not __fish_seen_subcommand_from help" -l losses -x -d "the most losses of messages in a run (0 to 16)"
 complete -c tau -n "__fish_seen_subcommand_from atlas; and not __fish_seen_subcommand_from help" -l repeats -x -d "the most repeats of messages in a run; in version 1 nothing is repeated (0 to 16)"
 complete -c tau -n "__fish_seen_subcommand_from atlas; and not __fish_seen_subcommand_from help" -l every -x -d "faults come only at places that are multiples of it, for long runs (1 to 200,000)"
-complete -c tau -n "__fish_seen_subcommand_from atlas; and not __fish_seen_subcommand_from help" -l steps -x -d "the most steps that the run does (0 to 200,000)"
+complete -c tau -n "__fish_seen_subcommand_from atlas; and not __fish_seen_subcommand_from help" -l steps -x -d "the most steps of a run (0 to 200,000)"
 complete -c tau -n "__fish_seen_subcommand_from atlas; and not __fish_seen_subcommand_from help" -F
 complete -c tau -n "__fish_seen_subcommand_from decisions gather; and not __fish_seen_subcommand_from help" -F

@@ -3,10 +3,11 @@
 //! section the line is written, then what the command of these words writes for the input on one thread, and on a line `; N LINE` the
 //! number of its status and the status's line on standard error. What stands at once behind the `#` tells more:
 //!
-//! - nothing: where the words start one worker, a further line says whether the call that starts threads does the same;
+//! - nothing: of `run` with one worker and of `storm` a further line says whether the call that starts threads does the same;
 //! - `#`: as nothing, but the run text is shown by the number of its steps and the last two alone, and then by what `check` writes for it;
 //! - a number: the number of lines that the command writes stands in place of them, and behind it so many of the last ones;
 //! - `=`: for each line `;? TEXT` of the input, how many of the lines that the command writes hold the text stands in place of them;
+//!   they are written by the call that starts threads;
 //! - `!`: what comes where a read or a write fails (`failing.rt`);
 //! - `?`: what comes where the read behind the last byte that an input may have fails;
 //! - `@`: several commands with ` | ` between them, over one disk in memory (`kept.rt`);
@@ -29,7 +30,7 @@ use crate::counted::add_counts;
 use crate::failing::{Tried, add_failures, add_late_failure};
 use crate::inputs::{input_of, line_of};
 use crate::kept::{add_events, add_failing_disk, add_kept};
-use crate::words::{starts_one_worker, words_of};
+use crate::words::{words_of, writes_one_text};
 use std::alloc::{AllocError, Global};
 use std::process::ExitCode;
 use std::sync::Wait;
@@ -110,12 +111,12 @@ fn add_section<R: Threads + Wait + Sync>(
             add_status(alloc, text, status)
         }
         "#" | "##" => add_whole(rt, alloc, text, mark, &words, &input),
-        "#=" => add_counted(alloc, text, &words, &input),
+        "#=" => add_counted(rt, alloc, text, &words, &input),
         _ => add_end(alloc, text, mark, &words, input),
     }
 }
 
-/// Adds what words write for an input, the status, and for one worker whether the call that starts threads does the same.
+/// Adds what words write for an input, the status, and where they have one text whether the call that starts threads does the same.
 fn add_whole<R: Threads + Wait + Sync>(
     rt: &R,
     alloc: Global,
@@ -134,7 +135,7 @@ fn add_whole<R: Threads + Wait + Sync>(
         text.extend_from_slice(output.bytes())?;
     }
     add_status(alloc, text, status)?;
-    if starts_one_worker(alloc, words) {
+    if writes_one_text(alloc, words) {
         let is_same = is_same_with_threads(rt, alloc, words, input, status, output.bytes())?;
         let line = if is_same { "the same" } else { "another text" };
         text.extend_from_slice(b"; with threads ")?;
@@ -163,7 +164,8 @@ fn is_same_with_threads<R: Threads + Wait + Sync>(
 }
 
 /// Adds how many of the lines that words write for an input hold each text that it names, and the status.
-fn add_counted(
+fn add_counted<R: Threads + Wait + Sync>(
+    rt: &R,
     alloc: Global,
     text: &mut Vec<u8>,
     words: &Words,
@@ -171,7 +173,7 @@ fn add_counted(
 ) -> Result<(), AllocError> {
     let mut source = SteadySource::new(Vec::from_slice(alloc, input)?);
     let mut output = SteadySink::new(alloc);
-    let status = tau_still(alloc, words, &mut source, &mut output);
+    let status = tau(rt, alloc, words, &mut source, &mut output, &OpenGate);
     add_counts(alloc, text, input, output.bytes())?;
     add_status(alloc, text, status)
 }

@@ -11,10 +11,11 @@ pub(crate) fn words_of(alloc: Global, line: &str) -> Result<Words, AllocError> {
     Ok(words)
 }
 
-/// Whether the words are those of `run` with one worker.
-pub(crate) fn starts_one_worker(alloc: Global, words: &Words) -> bool {
-    matches!(
-        read_words(alloc, words),
-        Ok(Command::Run { workers: 1, .. })
-    )
+/// Whether the words are those of a command that may start threads and writes one text all the same: `run` with one worker, or `storm`.
+pub(crate) fn writes_one_text(alloc: Global, words: &Words) -> bool {
+    match read_words(alloc, words) {
+        Ok(Command::Run { workers, .. }) => workers == 1,
+        Ok(Command::Storm { .. }) => true,
+        _ => false,
+    }
 }

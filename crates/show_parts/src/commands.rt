@@ -65,7 +65,11 @@ fn add_command(text: &mut String, call: Call<'_>, command: Command) -> Result<()
             to,
             ask: None,
         } => writeln!(text, "{line}: Draw, from {from}, to {to}"),
-        Command::Storm { numbers, question } => add_storm(text, line, numbers, &question),
+        Command::Storm {
+            workers,
+            numbers,
+            question,
+        } => add_storm(text, line, workers, numbers, &question),
     }
 }
 
@@ -73,6 +77,7 @@ fn add_command(text: &mut String, call: Call<'_>, command: Command) -> Result<()
 fn add_storm(
     text: &mut String,
     line: &str,
+    workers: u32,
     numbers: StormNumbers,
     question: &Question,
 ) -> Result<(), AllocError> {
@@ -88,7 +93,7 @@ fn add_storm(
     } = numbers;
     write!(
         text,
-        "{line}: Storm, jobs {jobs}, seed {seed}, seeds {seeds}, fails {fails}, losses {losses}, repeats {repeats}, every {every}, steps {steps}"
+        "{line}: Storm, workers {workers}, jobs {jobs}, seed {seed}, seeds {seeds}, fails {fails}, losses {losses}, repeats {repeats}, every {every}, steps {steps}"
     )?;
     match question {
         Question::Outcomes => text.push_str("\n"),

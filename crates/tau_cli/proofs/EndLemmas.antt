@@ -38,7 +38,7 @@ faulty_reads Migrate bytes fault at (within l h) = refl
 faulty_reads (Why place) bytes fault at (within l h) = refl
 faulty_reads Cut bytes fault at (within l h) = refl
 faulty_reads (Draw from to ask) bytes fault at (within l h) = refl
-faulty_reads (Storm numbers question) bytes fault at (within l h) = refl
+faulty_reads (Storm workers numbers question) bytes fault at (within l h) = refl
 
 -- The status of a text that was written.
 end_result : (end : End) → IsResult (of_end end)

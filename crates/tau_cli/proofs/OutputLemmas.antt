@@ -71,33 +71,33 @@ step_end : (command : Command) (place : ℕ) → wanted_by command ≡ Some (wan
 step_end (Why k) place e = let same : k ≡ place = cc in inr (ap Place (sym same))
 step_end (Draw from to None) place e = absurd (cc)
 step_end (Draw from to (Some k)) place e = let same : k ≡ place = cc in inr (place, ap Some same, refl)
-step_end (Storm numbers Outcomes) place e = absurd (cc)
-step_end (Storm numbers (Claim name)) place e = absurd (cc)
-step_end (Storm numbers (Show outcome)) place e = absurd (cc)
+step_end (Storm workers numbers Outcomes) place e = absurd (cc)
+step_end (Storm workers numbers (Claim name)) place e = absurd (cc)
+step_end (Storm workers numbers (Show outcome)) place e = absurd (cc)
 step_end command place e = absurd (cc)
 
 claim_end : (command : Command) → wanted_by command ≡ Some wants.Behaviour → IsEndOf command NoClaim
 claim_end (Why k) e = absurd (cc)
 claim_end (Draw from to None) e = absurd (cc)
 claim_end (Draw from to (Some k)) e = absurd (cc)
-claim_end (Storm numbers Outcomes) e = absurd (cc)
-claim_end (Storm numbers (Claim name)) e = inr (inr refl)
-claim_end (Storm numbers (Show outcome)) e = absurd (cc)
+claim_end (Storm workers numbers Outcomes) e = absurd (cc)
+claim_end (Storm workers numbers (Claim name)) e = inr (inr refl)
+claim_end (Storm workers numbers (Show outcome)) e = absurd (cc)
 claim_end command e = absurd (cc)
 
 outcome_end : (command : Command) → wanted_by command ≡ Some wants.Outcome → IsEndOf command NoOutcome
 outcome_end (Why k) e = absurd (cc)
 outcome_end (Draw from to None) e = absurd (cc)
 outcome_end (Draw from to (Some k)) e = absurd (cc)
-outcome_end (Storm numbers Outcomes) e = absurd (cc)
-outcome_end (Storm numbers (Claim name)) e = absurd (cc)
-outcome_end (Storm numbers (Show outcome)) e = inr refl
+outcome_end (Storm workers numbers Outcomes) e = absurd (cc)
+outcome_end (Storm workers numbers (Claim name)) e = absurd (cc)
+outcome_end (Storm workers numbers (Show outcome)) e = inr refl
 outcome_end command e = absurd (cc)
 
 pub asked_reads : (command : Command) (wanted : Wanted) → wanted_by command ≡ Some wanted → IsTrue (reads_input command)
 asked_reads (Why k) wanted e = refl
 asked_reads (Draw from to ask) wanted e = refl
-asked_reads (Storm numbers question) wanted e = refl
+asked_reads (Storm workers numbers question) wanted e = refl
 asked_reads command wanted e = absurd (cc)
 
 -- with no fault anywhere, only want of memory is left

@@ -69,9 +69,9 @@ writes_end commands.Migrate bytes end text w = migrate_end (second_program w.ans
 writes_end (commands.Why place) bytes end text w = inl (ap of_end w.answers.1)
 writes_end commands.Cut bytes end text w = ap of_end w.answers.1
 writes_end (commands.Draw from to ask) bytes end text w = inl (ap of_end w.answers.1)
-writes_end (commands.Storm numbers questions.Outcomes) bytes end text w = ap of_end w.answers.ends
-writes_end (commands.Storm numbers (questions.Claim name)) bytes end text w = claim_end numbers name bytes end text w.answers
-writes_end (commands.Storm numbers (questions.Show outcome)) bytes end text w = inl (ap of_end w.answers.ends)
+writes_end (commands.Storm workers numbers questions.Outcomes) bytes end text w = ap of_end w.answers.ends
+writes_end (commands.Storm workers numbers (questions.Claim name)) bytes end text w = claim_end numbers name bytes end text w.answers
+writes_end (commands.Storm workers numbers (questions.Show outcome)) bytes end text w = inl (ap of_end w.answers.ends)
 
 -- and on one thread
 same_end : (command : Command) (end : End) → IsEndOf (by_one_worker command) (of_end end) → IsEndOf command (of_end end)
@@ -86,7 +86,7 @@ same_end commands.Migrate end h = h
 same_end (commands.Why place) end h = h
 same_end commands.Cut end h = h
 same_end (commands.Draw from to ask) end h = h
-same_end (commands.Storm numbers question) end e = e
+same_end (commands.Storm workers numbers question) end e = e
 
 pub serial_end : (command : Command) (bytes : List ℕ) (end : End) (text : List ℕ) → WritesSerially command bytes end text → IsEndOf command (of_end end)
 serial_end command bytes end text w = same_end command end (writes_end (by_one_worker command) bytes end text w)

@@ -27,9 +27,9 @@ IsEndOf Migrate status = (status ≡ Done) ⊎ ((place : ℕ) × (status ≡ Bad
 IsEndOf (Why place) status = (status ≡ Done) ⊎ (status ≡ Place place)
 IsEndOf Cut status = status ≡ Done
 IsEndOf (Draw from to ask) status = (status ≡ Done) ⊎ ((place : ℕ) × (ask ≡ Some place) × (status ≡ Place place))
-IsEndOf (Storm numbers Outcomes) status = status ≡ Done
-IsEndOf (Storm numbers (Claim name)) status = (status ≡ Done) ⊎ ((status ≡ Broken_claim) ⊎ (status ≡ NoClaim))
-IsEndOf (Storm numbers (Show outcome)) status = (status ≡ Done) ⊎ (status ≡ NoOutcome)
+IsEndOf (Storm workers numbers Outcomes) status = status ≡ Done
+IsEndOf (Storm workers numbers (Claim name)) status = (status ≡ Done) ⊎ ((status ≡ Broken_claim) ⊎ (status ≡ NoClaim))
+IsEndOf (Storm workers numbers (Show outcome)) status = (status ≡ Done) ⊎ (status ≡ NoOutcome)
 
 -- the bytes are those that a source had left, where it tells them
 abbrev pub AreLeft : Option (List ℕ) → List ℕ → Type 0

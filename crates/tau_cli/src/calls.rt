@@ -49,10 +49,10 @@ pub fn tau_still<I: Source, O: Sink>(
     }
 }
 
-/// Does what the words of a command line ask for, as [`tau_still`] does, but `run` with two workers or more starts a thread for each of
-/// them (docs/rules.md, "Workers"). It waits for them, so all is said of it if it returns. Of several workers' run it is said that it is a
-/// legal run of the input's program, and not which one. Each evaluation stands between a call of the gate's `enter` and one of its
-/// `leave`.
+/// Does what the words of a command line ask for, as [`tau_still`] does, but `run` and `storm` with two workers or more start a thread for
+/// each of them (docs/rules.md, "Workers", "Storm"). It waits for them, so all is said of it if it returns. Of several workers' run it is
+/// said that it is a legal run of the input's program, and not which one; what `storm` writes is the same whatever their number. Each
+/// evaluation of a `run` stands between a call of the gate's `enter` and one of its `leave`.
 pub fn tau<R: Threads + Wait + Sync, I: Source, O: Sink, G: Gate + Sync>(
     rt: &R,
     alloc: Global,

@@ -1,6 +1,6 @@
 -- The commands that the words of a command line name.
-use Rattle.std.specs.Prelude.{ℕ, ◌≤◌, Bool, true, false, not, ◌&&◌, ◌||◌, ◌^◌, List, [], ◌∷◌, Option, Some, None, find, codes}
-use Rattle.std.specs.Prelude.{if◌then◌else◌, nat_lt, option_map, option_and_then}
+use Rattle.std.specs.Prelude.{◌≤◌, Bool, true, false, not, ◌&&◌, ◌||◌, List, [], ◌∷◌, Option, Some, None, find, codes}
+use Rattle.std.specs.Prelude.{if◌then◌else◌, option_map, option_and_then}
 use Rattle.std.specs.Str.{bytes_eq}
 use Rattle.clap.specs.Words.{Kinds, Row, Text, fault_of, first_of, matches_of}
 use Rattle.clap.specs.declared.parser.matches.ValueSource.{ValueSource}
@@ -27,7 +27,7 @@ stands id rows = is_from_words (option_and_then (λ r. r.source) (find (λ r. by
 
 -- an option of both `run` and `storm` stands on the line
 abbrev pub has_choice_option : List Row → Bool
-has_choice_option rows = stands (codes "jobs") rows || (stands (codes "seed") rows || stands (codes "steps") rows)
+has_choice_option rows = stands (codes "workers") rows || (stands (codes "jobs") rows || (stands (codes "seed") rows || stands (codes "steps") rows))
 
 -- an option of `storm` alone stands on the line
 abbrev pub has_storm_option : List Row → Bool
@@ -85,10 +85,9 @@ takes_number name = bytes_eq name (codes "gen")
 
 -- an option stands with a command that it doesn't go with, or a number with one that takes none
 abbrev pub stands_amiss : Text → List Row → Bool
-stands_amiss name rows = (stands (codes "workers") rows && not (bytes_eq name (codes "run")))
-    || ((has_choice_option rows && (not (bytes_eq name (codes "run")) && not (bytes_eq name (codes "storm"))))
+stands_amiss name rows = (has_choice_option rows && (not (bytes_eq name (codes "run")) && not (bytes_eq name (codes "storm"))))
     || ((has_window_option rows && not (bytes_eq name (codes "draw")))
-    || ((has_storm_option rows && not (bytes_eq name (codes "storm"))) || (stands (codes "number") rows && not (takes_number name)))))
+    || ((has_storm_option rows && not (bytes_eq name (codes "storm"))) || (stands (codes "number") rows && not (takes_number name))))
 
 -- the command with a name, where what stands on the line goes with it
 abbrev pub command_allowed : List Row → Text → Option Command
@@ -147,7 +146,7 @@ pub record AreStormNumbers (n : StormNumbers) : Type 0 where
 -- the numbers of `run` and of `storm` lie in the ranges of their options
 abbrev pub IsInRange : Command → Type 0
 IsInRange (Run workers jobs seed steps) = (1 ≤ workers) × (workers ≤ 32) × (1 ≤ jobs) × (jobs ≤ 16) × (steps ≤ 200000)
-IsInRange (Storm numbers question) = AreStormNumbers numbers
+IsInRange (Storm workers numbers question) = (1 ≤ workers) × (workers ≤ 32) × AreStormNumbers numbers
 IsInRange command = Unit {0}
 
 -- and those of a command over a journal

@@ -29,6 +29,7 @@ question_by (Some name) (Some outcome) = None
 abbrev pub question_of : List Row → Option Question
 question_of rows = question_by (first_of (codes "claim") rows) (number_of 32 (codes "show") rows)
 
--- `storm`, with its numbers and what is asked
+-- `storm`, with the number of its workers, its numbers and what is asked
 abbrev pub storm_of : List Row → Option Command
-storm_of rows = option_and_then (λ n. option_map (λ q. Storm n q) (question_of rows)) (storm_numbers rows)
+storm_of rows = option_and_then (λ w. option_and_then (λ n. option_map (λ q. Storm w n q) (question_of rows)) (storm_numbers rows))
+    (number_of 32 (codes "workers") rows)

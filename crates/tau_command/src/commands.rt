@@ -64,6 +64,8 @@ pub enum Command {
     },
     /// Makes the serial runs of many seeds with every placement of so many faults, and tells how they end.
     Storm {
+        /// How many workers make the runs.
+        workers: u32,
         /// Which runs are made.
         numbers: StormNumbers,
         /// What is asked of them.

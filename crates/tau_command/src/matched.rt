@@ -51,8 +51,7 @@ fn command_allowed(
 fn stands_amiss(name: &str, matches: &ArgMatches<'_>) -> bool
     ensures { result ≡ stands_amiss name.now (rows_of (found_of matches.now)) }
 {
-    (stands(matches, "workers") && name != "run")
-        || (has_choice_option(matches) && name != "run" && name != "storm")
+    (has_choice_option(matches) && name != "run" && name != "storm")
         || (has_window_option(matches) && name != "draw")
         || (has_storm_option(matches) && name != "storm")
         || (stands(matches, "number") && !takes_number(name))
@@ -176,7 +175,10 @@ fn draw_of(matches: &ArgMatches<'_>) -> Option<Command>
 fn has_choice_option(matches: &ArgMatches<'_>) -> bool
     ensures { result ≡ has_choice_option (rows_of (found_of matches.now)) }
 {
-    stands(matches, "jobs") || stands(matches, "seed") || stands(matches, "steps")
+    stands(matches, "workers")
+        || stands(matches, "jobs")
+        || stands(matches, "seed")
+        || stands(matches, "steps")
 }
 
 /// Whether an option of `storm` alone stands on the line.

@@ -8,7 +8,8 @@ use crate::{Command, Line};
 use clap::ArgMatches;
 use std::alloc::{AllocError, Global};
 
-/// Which runs a storm makes (docs/formats.md, "Command line").
+/// Which runs a storm makes (docs/formats.md, "Command line"). How many workers make them isn't one of these numbers: nothing that a
+/// storm tells depends on it.
 #[derive(Clone, Copy, Debug, PartialEq, Eq)]
 pub struct StormNumbers {
     /// How many jobs the worker of a run holds at most.
@@ -53,10 +54,17 @@ pub(crate) fn storm_of(
 ) -> Result<Option<Command>, AllocError>
     ensures { IfOk result (λ c. c ≡ storm_of (rows_of (found_of matches.now))) }
 {
+    let Some(workers) = short_number(matches, "workers") else {
+        return Ok(None);
+    };
     let Some(numbers) = storm_numbers(matches) else {
         return Ok(None);
     };
-    Ok(question_of(alloc, matches)?.map(|question| Command::Storm { numbers, question }))
+    Ok(question_of(alloc, matches)?.map(|question| Command::Storm {
+        workers,
+        numbers,
+        question,
+    }))
 }
 
 /// The numbers of the options of `storm`.

@@ -52,7 +52,7 @@ pub fn kept_still<I: Source, O: Sink, G: Gate, D: Disk>(
 }
 
 /// Does what the words of a command line ask for, as [`kept_still`] does, but all commands except `keep` and `resume` are those of
-/// [`tau`](tau_cli::tau): `run` with two workers or more starts a thread for each of them (docs/rules.md, "Workers").
+/// [`tau`](tau_cli::tau): `run` and `storm` with two workers or more start a thread for each of them (docs/rules.md, "Workers", "Storm").
 pub fn tau_kept<R: Threads + Wait + Sync, I: Source, O: Sink, G: Gate + Sync, D: Disk>(
     rt: &R,
     alloc: Global,

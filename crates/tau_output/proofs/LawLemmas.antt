@@ -50,7 +50,7 @@ use Rattle.tau_output.specs.Writing.{Answers, Writes, by_one_worker, WritesSeria
 use Rattle.tau_output.specs.Reports.{ReportsAs}
 use Rattle.tau_output.specs.Printing.{PrintsAs}
 use Rattle.tau_output.proofs.SerialLemmas.{text_once, runs_once, drills_once}
-use Rattle.tau_output.specs.Laws.{WritesOnce, WritesWithoutFault, WritesWhereAsked, FailsOnce}
+use Rattle.tau_output.specs.Laws.{WritesOnce, WritesWithoutFault, WritesWhereAsked, StormsAlike, FailsOnce}
 
 -- bytes have one fault as a command takes them
 one_fault_of : (command : Command) (bytes : List ℕ) (a b c d : ℕ) → IsFaultOf command bytes a b → IsFaultOf command bytes c d → (a ≡ c) × (b ≡ d)
@@ -65,7 +65,7 @@ one_fault_of Migrate bytes a b c d f g = (run_unique bytes).one_fault a b c d f 
 one_fault_of (Why place) bytes a b c d f g = (run_unique bytes).one_fault a b c d f g
 one_fault_of Cut bytes a b c d f g = (run_unique bytes).one_fault a b c d f g
 one_fault_of (Draw from to ask) bytes a b c d f g = (run_unique bytes).one_fault a b c d f g
-one_fault_of (Storm numbers question) bytes a b c d f g = (program_unique bytes).one_fault a b c d f g
+one_fault_of (Storm workers numbers question) bytes a b c d f g = (program_unique bytes).one_fault a b c d f g
 
 pub fails_once : (bytes : List ℕ) → FailsOnce bytes
 fails_once bytes command a b c d (too_long r l p q) (too_long s m v w) = (p ∙ sym v, q ∙ sym w)
@@ -86,9 +86,9 @@ clean Migrate bytes end text a b w f = (run_unique bytes).not_both (w.program, w
 clean (Why place) bytes end text a b w f = (run_unique bytes).not_both (w.0.program, w.0.run) a b w.0.read f
 clean Cut bytes end text a b w f = (run_unique bytes).not_both (w.0.program, w.0.run) a b w.0.read f
 clean (Draw from to ask) bytes end text a b w f = (run_unique bytes).not_both (w.0.program, w.0.run) a b w.0.read f
-clean (Storm numbers Outcomes) bytes end text a b w f = (program_unique bytes).not_both w.has.storm.program a b w.has.storm.spelled f
-clean (Storm numbers (Claim name)) bytes end text a b w f = (program_unique bytes).not_both w.has.storm.program a b w.has.storm.spelled f
-clean (Storm numbers (Show outcome)) bytes end text a b w f = (program_unique bytes).not_both w.has.storm.program a b w.has.storm.spelled f
+clean (Storm workers numbers Outcomes) bytes end text a b w f = (program_unique bytes).not_both w.has.storm.program a b w.has.storm.spelled f
+clean (Storm workers numbers (Claim name)) bytes end text a b w f = (program_unique bytes).not_both w.has.storm.program a b w.has.storm.spelled f
+clean (Storm workers numbers (Show outcome)) bytes end text a b w f = (program_unique bytes).not_both w.has.storm.program a b w.has.storm.spelled f
 
 pub writes_without_fault : (bytes : List ℕ) → WritesWithoutFault bytes
 writes_without_fault bytes command end text a b w (too_long r l p q) = let few : length bytes ≤ input_limit = w.few r in omega arith
@@ -103,9 +103,9 @@ not_without Allowed bytes P T read allowed n =
 answers_where_asked : (command : Command) (bytes : List ℕ) (end : End) (text : List ℕ) → Answers command bytes end text → Lacks command bytes → ⊥
 answers_where_asked (Why asked) bytes end text w n = not_without (λ T. IsDecision T asked) bytes w.0.program w.0.run w.0.read w.0.asked n
 answers_where_asked (Draw from to ask) bytes end text w n = not_without (λ T. Allows T ask) bytes w.0.program w.0.run w.0.read w.0.asked n
-answers_where_asked (Storm numbers Outcomes) bytes end text w n = absurd n
-answers_where_asked (Storm numbers (Claim name)) bytes end text w n = claim_is_there numbers name bytes end text w n
-answers_where_asked (Storm numbers (Show outcome)) bytes end text w n = outcome_is_there numbers outcome bytes end text w n
+answers_where_asked (Storm workers numbers Outcomes) bytes end text w n = absurd n
+answers_where_asked (Storm workers numbers (Claim name)) bytes end text w n = claim_is_there numbers name bytes end text w n
+answers_where_asked (Storm workers numbers (Show outcome)) bytes end text w n = outcome_is_there numbers outcome bytes end text w n
 answers_where_asked command bytes end text w n = absurd n
 
 pub writes_where_asked : (bytes : List ℕ) → WritesWhereAsked bytes
@@ -121,9 +121,9 @@ asks_none command kind bytes wanted same none asked =
 lacks_without_fault : (command : Command) (bytes : List ℕ) (a b : ℕ) → Lacks command bytes → IsFaultOf command bytes a b → ⊥
 lacks_without_fault (Why asked) bytes a b n f = (run_unique bytes).not_both (n.program, n.run) a b n.read f
 lacks_without_fault (Draw from to ask) bytes a b n f = (run_unique bytes).not_both (n.program, n.run) a b n.read f
-lacks_without_fault (Storm numbers Outcomes) bytes a b n f = absurd n
-lacks_without_fault (Storm numbers (Claim name)) bytes a b n f = (program_unique bytes).not_both n.program a b n.spelled f
-lacks_without_fault (Storm numbers (Show outcome)) bytes a b n f = (program_unique bytes).not_both n.has.storm.program a b n.has.storm.spelled f
+lacks_without_fault (Storm workers numbers Outcomes) bytes a b n f = absurd n
+lacks_without_fault (Storm workers numbers (Claim name)) bytes a b n f = (program_unique bytes).not_both n.program a b n.spelled f
+lacks_without_fault (Storm workers numbers (Show outcome)) bytes a b n f = (program_unique bytes).not_both n.has.storm.program a b n.has.storm.spelled f
 lacks_without_fault command bytes a b n f = absurd n
 
 asked_in_vain : (command : Command) (bytes : List ℕ) (wanted : Wanted) (a b : ℕ) → AsksInVain command bytes wanted → IsInputFault command bytes a b → ⊥
@@ -204,7 +204,7 @@ serially_answered Migrate bytes end text w = w
 serially_answered (Why place) bytes end text w = w
 serially_answered Cut bytes end text w = w
 serially_answered (Draw from to ask) bytes end text w = w
-serially_answered (Storm numbers question) bytes end text w = w
+serially_answered (Storm workers numbers question) bytes end text w = w
 
 -- a command on one thread reads an input where the command reads one
 same_reading : (command : Command) → IsTrue (reads_input command) → IsTrue (reads_input (by_one_worker command))
@@ -219,7 +219,7 @@ same_reading Migrate reads = reads
 same_reading (Why place) reads = reads
 same_reading Cut reads = reads
 same_reading (Draw from to ask) reads = reads
-same_reading (Storm numbers question) reads = reads
+same_reading (Storm workers numbers question) reads = reads
 
 pub serially_written : (command : Command) (bytes : List ℕ) (found : Result Output Refusal) → IfOk found (λ o. WritesSerially command bytes o.end o.text.items) → IfOk found (λ o. Writes command bytes o.end o.text.items)
 serially_written command bytes (Ok o) w =
@@ -406,7 +406,11 @@ answers_once Migrate bytes end another text other v w = migrate_once bytes end a
 answers_once (Why place) bytes end another text other v w = (v.1 ∙ sym w.1, explain_once place bytes text other v.0 w.0)
 answers_once Cut bytes end another text other v w = (v.1 ∙ sym w.1, cut_once bytes text other v.0 w.0)
 answers_once (Draw from to ask) bytes end another text other v w = (v.1 ∙ sym w.1, draw_once from to ask bytes text other v.0 w.0)
-answers_once (Storm numbers question) bytes end another text other v w = storms_once numbers question bytes end another text other v w
+answers_once (Storm workers numbers question) bytes end another text other v w = storms_once numbers question bytes end another text other v w
 
 pub writes_once : (bytes : List ℕ) → WritesOnce bytes
 writes_once bytes command end another text other v w = answers_once command bytes end another text other v.answers w.answers
+
+-- a storm's numbers and question determine what is written, whoever makes the runs
+pub storms_alike : (bytes : List ℕ) → StormsAlike bytes
+storms_alike bytes workers others numbers question end another text other v w = storms_once numbers question bytes end another text other v.answers w.answers

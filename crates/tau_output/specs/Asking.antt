@@ -18,8 +18,8 @@ use Rattle.tau_output.specs.Storming.{LacksOutcome}
 abbrev pub wanted_by : Command → Option Wanted
 wanted_by (Why place) = Some (Step place)
 wanted_by (Draw from to ask) = option_map (λ place. Step place) ask
-wanted_by (Storm numbers (Claim name)) = Some Behaviour
-wanted_by (Storm numbers (Show outcome)) = Some Outcome
+wanted_by (Storm workers numbers (Claim name)) = Some Behaviour
+wanted_by (Storm workers numbers (Show outcome)) = Some Outcome
 wanted_by command = None
 
 -- the bytes are those of a run that doesn't allow what is asked
@@ -40,8 +40,8 @@ pub record IsProgramWithout (name bytes : List ℕ) : Type 0 where
 abbrev pub Lacks : Command → List ℕ → Type 0
 Lacks (Why place) bytes = IsRunWithout (λ T. IsDecision T place) bytes
 Lacks (Draw from to ask) bytes = IsRunWithout (λ T. Allows T ask) bytes
-Lacks (Storm numbers (Claim name)) bytes = IsProgramWithout name bytes
-Lacks (Storm numbers (Show outcome)) bytes = LacksOutcome numbers outcome bytes
+Lacks (Storm workers numbers (Claim name)) bytes = IsProgramWithout name bytes
+Lacks (Storm workers numbers (Show outcome)) bytes = LacksOutcome numbers outcome bytes
 Lacks command bytes = ⊥
 
 -- the command wants this of its input, and the bytes, which are not too many, lack it

@@ -23,7 +23,7 @@ reads_input Migrate = true
 reads_input (Why place) = true
 reads_input Cut = true
 reads_input (Draw from to ask) = true
-reads_input (Storm numbers question) = true
+reads_input (Storm workers numbers question) = true
 
 -- the first fault of bytes as the command takes them
 abbrev pub IsFaultOf : Command → List ℕ → ℕ → ℕ → Type 0
@@ -38,7 +38,7 @@ IsFaultOf Migrate bytes fault at = IsRunFault bytes fault at
 IsFaultOf (Why place) bytes fault at = IsRunFault bytes fault at
 IsFaultOf Cut bytes fault at = IsRunFault bytes fault at
 IsFaultOf (Draw from to ask) bytes fault at = IsRunFault bytes fault at
-IsFaultOf (Storm numbers question) bytes fault at = IsProgramFault bytes fault at
+IsFaultOf (Storm workers numbers question) bytes fault at = IsProgramFault bytes fault at
 
 -- the input of a command has this fault at this place: too many bytes first
 pub data IsInputFault (command : Command) (bytes : List ℕ) (fault at : ℕ) : Type 0 where

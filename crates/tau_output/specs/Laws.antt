@@ -1,11 +1,13 @@
--- What holds of all inputs: a command writes one text, none for an input with a fault or where it asks in vain, an input has one
--- fault, what `run` writes determines its program and its run, what `run` and `migrate` write is accepted by the other commands, and
--- each decision of a legal run has its ground.
+-- What holds of all inputs: a command writes one text, none for an input with a fault or where it asks in vain, a storm writes the same
+-- by any number of workers, an input has one fault, what `run` writes determines its program and its run, what `run` and `migrate` write
+-- is accepted by the other commands, and each decision of a legal run has its ground.
 use Rattle.std.specs.Prelude.{◌≡◌, ℕ, ◌≤◌, List, [], length, codes}
 use Rattle.tau_sexpr.specs.Printing.{printed}
 use Rattle.tau_forms.specs.Printed as forms
 use Rattle.tau_command.specs.declared.commands.Command.{Command}
-use Rattle.tau_command.specs.declared.commands.Command.TheVariants.{Check, Audit, Print, Migrate}
+use Rattle.tau_command.specs.declared.commands.Command.TheVariants.{Check, Audit, Print, Migrate, Storm}
+use Rattle.tau_command.specs.declared.storms.StormNumbers.{StormNumbers}
+use Rattle.tau_command.specs.declared.storms.Question.{Question}
 use Rattle.tau_tree.specs.declared.programs.Program.{Program}
 use Rattle.tau_trace.specs.Run.{Run, second}
 use Rattle.tau_explain.specs.declared.answers.Why.TheVariants.{NoChain}
@@ -32,6 +34,11 @@ WritesWithoutFault bytes = (command : Command) (end : End) (text : List ℕ) (fa
 -- a command writes nothing for bytes of which it asks in vain
 abbrev pub WritesWhereAsked : List ℕ → Type 0
 WritesWhereAsked bytes = (command : Command) (end : End) (text : List ℕ) (wanted : Wanted) → Writes command bytes end text → ¬ AsksInVain command bytes wanted
+
+-- a storm by so many workers writes no other text than by so many others, byte for byte, and ends in no other way
+abbrev pub StormsAlike : List ℕ → Type 0
+StormsAlike bytes = (workers others : ℕ) (numbers : StormNumbers) (question : Question) (end another : End) (text other : List ℕ) → Writes (Storm workers numbers question) bytes end text
+    → Writes (Storm others numbers question) bytes another other → (end ≡ another) × (text ≡ other)
 
 -- the bytes of an input have one fault at most
 abbrev pub FailsOnce : List ℕ → Type 0

@@ -33,14 +33,15 @@ Answers Migrate bytes end text = MigratesAs bytes end text
 Answers (Why place) bytes end text = ExplainsAs place bytes text × (end ≡ Done)
 Answers Cut bytes end text = CutsAs bytes text × (end ≡ Done)
 Answers (Draw from to ask) bytes end text = DrawsAs from to ask bytes text × (end ≡ Done)
-Answers (Storm numbers question) bytes end text = StormsAs numbers question bytes end text
+-- whatever the number of workers
+Answers (Storm workers numbers question) bytes end text = StormsAs numbers question bytes end text
 
 -- and so for an input of these bytes, which are not too many where the command reads any
 pub record Writes (command : Command) (bytes : List ℕ) (end : End) (text : List ℕ) : Type 0 where
   pub few : IsTrue (reads_input command) → length bytes ≤ input_limit
   pub answers : Answers command bytes end text
 
--- a command on one thread: `run` has one worker, however many it is told
+-- a command on one thread: `run` and `storm` have one worker, however many they are told
 abbrev pub by_one_worker : Command → Command
 by_one_worker (Run workers jobs seed steps) = Run 1 jobs seed steps
 by_one_worker Check = Check
@@ -53,7 +54,7 @@ by_one_worker Migrate = Migrate
 by_one_worker (Why place) = Why place
 by_one_worker Cut = Cut
 by_one_worker (Draw from to ask) = Draw from to ask
-by_one_worker (Storm numbers question) = Storm numbers question
+by_one_worker (Storm workers numbers question) = Storm 1 numbers question
 
 -- what a command writes on one thread
 abbrev pub WritesSerially : Command → List ℕ → End → List ℕ → Type 0
@@ -63,5 +64,5 @@ WritesSerially command bytes end text = Writes (by_one_worker command) bytes end
 -- can have
 abbrev pub HasLimit : Command → Type 0
 HasLimit (Run workers jobs seed steps) = (1 ≤ workers) × (1 ≤ jobs) × (jobs ≤ JOB_LIMIT) × (steps ≤ STEP_LIMIT)
-HasLimit (Storm numbers question) = IsSetting (setting_of numbers)
+HasLimit (Storm workers numbers question) = IsSetting (setting_of numbers)
 HasLimit command = Unit {0}

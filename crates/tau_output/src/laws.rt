@@ -1,12 +1,14 @@
 //! Laws of inputs and of what is written. The calls do nothing: what they ensure holds of all bytes.
-ghost use Rattle.tau_output.specs.Laws.{WritesOnce, WritesWithoutFault, WritesWhereAsked, FailsOnce, TextsTellRuns, RunTextsAreAccepted, MigratedTextsAreAccepted, LegalRunsAreGrounded};
+ghost use Rattle.tau_output.specs.Laws.{WritesOnce, WritesWithoutFault, WritesWhereAsked, StormsAlike, FailsOnce, TextsTellRuns, RunTextsAreAccepted, MigratedTextsAreAccepted, LegalRunsAreGrounded};
 
 /// For an input a command writes one text on one thread, or the input has one fault, and not both (docs/formats.md, "Input
 /// faults"); nor does a command write that asks in vain. So `run` with one worker writes the same each time, and so does `drill`.
+/// `storm` writes the same by any number of workers.
 pub fn output_is_unique(_bytes: &[u8])
     ensures once { WritesOnce _bytes.now }
     ensures without_fault { WritesWithoutFault _bytes.now }
     ensures asked { WritesWhereAsked _bytes.now }
+    ensures alike { StormsAlike _bytes.now }
     ensures one_fault { FailsOnce _bytes.now }
 {}
 

@@ -17,6 +17,7 @@ mod reporting;
 mod running;
 mod storming;
 mod together;
+mod workers;
 
 pub use laws::{
     legal_runs_are_grounded, migrated_texts_are_accepted, output_is_unique, run_texts_are_accepted,

@@ -20,6 +20,7 @@ use crate::printing::print_program;
 use crate::reporting::report_run;
 use crate::running::write_serial_run;
 use crate::storming::storm_program;
+use crate::workers::OneWorker;
 use std::alloc::{AllocError, Global};
 use tau_command::Command;
 use tau_points::Point;
@@ -77,8 +78,8 @@ pub fn reads_input(command: &Command) -> bool
     }
 }
 
-/// What a command writes on one thread for the bytes of its input (docs/formats.md, "Command line"): `run` with one worker,
-/// however many it is told. The bytes are passed over where it reads none.
+/// What a command writes on one thread for the bytes of its input (docs/formats.md, "Command line"): `run` and `storm` with one worker,
+/// however many they are told. The bytes are passed over where it reads none.
 /// `Fault` comes exactly where the input has a fault, with the first one (docs/formats.md, "Input faults"), and `Lacking` exactly
 /// where the input has none and the command asks in vain: `why` for a place at which no Hold, Drop or Fall stands, `draw` for one at
 /// which no Checkpoint stands either that can't be kept, `storm` for a behaviour that the program hasn't or an outcome that there isn't.
@@ -112,7 +113,11 @@ pub fn output_of(alloc: Global, command: Command, bytes: &[u8]) -> Result<Output
         Command::Why { place } => explain_run(alloc, bytes, place),
         Command::Cut => refused_by(cut_run(alloc, bytes)),
         Command::Draw { from, to, ask } => draw_run(alloc, bytes, from, to, ask),
-        Command::Storm { numbers, question } => storm_program(alloc, bytes, &numbers, &question),
+        Command::Storm {
+            numbers,
+            question,
+            ..
+        } => storm_program(&OneWorker, alloc, bytes, &numbers, &question),
     }
 }
 

@@ -14,18 +14,20 @@ ghost use Rattle.tau_output.specs.Storming.{setting_of as setting_by, StormsAs, 
 ghost use Rattle.tau_output.specs.Inner.Storms.{IsSerialText};
 
 use crate::running::write_run;
+use crate::workers::StormWorkers;
 use crate::{End, Output, Refusal, Wanted};
 use std::alloc::{AllocError, Global};
 use tau_book::run_serially;
 use tau_command::{Line, Question, StormNumbers};
 use tau_faults::{FaultCounts, Setting};
-use tau_storm::{storm, storm_text, totals_text, try_claim};
+use tau_storm::{storm_text, totals_text};
 use tau_text::read_program;
 use tau_tree::{Behaviour, Program, Script};
 
 /// What `storm` writes for the program that the bytes spell: its outcomes, whether a claim holds at each end, or the simplest run with an
-/// outcome (docs/formats.md, "Storm").
-pub(crate) fn storm_program(
+/// outcome (docs/formats.md, "Storm"). Whichever workers make the runs, it is the same.
+pub(crate) fn storm_program<W: StormWorkers>(
+    workers: &W,
     alloc: Global,
     bytes: &[u8],
     numbers: &StormNumbers,
@@ -35,23 +37,27 @@ pub(crate) fn storm_program(
     requires setting { IsSetting (setting_by numbers.now) }
     ensures output { IfOk result (λ o. StormsAs numbers.now question.now bytes.now o.end o.text.items) }
     ensures fault { IfErr result (TellsFault (IsProgramFault bytes.now)) }
-    ensures lacking { IfErr result (TellsLacking (AsksInVain (Storm numbers.now question.now) bytes.now)) }
+    ensures lacking { (count : ℕ) → IfErr result (TellsLacking (AsksInVain (Storm count numbers.now question.now) bytes.now)) }
 {
     let mut program = read_program(alloc, bytes)?;
     match question {
-        Question::Outcomes => Ok(outcomes_output(alloc, &mut program, numbers)?),
-        Question::Claim { name } => match claim_output(alloc, &mut program, numbers, name)? {
-            Some(output) => Ok(output),
-            None => Err(Refusal::Lacking {
-                wanted: Wanted::Behaviour,
-            }),
-        },
-        Question::Show { outcome } => match shown_output(alloc, &mut program, numbers, *outcome)? {
-            Some(output) => Ok(output),
-            None => Err(Refusal::Lacking {
-                wanted: Wanted::Outcome,
-            }),
-        },
+        Question::Outcomes => Ok(outcomes_output(workers, alloc, &mut program, numbers)?),
+        Question::Claim { name } => {
+            match claim_output(workers, alloc, &mut program, numbers, name)? {
+                Some(output) => Ok(output),
+                None => Err(Refusal::Lacking {
+                    wanted: Wanted::Behaviour,
+                }),
+            }
+        }
+        Question::Show { outcome } => {
+            match shown_output(workers, alloc, &mut program, numbers, *outcome)? {
+                Some(output) => Ok(output),
+                None => Err(Refusal::Lacking {
+                    wanted: Wanted::Outcome,
+                }),
+            }
+        }
     }
 }
 
@@ -72,7 +78,8 @@ fn setting_of(numbers: &StormNumbers) -> Setting
 }
 
 /// The outcomes of the storm of a program. The error is want of memory.
-fn outcomes_output(
+fn outcomes_output<W: StormWorkers>(
+    workers: &W,
     alloc: Global,
     program: &mut Program,
     numbers: &StormNumbers,
@@ -82,7 +89,7 @@ fn outcomes_output(
     ensures { IfOk result (λ o. (bytes : List ℕ) → IsProgram bytes program.old → TellsOutcomes numbers.now bytes o.end o.text.items) }
 {
     let setting = setting_of(numbers);
-    let told = storm(alloc, program, &setting, numbers.seed, numbers.seeds)?;
+    let told = workers.storm(alloc, program, &setting, numbers.seed, numbers.seeds)?;
     Ok(Output {
         text: storm_text(alloc, u64::from(numbers.seeds), told.totals, &told.outcomes)?,
         end: End::Done,
@@ -90,7 +97,8 @@ fn outcomes_output(
 }
 
 /// The run text of the simplest run with an outcome; `None` where there is no outcome of this number. The error is want of memory.
-fn shown_output(
+fn shown_output<W: StormWorkers>(
+    workers: &W,
     alloc: Global,
     program: &mut Program,
     numbers: &StormNumbers,
@@ -102,7 +110,7 @@ fn shown_output(
     ensures lacks { IfOk result (λ r. r ≡ None → (bytes : List ℕ) → IsProgram bytes program.old → LacksOutcome numbers.now outcome bytes) }
 {
     let setting = setting_of(numbers);
-    let told = storm(alloc, program, &setting, numbers.seed, numbers.seeds)?;
+    let told = workers.storm(alloc, program, &setting, numbers.seed, numbers.seeds)?;
     let outcomes = told.outcomes.items();
     match outcomes.get(outcome as usize) {
         Some(shown) => Ok(Some(Output {
@@ -115,7 +123,8 @@ fn shown_output(
 
 /// Whether a behaviour holds as a claim at each end of the storm of a program; `None` where the program has none of this name. The error
 /// is want of memory.
-fn claim_output(
+fn claim_output<W: StormWorkers>(
+    workers: &W,
     alloc: Global,
     program: &mut Program,
     numbers: &StormNumbers,
@@ -130,7 +139,7 @@ fn claim_output(
         return Ok(None);
     };
     let setting = setting_of(numbers);
-    let tried = try_claim(
+    let tried = workers.try_claim(
         alloc,
         program,
         &setting,

@@ -1,4 +1,4 @@
-//! What commands write where `run` starts several workers.
+//! What commands write where `run` and `storm` start several workers.
 ghost use Rattle.std.specs.Prelude.{◌≡◌, ◌⊎◌, ℕ, List, ◌<◌, ◌≤◌, length, IfOk, IfErr, Err};
 ghost use Rattle.tau_value.specs.declared.limits.TheConstants.{STEP_LIMIT};
 ghost use Rattle.tau_text.specs.Errors.{TellsInputFault};
@@ -15,6 +15,8 @@ ghost use Rattle.tau_output.specs.Writing.{Writes, HasLimit};
 
 use crate::outputs::{or_no_memory, refused_by};
 use crate::running::write_run;
+use crate::storming::storm_program;
+use crate::workers::WorkersInThreads;
 use crate::{Output, Refusal, output_of};
 use std::alloc::{AllocError, Global};
 use std::sync::Wait;
@@ -24,8 +26,8 @@ use tau_text::{InputError, read_program};
 use tau_tree::Program;
 use tau_workers::{Gate, Settings, run_workers};
 
-/// What a command writes for the bytes of its input, as [`output_of`] says, but `run` with two workers or more starts a thread for
-/// each of them (docs/rules.md, "Workers"). The gate stands before and after each evaluation.
+/// What a command writes for the bytes of its input, as [`output_of`] says, but `run` and `storm` with two workers or more start a thread
+/// for each of them (docs/rules.md, "Workers", "Storm"). The gate stands before and after each evaluation of a `run`.
 pub fn output_by_workers<R: Threads + Wait + Sync, G: Gate + Sync>(
     rt: &R,
     alloc: Global,
@@ -59,6 +61,14 @@ pub fn output_by_workers<R: Threads + Wait + Sync, G: Gate + Sync>(
                 limit: steps,
             };
             refused_by(write_workers_run(rt, alloc, bytes, settings, gate))
+        }
+        Command::Storm {
+            workers,
+            numbers,
+            question,
+        } => {
+            let several = WorkersInThreads { rt, workers };
+            storm_program(&several, alloc, bytes, &numbers, &question)
         }
         _ => output_of(alloc, command, bytes),
     }

@@ -1,10 +1,11 @@
 use Rattle.std.proofs.Common.{◌≡◌, ◌⊎◌, ◌∙◌, ℕ, Err, sym, IfOk, subst}
 use Rattle.tau_command.specs.declared.commands.Command.{Command}
+use Rattle.tau_command.specs.declared.commands.Command.TheVariants.{Storm}
 use Rattle.tau_output.specs.declared.refusals.Refusal.TheVariants.{Lacking, NoMemory}
 use Rattle.tau_output.specs.declared.refusals.Wanted.{Wanted}
 use Rattle.tau_output.specs.Asking.{AsksInVain}
 use Rattle.tau_output.specs.Writing.{WritesSerially}
-use Rattle.tau_output.proofs.LawLemmas.{serially_written}
+use Rattle.tau_output.proofs.LawLemmas.{refusal_told, serially_written}
 use Rattle.tau_output.proofs.TogetherLemmas.{together_told}
 use Rattle.tau_output.proofs.together.output_by_workers.Goals.{in_default-via-in-Run+else-workers-gt1, in_default-via-in_default}
 use Rattle.tau_output.proofs.together.output_by_workers.Goals as goal
@@ -29,3 +30,11 @@ returns-in_default-clause-in_vain g c =
       | in_default-via-in-Run+else-workers-gt1 w ↦ subst Told (w.command-is ∙ sym w.in-Run.is) c.output_of.ensures.in_vain
       | in_default-via-in_default w ↦ subst Told w.command-is c.output_of.ensures.in_vain
     ]
+
+pub returns-in-Storm-clause-faulty : goal.returns-in-Storm-clause-faulty
+returns-in-Storm-clause-faulty g c =
+    (refusal_told c.args.command (Storm c.in-Storm.workers c.in-Storm.numbers c.in-Storm.question) c.args.bytes.now c.storm_program.result c.in-Storm.is c.requires.bytes c.storm_program.ensures.output c.storm_program.ensures.fault (c.storm_program.ensures.lacking c.in-Storm.workers)).gives.faulty
+
+pub returns-in-Storm-clause-in_vain : goal.returns-in-Storm-clause-in_vain
+returns-in-Storm-clause-in_vain g c =
+    (refusal_told c.args.command (Storm c.in-Storm.workers c.in-Storm.numbers c.in-Storm.question) c.args.bytes.now c.storm_program.result c.in-Storm.is c.requires.bytes c.storm_program.ensures.output c.storm_program.ensures.fault (c.storm_program.ensures.lacking c.in-Storm.workers)).gives.in_vain
