@@ -31,9 +31,13 @@ read_words() {
     done
 }
 
-# Runs the program on the one that is drawn, as it was read at first.
+# Runs the program on the one that is drawn, as it was read at first. (on a terminal a storm would show how far it is)
 ask() {
-    "$program" "$@" <"$room/program"
+    "$program" "$@" <"$room/program" 2>"$room/lines" || {
+        end_watch
+        cat "$room/lines" >&2
+        return 1
+    }
 }
 
 # Writes the run text of an outcome, which its seed alone has too, and draws it. `shown` gets its number there.

@@ -32,12 +32,16 @@ processor_time() {
         }' 2>/dev/null
 }
 
+clean_line() {
+    printf '\r\033[K' >&2
+}
+
 # Writes the line each second, as long as the call is there, and cleans it away at the signal USR1. Where the call waits for its input, which
 # takes no time of a processor, its time hasn't begun.
 watch() {
     is_shown=
     trap '' INT
-    trap '[ -z "$is_shown" ] || printf "\r\033[K" >&2; exit 0' USR1
+    trap '[ -z "$is_shown" ] || clean_line; exit 0' USR1
     read -r self _ </proc/self/stat
     while { sleep 1 2>/dev/null & wait "$!"; }; do
         kill -0 "$$" 2>/dev/null && look_at_clock || exit 0
@@ -51,6 +55,12 @@ watch() {
         waits='' is_shown=1
         printf '\r\033[Kbin/tau: %s, %d s, %d s of processor time\r' "$1" $(((now - begun) / 100)) $((used / 100)) >&2
     done
+}
+
+# Whether the program itself shows how far it is: a storm, where standard error is a terminal that no other job has, and the input is a file
+# that can be read once more.
+shows_itself() {
+    [ "$command" = storm ] && [ -z "$wrong" ] && [ -n "$input" ] && [ -t 2 ] && [ -n "$(processor_time 0)" ]
 }
 
 # Begins to show how long a command takes, where standard error is a terminal and nothing is typed there for the command.

@@ -3,6 +3,7 @@
 //! `enter` of that one until turn 0 has left three times.
 use std::hint::spin_loop;
 use std::sync::atomic::{AtomicBool, AtomicU64, Ordering};
+use tau_cli::Watch;
 use tau_workers::Gate;
 
 /// After how many looks a hold ends by itself.
@@ -100,4 +101,15 @@ impl Gate for HoldingGate {
     fn leave(&self, _worker: u32, turn: u32) {
         self.counts(turn).left.fetch_add(1, Ordering::SeqCst);
     }
+}
+
+/// No case has a storm.
+impl Watch for HoldingGate {
+    fn begin(&self, _seeds: u32) {}
+
+    fn run_made(&self, _outcomes: usize) {}
+
+    fn seed_done(&self) {}
+
+    fn end(&self) {}
 }

@@ -13,7 +13,9 @@ use std::sync::Wait;
 use std::thread::Threads;
 use tau_command::{Command, Words, read_words};
 use tau_io::{ReadError, Sink, Source, WriteError, read_all, write_all_of};
-use tau_output::{Gate, INPUT_LIMIT, Output, Refusal, output_by_workers, output_of, reads_input};
+use tau_output::{
+    Gate, INPUT_LIMIT, Output, Refusal, Watch, output_by_workers, output_of, reads_input,
+};
 
 /// Does what the words of a command line ask for: reads the input of their command, which is at most 16 MiB, and writes
 /// its text, in one call of `write_all_of`. It does all on the caller's thread, and starts no other.
@@ -52,8 +54,9 @@ pub fn tau_still<I: Source, O: Sink>(
 /// Does what the words of a command line ask for, as [`tau_still`] does, but `run` and `storm` with two workers or more start a thread for
 /// each of them (docs/rules.md, "Workers", "Storm"). It waits for them, so all is said of it if it returns. Of several workers' run it is
 /// said that it is a legal run of the input's program, and not which one; what `storm` writes is the same whatever their number. Each
-/// evaluation of a `run` stands between a call of the gate's `enter` and one of its `leave`.
-pub fn tau<R: Threads + Wait + Sync, I: Source, O: Sink, G: Gate + Sync>(
+/// evaluation of a `run` stands between a call of the gate's `enter` and one of its `leave`, and while the runs of a `storm` are made, the
+/// gate is told of them.
+pub fn tau<R: Threads + Wait + Sync, I: Source, O: Sink, G: Gate + Watch + Sync>(
     rt: &R,
     alloc: Global,
     words: &Words,

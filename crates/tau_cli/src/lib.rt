@@ -7,4 +7,4 @@ mod statuses;
 pub use calls::{read_input, tau, tau_still, tell};
 pub use statuses::{Status, number};
 pub use tau_command::{Command, Line, Words, WordsError, read_words};
-pub use tau_output::{Gate, OpenGate};
+pub use tau_output::{Gate, OpenGate, Watch};

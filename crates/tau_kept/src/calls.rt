@@ -12,7 +12,7 @@ use crate::resuming::resumed_text;
 use std::alloc::{AllocError, Global};
 use std::sync::Wait;
 use std::thread::Threads;
-use tau_cli::{Gate, Status, Words, tau, tau_still, tell};
+use tau_cli::{Gate, Status, Watch, Words, tau, tau_still, tell};
 use tau_command::{JournalCommand, read_journal_words};
 use tau_io::{Sink, Source};
 use tau_journal::disk::Disk;
@@ -53,7 +53,7 @@ pub fn kept_still<I: Source, O: Sink, G: Gate, D: Disk>(
 
 /// Does what the words of a command line ask for, as [`kept_still`] does, but all commands except `keep` and `resume` are those of
 /// [`tau`](tau_cli::tau): `run` and `storm` with two workers or more start a thread for each of them (docs/rules.md, "Workers", "Storm").
-pub fn tau_kept<R: Threads + Wait + Sync, I: Source, O: Sink, G: Gate + Sync, D: Disk>(
+pub fn tau_kept<R: Threads + Wait + Sync, I: Source, O: Sink, G: Gate + Watch + Sync, D: Disk>(
     rt: &R,
     alloc: Global,
     words: &Words,

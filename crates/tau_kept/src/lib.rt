@@ -5,10 +5,13 @@
 mod calls;
 mod keeping;
 mod process;
+mod progress;
 mod resuming;
 
 pub use calls::{kept_still, tau_kept};
 pub use process::{exit_code, run_process, run_words};
+pub use progress::Progress;
 pub use tau_cli::{
-    Command, Gate, Line, OpenGate, Status, Words, WordsError, number, read_words, tau, tau_still,
+    Command, Gate, Line, OpenGate, Status, Watch, Words, WordsError, number, read_words, tau,
+    tau_still,
 };

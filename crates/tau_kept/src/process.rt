@@ -16,7 +16,7 @@ use std::process::ExitCode;
 use std::rt::Env;
 use std::sync::Wait;
 use std::thread::Threads;
-use tau_cli::{Line, OpenGate, Status, Words, WordsError, number};
+use tau_cli::{Gate, Line, Status, Watch, Words, WordsError, number};
 use tau_io::{Sink, Source};
 use tau_journal::disk::Disk;
 
@@ -25,37 +25,44 @@ use tau_journal::disk::Disk;
 /// command line; without memory for the words the status is `NoMemory`.
 ///
 /// Which words the process has, and what its standard error takes, no contract says.
-pub fn run_process<R: Env + Alloc + Eprint + Threads + Wait + Sync, I: Source, O: Sink, D: Disk>(
-    rt: &R,
-    alloc: Global,
-    input: &mut I,
-    output: &mut O,
-    disk: &mut D,
-) -> ExitCode
+pub fn run_process<
+    R: Env + Alloc + Eprint + Threads + Wait + Sync,
+    I: Source,
+    O: Sink,
+    D: Disk,
+    G: Gate + Watch + Sync,
+>(rt: &R, alloc: Global, input: &mut I, output: &mut O, disk: &mut D, gate: &G) -> ExitCode
     ensures { (words : Result (List (List ℕ)) WordsError)
         × Exits Writes words (effect_on I.left I.faults input.old input.new)
         (effect_on O.held O.faults output.old output.new)
         (disk_effect D.bytes D.images D.moment D.left_since D.faults disk.old disk.new) (exit_status result) }
 {
     let words = collect_words(rt, alloc);
-    run_words(rt, alloc, words, input, output, disk)
+    run_words(rt, alloc, words, input, output, disk, gate)
 }
 
 /// Does what these words ask for, by one call of [`tau_kept`](crate::tau_kept), and nothing where they couldn't be collected. It prints
 /// the line of the status on standard error, and gives the number of the status (docs/formats.md, "Statuses").
-pub fn run_words<R: Eprint + Threads + Wait + Sync, I: Source, O: Sink, D: Disk>(
+pub fn run_words<
+    R: Eprint + Threads + Wait + Sync,
+    I: Source,
+    O: Sink,
+    D: Disk,
+    G: Gate + Watch + Sync,
+>(
     rt: &R,
     alloc: Global,
     words: Result<Words, WordsError>,
     input: &mut I,
     output: &mut O,
     disk: &mut D,
+    gate: &G,
 ) -> ExitCode
     ensures { Exits Writes words (effect_on I.left I.faults input.old input.new)
         (effect_on O.held O.faults output.old output.new)
         (disk_effect D.bytes D.images D.moment D.left_since D.faults disk.old disk.new) (exit_status result) }
 {
-    let status = call_tau(rt, alloc, words, input, output, disk);
+    let status = call_tau(rt, alloc, words, input, output, disk, gate);
     if status != Status::Done {
         // Nothing is left to do where standard error takes no line.
         let _ = eprintln!(rt; "{status}");
@@ -71,20 +78,21 @@ pub fn exit_code(status: &Status) -> ExitCode
 }
 
 /// The call of `tau_kept`, for words of which the collection may have failed.
-fn call_tau<R: Threads + Wait + Sync, I: Source, O: Sink, D: Disk>(
+fn call_tau<R: Threads + Wait + Sync, I: Source, O: Sink, D: Disk, G: Gate + Watch + Sync>(
     rt: &R,
     alloc: Global,
     words: Result<Words, WordsError>,
     input: &mut I,
     output: &mut O,
     disk: &mut D,
+    gate: &G,
 ) -> Status
     ensures { EndsFor Writes words (effect_on I.left I.faults input.old input.new)
         (effect_on O.held O.faults output.old output.new)
         (disk_effect D.bytes D.images D.moment D.left_since D.faults disk.old disk.new) result }
 {
     match words {
-        Ok(words) => tau_kept(rt, alloc, &words, input, output, disk, &OpenGate),
+        Ok(words) => tau_kept(rt, alloc, &words, input, output, disk, gate),
         Err(error) => Status::from(error),
     }
 }

@@ -26,5 +26,6 @@ pub use laws::{
 pub use outputs::{End, INPUT_LIMIT, Output, output_of, reads_input};
 pub use refusals::{Refusal, Wanted};
 pub use running::write_run;
+pub use tau_storm::Watch;
 pub use tau_workers::{Gate, OpenGate};
 pub use together::output_by_workers;

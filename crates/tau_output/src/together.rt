@@ -22,13 +22,15 @@ use std::alloc::{AllocError, Global};
 use std::sync::Wait;
 use std::thread::Threads;
 use tau_command::Command;
+use tau_storm::Watch;
 use tau_text::{InputError, read_program};
 use tau_tree::Program;
 use tau_workers::{Gate, Settings, run_workers};
 
 /// What a command writes for the bytes of its input, as [`output_of`] says, but `run` and `storm` with two workers or more start a thread
-/// for each of them (docs/rules.md, "Workers", "Storm"). The gate stands before and after each evaluation of a `run`.
-pub fn output_by_workers<R: Threads + Wait + Sync, G: Gate + Sync>(
+/// for each of them (docs/rules.md, "Workers", "Storm"). The gate stands before and after each evaluation of a `run`,
+/// and is told of a `storm` while its runs are made.
+pub fn output_by_workers<R: Threads + Wait + Sync, G: Gate + Watch + Sync>(
     rt: &R,
     alloc: Global,
     command: Command,
@@ -67,7 +69,11 @@ pub fn output_by_workers<R: Threads + Wait + Sync, G: Gate + Sync>(
             numbers,
             question,
         } => {
-            let several = WorkersInThreads { rt, workers };
+            let several = WorkersInThreads {
+                rt,
+                workers,
+                watch: gate,
+            };
             storm_program(&several, alloc, bytes, &numbers, &question)
         }
         _ => output_of(alloc, command, bytes),

@@ -7,8 +7,9 @@ ghost use Rattle.tau_storm.specs.Storms.{HasOutcomes, HasTried};
 use std::alloc::{AllocError, Global};
 use std::thread::Threads;
 use tau_faults::Setting;
-use tau_storm::{Told, Tried, storm, storm_by_threads, try_claim, try_claim_by_threads};
+use tau_storm::{Told, Tried, Watch, storm, storm_by_threads, try_claim, try_claim_by_threads};
 use tau_tree::Program;
+use tau_workers::OpenGate;
 
 /// The workers that make the runs of a storm. What they tell doesn't depend on which they are.
 pub(crate) trait StormWorkers {
@@ -43,7 +44,7 @@ pub(crate) trait StormWorkers {
         ensures tried { IfOk result (λ t. HasTried setting.now program.old seed seeds behaviour t.told.outcomes t.told.totals t.broken) };
 }
 
-/// One worker, on the caller's thread.
+/// One worker, on the caller's thread, which nobody watches.
 pub(crate) struct OneWorker;
 
 impl StormWorkers for OneWorker {
@@ -55,7 +56,7 @@ impl StormWorkers for OneWorker {
         seed: u64,
         seeds: u32,
     ) -> Result<Told, AllocError> {
-        storm(alloc, program, setting, seed, seeds)
+        storm(alloc, program, setting, seed, seeds, &OpenGate)
     }
 
     fn try_claim(
@@ -67,18 +68,19 @@ impl StormWorkers for OneWorker {
         seeds: u32,
         behaviour: u32,
     ) -> Result<Tried, AllocError> {
-        try_claim(alloc, program, setting, seed, seeds, behaviour)
+        try_claim(alloc, program, setting, seed, seeds, behaviour, &OpenGate)
     }
 }
 
-/// So many workers, each in a thread of its own; one is on the caller's.
+/// So many workers, each in a thread of its own; one is on the caller's. The watch is told what they do.
 #[derive(Drop)]
-pub(crate) struct WorkersInThreads<'r, R> {
+pub(crate) struct WorkersInThreads<'r, R, W> {
     pub(crate) rt: &'r R,
     pub(crate) workers: u32,
+    pub(crate) watch: &'r W,
 }
 
-impl<'r, R: Threads + Sync> StormWorkers for WorkersInThreads<'r, R> {
+impl<'r, R: Threads + Sync, W: Watch + Sync> StormWorkers for WorkersInThreads<'r, R, W> {
     fn storm(
         &self,
         alloc: Global,
@@ -87,11 +89,23 @@ impl<'r, R: Threads + Sync> StormWorkers for WorkersInThreads<'r, R> {
         seed: u64,
         seeds: u32,
     ) -> Result<Told, AllocError> {
-        if self.workers > 1 {
-            storm_by_threads(self.rt, alloc, program, setting, seed, seeds, self.workers)
+        self.watch.begin(seeds);
+        let told = if self.workers > 1 {
+            storm_by_threads(
+                self.rt,
+                alloc,
+                program,
+                setting,
+                seed,
+                seeds,
+                self.workers,
+                self.watch,
+            )
         } else {
-            storm(alloc, program, setting, seed, seeds)
-        }
+            storm(alloc, program, setting, seed, seeds, self.watch)
+        };
+        self.watch.end();
+        told
     }
 
     fn try_claim(
@@ -103,7 +117,8 @@ impl<'r, R: Threads + Sync> StormWorkers for WorkersInThreads<'r, R> {
         seeds: u32,
         behaviour: u32,
     ) -> Result<Tried, AllocError> {
-        if self.workers > 1 {
+        self.watch.begin(seeds);
+        let tried = if self.workers > 1 {
             try_claim_by_threads(
                 self.rt,
                 alloc,
@@ -113,9 +128,12 @@ impl<'r, R: Threads + Sync> StormWorkers for WorkersInThreads<'r, R> {
                 seeds,
                 self.workers,
                 behaviour,
+                self.watch,
             )
         } else {
-            try_claim(alloc, program, setting, seed, seeds, behaviour)
-        }
+            try_claim(alloc, program, setting, seed, seeds, behaviour, self.watch)
+        };
+        self.watch.end();
+        tried
     }
 }

@@ -15,6 +15,7 @@ mod threads;
 mod told;
 mod totals;
 mod trials;
+mod watching;
 mod writing;
 
 pub use laws::{lines_are_unique, outcomes_are_unique, seeds_follow_on};
@@ -24,4 +25,5 @@ pub use storms::{Told, Tried, storm, try_claim};
 pub use table::Table;
 pub use threads::{storm_by_threads, try_claim_by_threads};
 pub use totals::Totals;
+pub use watching::Watch;
 pub use writing::{storm_text, totals_text};

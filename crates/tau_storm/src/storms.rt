@@ -12,6 +12,7 @@ ghost use Rattle.tau_storm.specs.Inner.Claiming.{IsTrial, IsFirstOf};
 ghost use Rattle.tau_storm.specs.Storms.{HasOutcomes, HasTried};
 
 use crate::trials::Trial;
+use crate::watching::{Watch, Watched};
 use crate::{Outcome, Outcomes, Table, Totals};
 use std::alloc::{AllocError, Global};
 use tau_faults::{Setting, Visit, visit_ends};
@@ -31,54 +32,63 @@ pub struct Tried {
     pub broken: Option<Outcome>,
 }
 
-/// The outcomes of the storm of a program over so many seeds from this one on (docs/definitions.md, "Storm"). The error is want of memory,
-/// or of numbers: a storm of 2^64 runs or steps can't be counted. The program is the same afterwards; after an error its script may be
-/// another.
-pub fn storm(
+/// The outcomes of the storm of a program over so many seeds from this one on (docs/definitions.md, "Storm"). The watch is told of each
+/// run and of each seed. The error is want of memory, or of numbers: a storm of 2^64 runs or steps can't be counted. The program is the
+/// same afterwards; after an error its script may be another.
+pub fn storm<W: Watch>(
     alloc: Global,
     program: &mut Program,
     setting: &Setting,
     seed: u64,
     seeds: u32,
+    watch: &W,
 ) -> Result<Told, AllocError>
     requires sound { Sound program.old }
     requires setting { IsSetting setting.now }
     ensures program { OnOk result (program.new ≡ program.old) }
     ensures told { IfOk result (λ t. HasOutcomes setting.now program.old seed seeds t.outcomes t.totals) }
 {
-    let mut table = Table::new(alloc);
-    visit_seeds(alloc, program, setting, seed, seeds, &mut table)?;
-    told_of(alloc, table)
+    let mut table = Watched {
+        visitor: Table::new(alloc),
+        watch,
+    };
+    visit_seeds(alloc, program, setting, seed, seeds, &mut table, watch)?;
+    told_of(alloc, table.visitor)
 }
 
 /// The same, with a behaviour that is tried as a claim at each end.
-pub fn try_claim(
+pub fn try_claim<W: Watch>(
     alloc: Global,
     program: &mut Program,
     setting: &Setting,
     seed: u64,
     seeds: u32,
     behaviour: u32,
+    watch: &W,
 ) -> Result<Tried, AllocError>
     requires sound { Sound program.old }
     requires setting { IsSetting setting.now }
     ensures program { OnOk result (program.new ≡ program.old) }
     ensures tried { IfOk result (λ t. HasTried setting.now program.old seed seeds behaviour t.told.outcomes t.told.totals t.broken) }
 {
-    let mut trial = Trial::new(alloc, behaviour);
-    visit_seeds(alloc, program, setting, seed, seeds, &mut trial)?;
-    tried_of(alloc, trial)
+    let mut trial = Watched {
+        visitor: Trial::new(alloc, behaviour),
+        watch,
+    };
+    visit_seeds(alloc, program, setting, seed, seeds, &mut trial, watch)?;
+    tried_of(alloc, trial.visitor)
 }
 
 /// Shows a visitor the ends of the storm of a program over so many seeds from this one on, seed by seed. The error is want of memory. The
 /// program is the same afterwards; after an error its script may be another.
-pub(crate) fn visit_seeds<V: Visit>(
+pub(crate) fn visit_seeds<V: Visit, W: Watch>(
     alloc: Global,
     program: &mut Program,
     setting: &Setting,
     seed: u64,
     seeds: u32,
     visitor: &mut V,
+    watch: &W,
 ) -> Result<(), AllocError>
     requires sound { Sound program.old }
     requires setting { IsSetting setting.now }
@@ -88,6 +98,7 @@ pub(crate) fn visit_seeds<V: Visit>(
     for number in 0..seeds {
         let seed = seed.wrapping_add(u64::from(number));
         visit_ends(alloc, program, setting, seed, visitor)?;
+        watch.seed_done();
     }
     Ok(())
 }

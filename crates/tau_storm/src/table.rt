@@ -12,6 +12,7 @@ use crate::rows::{Rows, note};
 use crate::storms::Told;
 use crate::told::{add_told, told};
 use crate::totals::Totals;
+use crate::watching::Find;
 use indexmap::IndexMap;
 use std::alloc::{AllocError, Global};
 use std::marker::Model;
@@ -72,6 +73,12 @@ impl Table {
         let mut outcomes = told(alloc, self.rows)?;
         sort(&mut outcomes)?;
         Ok(Outcomes::from_vec(outcomes))
+    }
+}
+
+impl Find for Table {
+    fn found(&self) -> usize {
+        self.rows.len()
     }
 }
 

@@ -11,6 +11,7 @@ use crate::Table;
 use crate::dealing::Deal;
 use crate::storms::{Told, Tried, storm, told_of, tried_of, visit_seeds};
 use crate::trials::{Trial, TrialTold};
+use crate::watching::{Watch, Watched};
 use std::alloc::{AllocError, Global};
 use std::thread;
 use std::thread::Threads;
@@ -21,7 +22,7 @@ use tau_tree::Program;
 /// seeds that follow one another and a program of its own, so that what is told doesn't depend on them. The error is want of memory, or
 /// of numbers, as there.
 #[tactic(auto, using(crate::proofs::Sends::program_sync))]
-pub fn storm_by_threads<R: Threads + Sync>(
+pub fn storm_by_threads<R: Threads + Sync, W: Watch + Sync>(
     rt: &R,
     alloc: Global,
     program: &Program,
@@ -29,6 +30,7 @@ pub fn storm_by_threads<R: Threads + Sync>(
     seed: u64,
     seeds: u32,
     workers: u32,
+    watch: &W,
 ) -> Result<Told, AllocError>
     requires sound { Sound program.now }
     requires setting { IsSetting setting.now }
@@ -47,7 +49,7 @@ pub fn storm_by_threads<R: Threads + Sync>(
         &|worker: usize| -> Result<Told, AllocError>
             requires { Sound program.now × IsSetting setting.now × (1 ≤ deal.workers) × (worker < deal.workers) }
             ensures { IfOk result (TellsPart TellsEnds setting.entry.now program.entry.now deal worker) }
-        { storm_part(alloc, program, setting, deal, worker) },
+        { storm_part(alloc, program, setting, deal, worker, watch) },
     )?;
     let mut table = Table::new(alloc);
     for part in parts {
@@ -58,7 +60,7 @@ pub fn storm_by_threads<R: Threads + Sync>(
 
 /// What `try_claim` gives, made by so many workers in the same way.
 #[tactic(auto, using(crate::proofs::Sends::program_sync))]
-pub fn try_claim_by_threads<R: Threads + Sync>(
+pub fn try_claim_by_threads<R: Threads + Sync, W: Watch + Sync>(
     rt: &R,
     alloc: Global,
     program: &Program,
@@ -67,6 +69,7 @@ pub fn try_claim_by_threads<R: Threads + Sync>(
     seeds: u32,
     workers: u32,
     behaviour: u32,
+    watch: &W,
 ) -> Result<Tried, AllocError>
     requires sound { Sound program.now }
     requires setting { IsSetting setting.now }
@@ -85,7 +88,7 @@ pub fn try_claim_by_threads<R: Threads + Sync>(
         &|worker: usize| -> Result<TrialTold, AllocError>
             requires { Sound program.now × IsSetting setting.now × (1 ≤ deal.workers) × (worker < deal.workers) }
             ensures { IfOk result (TellsPart (TellsTrial behaviour) setting.entry.now program.entry.now deal worker) }
-        { trial_part(alloc, program, setting, deal, worker, behaviour) },
+        { trial_part(alloc, program, setting, deal, worker, behaviour, watch) },
     )?;
     let mut trial = Trial::new(alloc, behaviour);
     for part in parts {
@@ -95,12 +98,13 @@ pub fn try_claim_by_threads<R: Threads + Sync>(
 }
 
 /// What the storm over a worker's seeds comes to.
-fn storm_part(
+fn storm_part<W: Watch>(
     alloc: Global,
     program: &Program,
     setting: &Setting,
     deal: Deal,
     worker: usize,
+    watch: &W,
 ) -> Result<Told, AllocError>
     requires sound { Sound program.now }
     requires setting { IsSetting setting.now }
@@ -116,17 +120,19 @@ fn storm_part(
         setting,
         deal.first(worker),
         deal.count(worker),
+        watch,
     )
 }
 
 /// What is told of a trial of a behaviour at the ends of a worker's seeds.
-fn trial_part(
+fn trial_part<W: Watch>(
     alloc: Global,
     program: &Program,
     setting: &Setting,
     deal: Deal,
     worker: usize,
     behaviour: u32,
+    watch: &W,
 ) -> Result<TrialTold, AllocError>
     requires sound { Sound program.now }
     requires setting { IsSetting setting.now }
@@ -135,7 +141,10 @@ fn trial_part(
     ensures { IfOk result (TellsPart (TellsTrial behaviour) setting.now program.now deal worker) }
 {
     let mut own = program.copy()?;
-    let mut trial = Trial::new(alloc, behaviour);
+    let mut trial = Watched {
+        visitor: Trial::new(alloc, behaviour),
+        watch,
+    };
     let worker = worker as u32;
     visit_seeds(
         alloc,
@@ -144,6 +153,7 @@ fn trial_part(
         deal.first(worker),
         deal.count(worker),
         &mut trial,
+        watch,
     )?;
-    trial.told(alloc)
+    trial.visitor.told(alloc)
 }

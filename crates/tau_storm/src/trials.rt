@@ -6,6 +6,7 @@ ghost use Rattle.tau_storm.specs.Inner.Claiming.{IsTrial, TellsTrial};
 use crate::Table;
 use crate::claims::holds;
 use crate::storms::{Told, told_of};
+use crate::watching::Find;
 use std::alloc::{AllocError, Global};
 use tau_faults::{Ran, Visit};
 use tau_tree::Program;
@@ -55,6 +56,12 @@ impl Trial {
     {
         self.all.append(later.all)?;
         self.broken.append(later.broken)
+    }
+}
+
+impl Find for Trial {
+    fn found(&self) -> usize {
+        self.all.found()
     }
 }
 

@@ -5,7 +5,7 @@ use Rattle.tau_storm.proofs.DealLemmas.{part_told}
 use Rattle.tau_storm.proofs.threads.storm_part.Goals as goal
 
 pub returns : goal.returns
-returns c =
+returns g c =
     let S = c.args.setting.now in
     IfOk-weaker c.storm.result _ _
     (λ t has.

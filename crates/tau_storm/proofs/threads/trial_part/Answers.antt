@@ -5,16 +5,16 @@ use Rattle.tau_storm.proofs.DealLemmas.{part_told}
 use Rattle.tau_storm.proofs.threads.trial_part.Goals as goal
 
 pub returns : goal.returns
-returns c =
+returns g c =
     let S = c.args.setting.now in
     let P = c.in_ok-own.own in
     let b = c.args.behaviour in
     let first = c.first.result in
     let count = c.count.result in
     let trial = c.visit_seeds.new.visitor in
-    let seen = tells_seen (IsTrial b) _ (λ old new e ends shows is. shows b ends is) S P first count c.new-trial.result trial c.new-trial.ensures c.in_ok-visit_seeds.ensures.ends in
+    let seen = tells_seen (λ ends w. IsTrial b ends w.visitor) _ (λ old new e ends shows is. shows b ends is) S P first count _ trial c.new.ensures c.in_ok-visit_seeds.ensures.ends in
     IfOk-weaker c.told.result _ _
     (λ t is.
     part_told (TellsTrial b) S c.args.program.now P c.args.deal c.args.worker first count t c.in_ok-own.ensures c.first.ensures c.count.ensures
-    (tells_weaker (IsTrial b) (TellsTrial b) S P first count trial t (is b) seen))
+    (tells_weaker (λ ends w. IsTrial b ends w.visitor) (TellsTrial b) S P first count trial t (is b) seen))
     c.told.ensures
