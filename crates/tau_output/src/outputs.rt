@@ -25,6 +25,7 @@ use std::alloc::{AllocError, Global};
 use tau_command::Command;
 use tau_points::Point;
 use tau_text::InputError;
+use tau_workers::OpenGate;
 
 /// How many bytes an input may have (docs/limits.md).
 pub const INPUT_LIMIT: usize = 16_777_216;
@@ -117,7 +118,7 @@ pub fn output_of(alloc: Global, command: Command, bytes: &[u8]) -> Result<Output
             numbers,
             question,
             ..
-        } => storm_program(&OneWorker, alloc, bytes, &numbers, &question),
+        } => storm_program(&OneWorker, &OpenGate, alloc, bytes, &numbers, &question),
     }
 }
 

@@ -20,14 +20,15 @@ use std::alloc::{AllocError, Global};
 use tau_book::run_serially;
 use tau_command::{Line, Question, StormNumbers};
 use tau_faults::{FaultCounts, Setting};
-use tau_storm::{storm_text, totals_text};
+use tau_storm::{Watch, storm_text, totals_text};
 use tau_text::read_program;
 use tau_tree::{Behaviour, Program, Script};
 
 /// What `storm` writes for the program that the bytes spell: its outcomes, whether a claim holds at each end, or the simplest run with an
 /// outcome (docs/formats.md, "Storm"). Whichever workers make the runs, it is the same.
-pub(crate) fn storm_program<W: StormWorkers>(
-    workers: &W,
+pub(crate) fn storm_program<S: StormWorkers, W: Watch + Sync>(
+    workers: &S,
+    watch: &W,
     alloc: Global,
     bytes: &[u8],
     numbers: &StormNumbers,
@@ -41,9 +42,9 @@ pub(crate) fn storm_program<W: StormWorkers>(
 {
     let mut program = read_program(alloc, bytes)?;
     match question {
-        Question::Outcomes => Ok(outcomes_output(workers, alloc, &mut program, numbers)?),
+        Question::Outcomes => Ok(outcomes_output(workers, watch, alloc, &mut program, numbers)?),
         Question::Claim { name } => {
-            match claim_output(workers, alloc, &mut program, numbers, name)? {
+            match claim_output(workers, watch, alloc, &mut program, numbers, name)? {
                 Some(output) => Ok(output),
                 None => Err(Refusal::Lacking {
                     wanted: Wanted::Behaviour,
@@ -51,7 +52,7 @@ pub(crate) fn storm_program<W: StormWorkers>(
             }
         }
         Question::Show { outcome } => {
-            match shown_output(workers, alloc, &mut program, numbers, *outcome)? {
+            match shown_output(workers, watch, alloc, &mut program, numbers, *outcome)? {
                 Some(output) => Ok(output),
                 None => Err(Refusal::Lacking {
                     wanted: Wanted::Outcome,
@@ -78,8 +79,9 @@ fn setting_of(numbers: &StormNumbers) -> Setting
 }
 
 /// The outcomes of the storm of a program. The error is want of memory.
-fn outcomes_output<W: StormWorkers>(
-    workers: &W,
+fn outcomes_output<S: StormWorkers, W: Watch + Sync>(
+    workers: &S,
+    watch: &W,
     alloc: Global,
     program: &mut Program,
     numbers: &StormNumbers,
@@ -89,7 +91,7 @@ fn outcomes_output<W: StormWorkers>(
     ensures { IfOk result (λ o. (bytes : List ℕ) → IsProgram bytes program.old → TellsOutcomes numbers.now bytes o.end o.text.items) }
 {
     let setting = setting_of(numbers);
-    let told = workers.storm(alloc, program, &setting, numbers.seed, numbers.seeds)?;
+    let told = workers.storm(alloc, program, &setting, numbers.seed, numbers.seeds, watch)?;
     Ok(Output {
         text: storm_text(alloc, u64::from(numbers.seeds), told.totals, &told.outcomes)?,
         end: End::Done,
@@ -97,8 +99,9 @@ fn outcomes_output<W: StormWorkers>(
 }
 
 /// The run text of the simplest run with an outcome; `None` where there is no outcome of this number. The error is want of memory.
-fn shown_output<W: StormWorkers>(
-    workers: &W,
+fn shown_output<S: StormWorkers, W: Watch + Sync>(
+    workers: &S,
+    watch: &W,
     alloc: Global,
     program: &mut Program,
     numbers: &StormNumbers,
@@ -110,7 +113,7 @@ fn shown_output<W: StormWorkers>(
     ensures lacks { IfOk result (λ r. r ≡ None → (bytes : List ℕ) → IsProgram bytes program.old → LacksOutcome numbers.now outcome bytes) }
 {
     let setting = setting_of(numbers);
-    let told = workers.storm(alloc, program, &setting, numbers.seed, numbers.seeds)?;
+    let told = workers.storm(alloc, program, &setting, numbers.seed, numbers.seeds, watch)?;
     let outcomes = told.outcomes.items();
     match outcomes.get(outcome as usize) {
         Some(shown) => Ok(Some(Output {
@@ -123,8 +126,9 @@ fn shown_output<W: StormWorkers>(
 
 /// Whether a behaviour holds as a claim at each end of the storm of a program; `None` where the program has none of this name. The error
 /// is want of memory.
-fn claim_output<W: StormWorkers>(
-    workers: &W,
+fn claim_output<S: StormWorkers, W: Watch + Sync>(
+    workers: &S,
+    watch: &W,
     alloc: Global,
     program: &mut Program,
     numbers: &StormNumbers,
@@ -146,6 +150,7 @@ fn claim_output<W: StormWorkers>(
         numbers.seed,
         numbers.seeds,
         behaviour,
+        watch,
     )?;
     match &tried.broken {
         Some(shown) => Ok(Some(Output {

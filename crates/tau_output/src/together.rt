@@ -69,12 +69,8 @@ pub fn output_by_workers<R: Threads + Wait + Sync, G: Gate + Watch + Sync>(
             numbers,
             question,
         } => {
-            let several = WorkersInThreads {
-                rt,
-                workers,
-                watch: gate,
-            };
-            storm_program(&several, alloc, bytes, &numbers, &question)
+            let several = WorkersInThreads { rt, workers };
+            storm_program(&several, gate, alloc, bytes, &numbers, &question)
         }
         _ => output_of(alloc, command, bytes),
     }

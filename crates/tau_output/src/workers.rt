@@ -9,19 +9,19 @@ use std::thread::Threads;
 use tau_faults::Setting;
 use tau_storm::{Told, Tried, Watch, storm, storm_by_threads, try_claim, try_claim_by_threads};
 use tau_tree::Program;
-use tau_workers::OpenGate;
 
 /// The workers that make the runs of a storm. What they tell doesn't depend on which they are.
 pub(crate) trait StormWorkers {
     /// The outcomes of the storm of a program over so many seeds from this one on. The error is want of memory, or of numbers, as that of
     /// [`storm`](tau_storm::storm).
-    fn storm(
+    fn storm<W: Watch + Sync>(
         &self,
         alloc: Global,
         program: &mut Program,
         setting: &Setting,
         seed: u64,
         seeds: u32,
+        watch: &W,
     ) -> Result<Told, AllocError>
         requires sound { Sound program.old }
         requires setting { IsSetting setting.now }
@@ -29,7 +29,7 @@ pub(crate) trait StormWorkers {
         ensures told { IfOk result (λ t. HasOutcomes setting.now program.old seed seeds t.outcomes t.totals) };
 
     /// The same, with a behaviour that is tried as a claim at each end.
-    fn try_claim(
+    fn try_claim<W: Watch + Sync>(
         &self,
         alloc: Global,
         program: &mut Program,
@@ -37,6 +37,7 @@ pub(crate) trait StormWorkers {
         seed: u64,
         seeds: u32,
         behaviour: u32,
+        watch: &W,
     ) -> Result<Tried, AllocError>
         requires sound { Sound program.old }
         requires setting { IsSetting setting.now }
@@ -44,22 +45,23 @@ pub(crate) trait StormWorkers {
         ensures tried { IfOk result (λ t. HasTried setting.now program.old seed seeds behaviour t.told.outcomes t.told.totals t.broken) };
 }
 
-/// One worker, on the caller's thread, which nobody watches.
+/// One worker, on the caller's thread.
 pub(crate) struct OneWorker;
 
 impl StormWorkers for OneWorker {
-    fn storm(
+    fn storm<W: Watch + Sync>(
         &self,
         alloc: Global,
         program: &mut Program,
         setting: &Setting,
         seed: u64,
         seeds: u32,
+        watch: &W,
     ) -> Result<Told, AllocError> {
-        storm(alloc, program, setting, seed, seeds, &OpenGate)
+        storm(alloc, program, setting, seed, seeds, watch)
     }
 
-    fn try_claim(
+    fn try_claim<W: Watch + Sync>(
         &self,
         alloc: Global,
         program: &mut Program,
@@ -67,29 +69,30 @@ impl StormWorkers for OneWorker {
         seed: u64,
         seeds: u32,
         behaviour: u32,
+        watch: &W,
     ) -> Result<Tried, AllocError> {
-        try_claim(alloc, program, setting, seed, seeds, behaviour, &OpenGate)
+        try_claim(alloc, program, setting, seed, seeds, behaviour, watch)
     }
 }
 
-/// So many workers, each in a thread of its own; one is on the caller's. The watch is told what they do.
+/// So many workers, each in a thread of its own; one is on the caller's.
 #[derive(Drop)]
-pub(crate) struct WorkersInThreads<'r, R, W> {
+pub(crate) struct WorkersInThreads<'r, R> {
     pub(crate) rt: &'r R,
     pub(crate) workers: u32,
-    pub(crate) watch: &'r W,
 }
 
-impl<'r, R: Threads + Sync, W: Watch + Sync> StormWorkers for WorkersInThreads<'r, R, W> {
-    fn storm(
+impl<'r, R: Threads + Sync> StormWorkers for WorkersInThreads<'r, R> {
+    fn storm<W: Watch + Sync>(
         &self,
         alloc: Global,
         program: &mut Program,
         setting: &Setting,
         seed: u64,
         seeds: u32,
+        watch: &W,
     ) -> Result<Told, AllocError> {
-        self.watch.begin(seeds);
+        watch.begin(seeds);
         let told = if self.workers > 1 {
             storm_by_threads(
                 self.rt,
@@ -99,16 +102,16 @@ impl<'r, R: Threads + Sync, W: Watch + Sync> StormWorkers for WorkersInThreads<'
                 seed,
                 seeds,
                 self.workers,
-                self.watch,
+                watch,
             )
         } else {
-            storm(alloc, program, setting, seed, seeds, self.watch)
+            storm(alloc, program, setting, seed, seeds, watch)
         };
-        self.watch.end();
+        watch.end();
         told
     }
 
-    fn try_claim(
+    fn try_claim<W: Watch + Sync>(
         &self,
         alloc: Global,
         program: &mut Program,
@@ -116,8 +119,9 @@ impl<'r, R: Threads + Sync, W: Watch + Sync> StormWorkers for WorkersInThreads<'
         seed: u64,
         seeds: u32,
         behaviour: u32,
+        watch: &W,
     ) -> Result<Tried, AllocError> {
-        self.watch.begin(seeds);
+        watch.begin(seeds);
         let tried = if self.workers > 1 {
             try_claim_by_threads(
                 self.rt,
@@ -128,12 +132,12 @@ impl<'r, R: Threads + Sync, W: Watch + Sync> StormWorkers for WorkersInThreads<'
                 seeds,
                 self.workers,
                 behaviour,
-                self.watch,
+                watch,
             )
         } else {
-            try_claim(alloc, program, setting, seed, seeds, behaviour, self.watch)
+            try_claim(alloc, program, setting, seed, seeds, behaviour, watch)
         };
-        self.watch.end();
+        watch.end();
         tried
     }
 }

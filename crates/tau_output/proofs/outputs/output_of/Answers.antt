@@ -1,3 +1,7 @@
+use Rattle.std.proofs.Common.{sym, subst, IfErr}
+use Rattle.tau_command.specs.declared.commands.Command.{Command}
+use Rattle.tau_output.specs.Refusals.{TellsLacking}
+use Rattle.tau_output.specs.Asking.{AsksInVain}
 use Rattle.tau_command.specs.declared.commands.Command.TheVariants.{Run, Check, Audit, Report, Print, Migrate, Why, Cut, Draw, Storm}
 use Rattle.tau_output.proofs.LawLemmas.{answer_told, refusal_told}
 use Rattle.tau_output.proofs.outputs.output_of.Goals as goal
@@ -54,3 +58,7 @@ returns-in-Storm-clause-faulty c =
 pub returns-in-Storm-clause-in_vain : goal.returns-in-Storm-clause-in_vain
 returns-in-Storm-clause-in_vain c =
     (refusal_told c.args.command (Storm c.in-Storm.workers c.in-Storm.numbers c.in-Storm.question) c.args.bytes.now c.storm_program.result c.in-Storm.is c.requires.bytes c.storm_program.ensures.output c.storm_program.ensures.fault (c.storm_program.ensures.lacking c.in-Storm.workers)).gives.in_vain
+
+pub returns-in-Storm-clause-lacking : goal.returns-in-Storm-clause-lacking
+returns-in-Storm-clause-lacking c =
+    subst (λ (k : Command). IfErr c.storm_program.result (TellsLacking (AsksInVain k c.args.bytes.now))) (sym c.in-Storm.is) (c.storm_program.ensures.lacking c.in-Storm.workers)
