@@ -16,8 +16,8 @@ mod refusals;
 mod reporting;
 mod running;
 mod storming;
+mod storming_by_workers;
 mod together;
-mod workers;
 
 pub use laws::{
     legal_runs_are_grounded, migrated_texts_are_accepted, output_is_unique, run_texts_are_accepted,

@@ -20,12 +20,10 @@ use crate::printing::print_program;
 use crate::reporting::report_run;
 use crate::running::write_serial_run;
 use crate::storming::storm_program;
-use crate::workers::OneWorker;
 use std::alloc::{AllocError, Global};
 use tau_command::Command;
 use tau_points::Point;
 use tau_text::InputError;
-use tau_workers::OpenGate;
 
 /// How many bytes an input may have (docs/limits.md).
 pub const INPUT_LIMIT: usize = 16_777_216;
@@ -118,7 +116,7 @@ pub fn output_of(alloc: Global, command: Command, bytes: &[u8]) -> Result<Output
             numbers,
             question,
             ..
-        } => storm_program(&OneWorker, &OpenGate, alloc, bytes, &numbers, &question),
+        } => storm_program(alloc, bytes, &numbers, &question),
     }
 }
 

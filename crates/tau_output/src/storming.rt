@@ -14,21 +14,19 @@ ghost use Rattle.tau_output.specs.Storming.{setting_of as setting_by, StormsAs, 
 ghost use Rattle.tau_output.specs.Inner.Storms.{IsSerialText};
 
 use crate::running::write_run;
-use crate::workers::StormWorkers;
 use crate::{End, Output, Refusal, Wanted};
 use std::alloc::{AllocError, Global};
 use tau_book::run_serially;
 use tau_command::{Line, Question, StormNumbers};
 use tau_faults::{FaultCounts, Setting};
-use tau_storm::{Watch, storm_text, totals_text};
+use tau_storm::{storm, storm_text, totals_text, try_claim};
 use tau_text::read_program;
 use tau_tree::{Behaviour, Program, Script};
+use tau_workers::OpenGate;
 
 /// What `storm` writes for the program that the bytes spell: its outcomes, whether a claim holds at each end, or the simplest run with an
-/// outcome (docs/formats.md, "Storm"). Whichever workers make the runs, it is the same.
-pub(crate) fn storm_program<S: StormWorkers, W: Watch + Sync>(
-    workers: &S,
-    watch: &W,
+/// outcome (docs/formats.md, "Storm"). The runs are made on the caller's thread.
+pub(crate) fn storm_program(
     alloc: Global,
     bytes: &[u8],
     numbers: &StormNumbers,
@@ -42,9 +40,9 @@ pub(crate) fn storm_program<S: StormWorkers, W: Watch + Sync>(
 {
     let mut program = read_program(alloc, bytes)?;
     match question {
-        Question::Outcomes => Ok(outcomes_output(workers, watch, alloc, &mut program, numbers)?),
+        Question::Outcomes => Ok(outcomes_output(alloc, &mut program, numbers)?),
         Question::Claim { name } => {
-            match claim_output(workers, watch, alloc, &mut program, numbers, name)? {
+            match claim_output(alloc, &mut program, numbers, name)? {
                 Some(output) => Ok(output),
                 None => Err(Refusal::Lacking {
                     wanted: Wanted::Behaviour,
@@ -52,7 +50,7 @@ pub(crate) fn storm_program<S: StormWorkers, W: Watch + Sync>(
             }
         }
         Question::Show { outcome } => {
-            match shown_output(workers, watch, alloc, &mut program, numbers, *outcome)? {
+            match shown_output(alloc, &mut program, numbers, *outcome)? {
                 Some(output) => Ok(output),
                 None => Err(Refusal::Lacking {
                     wanted: Wanted::Outcome,
@@ -63,7 +61,7 @@ pub(crate) fn storm_program<S: StormWorkers, W: Watch + Sync>(
 }
 
 /// How the runs are made, and which faults come.
-fn setting_of(numbers: &StormNumbers) -> Setting
+pub(crate) fn setting_of(numbers: &StormNumbers) -> Setting
     ensures { result ≡ setting_by numbers.now }
 {
     Setting {
@@ -79,9 +77,7 @@ fn setting_of(numbers: &StormNumbers) -> Setting
 }
 
 /// The outcomes of the storm of a program. The error is want of memory.
-fn outcomes_output<S: StormWorkers, W: Watch + Sync>(
-    workers: &S,
-    watch: &W,
+fn outcomes_output(
     alloc: Global,
     program: &mut Program,
     numbers: &StormNumbers,
@@ -91,7 +87,14 @@ fn outcomes_output<S: StormWorkers, W: Watch + Sync>(
     ensures { IfOk result (λ o. (bytes : List ℕ) → IsProgram bytes program.old → TellsOutcomes numbers.now bytes o.end o.text.items) }
 {
     let setting = setting_of(numbers);
-    let told = workers.storm(alloc, program, &setting, numbers.seed, numbers.seeds, watch)?;
+    let told = storm(
+        alloc,
+        program,
+        &setting,
+        numbers.seed,
+        numbers.seeds,
+        &OpenGate,
+    )?;
     Ok(Output {
         text: storm_text(alloc, u64::from(numbers.seeds), told.totals, &told.outcomes)?,
         end: End::Done,
@@ -99,9 +102,7 @@ fn outcomes_output<S: StormWorkers, W: Watch + Sync>(
 }
 
 /// The run text of the simplest run with an outcome; `None` where there is no outcome of this number. The error is want of memory.
-fn shown_output<S: StormWorkers, W: Watch + Sync>(
-    workers: &S,
-    watch: &W,
+fn shown_output(
     alloc: Global,
     program: &mut Program,
     numbers: &StormNumbers,
@@ -113,7 +114,14 @@ fn shown_output<S: StormWorkers, W: Watch + Sync>(
     ensures lacks { IfOk result (λ r. r ≡ None → (bytes : List ℕ) → IsProgram bytes program.old → LacksOutcome numbers.now outcome bytes) }
 {
     let setting = setting_of(numbers);
-    let told = workers.storm(alloc, program, &setting, numbers.seed, numbers.seeds, watch)?;
+    let told = storm(
+        alloc,
+        program,
+        &setting,
+        numbers.seed,
+        numbers.seeds,
+        &OpenGate,
+    )?;
     let outcomes = told.outcomes.items();
     match outcomes.get(outcome as usize) {
         Some(shown) => Ok(Some(Output {
@@ -126,9 +134,7 @@ fn shown_output<S: StormWorkers, W: Watch + Sync>(
 
 /// Whether a behaviour holds as a claim at each end of the storm of a program; `None` where the program has none of this name. The error
 /// is want of memory.
-fn claim_output<S: StormWorkers, W: Watch + Sync>(
-    workers: &S,
-    watch: &W,
+fn claim_output(
     alloc: Global,
     program: &mut Program,
     numbers: &StormNumbers,
@@ -143,14 +149,14 @@ fn claim_output<S: StormWorkers, W: Watch + Sync>(
         return Ok(None);
     };
     let setting = setting_of(numbers);
-    let tried = workers.try_claim(
+    let tried = try_claim(
         alloc,
         program,
         &setting,
         numbers.seed,
         numbers.seeds,
         behaviour,
-        watch,
+        &OpenGate,
     )?;
     match &tried.broken {
         Some(shown) => Ok(Some(Output {
@@ -170,7 +176,7 @@ fn claim_output<S: StormWorkers, W: Watch + Sync>(
 }
 
 /// The number of the behaviour with this name.
-fn behaviour_named(program: &Program, name: &Line) -> Option<u32>
+pub(crate) fn behaviour_named(program: &Program, name: &Line) -> Option<u32>
     requires { length program.now.behaviours ≤ BEHAVIOUR_LIMIT }
     ensures named { IfSome result (λ b. slice_get (behaviour_names program.now) b ≡ Some name.now) }
     ensures none { result ≡ None → ¬ Contains (behaviour_names program.now) name.now }
@@ -192,7 +198,7 @@ fn is_named(behaviour: &Behaviour, name: &Line) -> bool
 }
 
 /// The run text of the serial run with a seed of the program with another script. The error is want of memory.
-fn run_text_with(
+pub(crate) fn run_text_with(
     alloc: Global,
     program: &mut Program,
     numbers: &StormNumbers,

@@ -15,8 +15,7 @@ ghost use Rattle.tau_output.specs.Writing.{Writes, HasLimit};
 
 use crate::outputs::{or_no_memory, refused_by};
 use crate::running::write_run;
-use crate::storming::storm_program;
-use crate::workers::WorkersInThreads;
+use crate::storming_by_workers::storm_by_workers;
 use crate::{Output, Refusal, output_of};
 use std::alloc::{AllocError, Global};
 use std::sync::Wait;
@@ -68,9 +67,11 @@ pub fn output_by_workers<R: Threads + Wait + Sync, G: Gate + Watch + Sync>(
             workers,
             numbers,
             question,
-        } => {
-            let several = WorkersInThreads { rt, workers };
-            storm_program(&several, gate, alloc, bytes, &numbers, &question)
+        } if workers > 0 => {
+            gate.begin(numbers.seeds);
+            let output = storm_by_workers(rt, workers, gate, alloc, bytes, &numbers, &question);
+            gate.end();
+            output
         }
         _ => output_of(alloc, command, bytes),
     }

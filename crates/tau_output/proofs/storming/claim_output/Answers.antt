@@ -11,7 +11,7 @@ use Rattle.tau_output.proofs.StormLemmas.{sound_broken, breaks_claim, keeps_clai
 use Rattle.tau_output.proofs.storming.claim_output.Goals as goal
 
 pub run_text_with-requires-clause-sound : goal.run_text_with-requires-clause-sound
-run_text_with-requires-clause-sound g c =
+run_text_with-requires-clause-sound c =
     let tried = c.in_ok-tried in
     let shown = c.in-Some-broken.shown in
     let S = c.setting_of-setting.result in
@@ -22,7 +22,7 @@ run_text_with-requires-clause-sound g c =
     (sound_broken S n P c.in-Some.behaviour tried.tried.told.outcomes tried.tried.told.totals shown c.setting_of-setting.ensures c.requires.sound c.requires.setting told)
 
 pub returns-in-Some-broken-clause-tried : goal.returns-in-Some-broken-clause-tried
-returns-in-Some-broken-clause-tried g c = λ bytes spelled.
+returns-in-Some-broken-clause-tried c = λ bytes spelled.
     let tried = c.in_ok-tried in
     let shown = c.in-Some-broken.shown in
     let S = c.setting_of-setting.result in
@@ -35,7 +35,7 @@ returns-in-Some-broken-clause-tried g c = λ bytes spelled.
     breaks_claim S n P c.in-Some.behaviour tried.tried.told.outcomes tried.tried.told.totals shown c.args.name.now bytes text c.setting_of-setting.ensures c.requires.sound c.requires.setting named told serial spelled
 
 pub returns-clause-tried : goal.returns-clause-tried
-returns-clause-tried g c = λ bytes spelled.
+returns-clause-tried c = λ bytes spelled.
     let tried = c.in_ok-tried in
     let S = c.setting_of-setting.result in
     let n = c.args.numbers.now in

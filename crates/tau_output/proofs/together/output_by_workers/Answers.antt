@@ -33,8 +33,8 @@ returns-in_default-clause-in_vain g c =
 
 pub returns-in-Storm-clause-faulty : goal.returns-in-Storm-clause-faulty
 returns-in-Storm-clause-faulty g c =
-    (refusal_told c.args.command (Storm c.in-Storm.workers c.in-Storm.numbers c.in-Storm.question) c.args.bytes.now c.storm_program.result c.in-Storm.is c.requires.bytes c.storm_program.ensures.output c.storm_program.ensures.fault (c.storm_program.ensures.lacking c.in-Storm.workers)).gives.faulty
+    (refusal_told c.args.command (Storm c.in-Storm.workers c.in-Storm.numbers c.in-Storm.question) c.args.bytes.now c.storm_by_workers.result c.in-Storm.is c.requires.bytes c.storm_by_workers.ensures.output c.storm_by_workers.ensures.fault (c.storm_by_workers.ensures.lacking c.in-Storm.workers)).gives.faulty
 
 pub returns-in-Storm-clause-in_vain : goal.returns-in-Storm-clause-in_vain
 returns-in-Storm-clause-in_vain g c =
-    (refusal_told c.args.command (Storm c.in-Storm.workers c.in-Storm.numbers c.in-Storm.question) c.args.bytes.now c.storm_program.result c.in-Storm.is c.requires.bytes c.storm_program.ensures.output c.storm_program.ensures.fault (c.storm_program.ensures.lacking c.in-Storm.workers)).gives.in_vain
+    (refusal_told c.args.command (Storm c.in-Storm.workers c.in-Storm.numbers c.in-Storm.question) c.args.bytes.now c.storm_by_workers.result c.in-Storm.is c.requires.bytes c.storm_by_workers.ensures.output c.storm_by_workers.ensures.fault (c.storm_by_workers.ensures.lacking c.in-Storm.workers)).gives.in_vain
