@@ -1,13 +1,14 @@
-use Rattle.std.proofs.Common.{◌≡◌, ◌⊎◌, ◌∙◌, ℕ, Err, sym, IfOk, subst}
+use Rattle.std.proofs.Common.{◌≡◌, ◌⊎◌, ◌∙◌, ℕ, Err, sym, IfOk, IfErr, subst}
 use Rattle.tau_command.specs.declared.commands.Command.{Command}
 use Rattle.tau_command.specs.declared.commands.Command.TheVariants.{Storm}
 use Rattle.tau_output.specs.declared.refusals.Refusal.TheVariants.{Lacking, NoMemory}
 use Rattle.tau_output.specs.declared.refusals.Wanted.{Wanted}
+use Rattle.tau_output.specs.Refusals.{TellsLacking}
 use Rattle.tau_output.specs.Asking.{AsksInVain}
 use Rattle.tau_output.specs.Writing.{WritesSerially}
 use Rattle.tau_output.proofs.LawLemmas.{refusal_told, serially_written}
 use Rattle.tau_output.proofs.TogetherLemmas.{together_told}
-use Rattle.tau_output.proofs.together.output_by_workers.Goals.{in_default-via-in-Run+else-workers-gt1, in_default-via-in_default}
+use Rattle.tau_output.proofs.together.output_by_workers.Goals.{in_default-via-in-Run+else-workers-gt1, in_default-via-in-Storm+else-workers-gt0, in_default-via-in_default}
 use Rattle.tau_output.proofs.together.output_by_workers.Goals as goal
 
 pub returns-in-Run-clause-faulty : goal.returns-in-Run-clause-faulty
@@ -20,6 +21,7 @@ returns-in_default-clause-output g c =
     let Told : Command → Type 0 = λ x. IfOk c.output_of.result (λ o. WritesSerially x c.args.bytes.now o.end o.text.items) in
     serially_written c.args.command c.args.bytes.now c.output_of.result (elim c.in_default.branch [
       | in_default-via-in-Run+else-workers-gt1 w ↦ subst Told (w.command-is ∙ sym w.in-Run.is) c.output_of.ensures.output
+      | in_default-via-in-Storm+else-workers-gt0 w ↦ subst Told (w.command-is ∙ sym w.in-Storm.is) c.output_of.ensures.output
       | in_default-via-in_default w ↦ subst Told w.command-is c.output_of.ensures.output
     ])
 
@@ -28,13 +30,18 @@ returns-in_default-clause-in_vain g c =
     let Told : Command → Type 0 = λ x. (wanted : Wanted) → AsksInVain x c.args.bytes.now wanted → (c.output_of.result ≡ Err (Lacking wanted)) ⊎ (c.output_of.result ≡ Err NoMemory) in
     elim c.in_default.branch [
       | in_default-via-in-Run+else-workers-gt1 w ↦ subst Told (w.command-is ∙ sym w.in-Run.is) c.output_of.ensures.in_vain
+      | in_default-via-in-Storm+else-workers-gt0 w ↦ subst Told (w.command-is ∙ sym w.in-Storm.is) c.output_of.ensures.in_vain
       | in_default-via-in_default w ↦ subst Told w.command-is c.output_of.ensures.in_vain
     ]
 
 pub returns-in-Storm-clause-faulty : goal.returns-in-Storm-clause-faulty
 returns-in-Storm-clause-faulty g c =
-    (refusal_told c.args.command (Storm c.in-Storm.workers c.in-Storm.numbers c.in-Storm.question) c.args.bytes.now c.storm_by_workers.result c.in-Storm.is c.requires.bytes c.storm_by_workers.ensures.output c.storm_by_workers.ensures.fault (c.storm_by_workers.ensures.lacking c.in-Storm.workers)).gives.faulty
+    (refusal_told c.args.command (Storm c.in-Storm.workers c.in-Storm.numbers c.in-Storm.question) c.args.bytes.now c.storm_by_workers-output.result c.in-Storm.is c.requires.bytes c.storm_by_workers-output.ensures.output c.storm_by_workers-output.ensures.fault (c.storm_by_workers-output.ensures.lacking c.in-Storm.workers)).gives.faulty
 
 pub returns-in-Storm-clause-in_vain : goal.returns-in-Storm-clause-in_vain
 returns-in-Storm-clause-in_vain g c =
-    (refusal_told c.args.command (Storm c.in-Storm.workers c.in-Storm.numbers c.in-Storm.question) c.args.bytes.now c.storm_by_workers.result c.in-Storm.is c.requires.bytes c.storm_by_workers.ensures.output c.storm_by_workers.ensures.fault (c.storm_by_workers.ensures.lacking c.in-Storm.workers)).gives.in_vain
+    (refusal_told c.args.command (Storm c.in-Storm.workers c.in-Storm.numbers c.in-Storm.question) c.args.bytes.now c.storm_by_workers-output.result c.in-Storm.is c.requires.bytes c.storm_by_workers-output.ensures.output c.storm_by_workers-output.ensures.fault (c.storm_by_workers-output.ensures.lacking c.in-Storm.workers)).gives.in_vain
+
+pub returns-in-Storm-clause-lacking : goal.returns-in-Storm-clause-lacking
+returns-in-Storm-clause-lacking g c =
+    subst (λ (k : Command). IfErr c.storm_by_workers-output.result (TellsLacking (AsksInVain k c.args.bytes.now))) (sym c.in-Storm.is) (c.storm_by_workers-output.ensures.lacking c.in-Storm.workers)
