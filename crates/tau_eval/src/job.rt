@@ -163,9 +163,8 @@ fn are_same(one: &[Value], two: &[Value]) -> bool
 }
 
 impl<'p> Job<'p> {
-    /// Evaluates the turn up to the effect that comes after its replies, and takes the room for a reply. Nothing is
-    /// evaluated twice, but for the round of a fold in which a trap ends the turn. Without memory the same turn comes
-    /// back.
+    /// Evaluates the turn up to the effect that comes after its replies, and takes the room for a reply. It goes on where the
+    /// turn stopped; that no part is evaluated twice has no clause. Without memory the same turn comes back.
     pub fn advance(self) -> Result<Pending<'p>, (Job<'p>, AllocError)>
         ensures ok { IfOk result (λ p. p ≡ self.entry) }
         ensures err { IfErr result (λ e. e.0 ≡ self.entry) }

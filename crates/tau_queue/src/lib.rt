@@ -1,4 +1,5 @@
-//! A system that follows the failure script of its program: its run is legal, and what a worker chooses from is at hand.
+//! A system that follows the failure script of its program, so its run is legal, with what a worker chooses from: the letters of the
+//! messages in flight, by receiver and node, and the places of the open turns (docs/rules.md, "Choice of a worker").
 #![tactic(auto)]
 
 mod due;

@@ -1,4 +1,6 @@
-//! The rules of a run: which step fits, and which is legal, after the steps before it (docs/rules.md, "Steps").
+//! The system of all transactors: the run of a program, to which each call appends exactly the step that it names and that fits, or
+//! refuses for the reason that it tells and changes nothing (docs/rules.md, "Steps"). Beside the run it keeps what the next step
+//! needs: states, the record of each open turn, the values of messages, and what was heard.
 #![tactic(auto)]
 
 mod acting;
