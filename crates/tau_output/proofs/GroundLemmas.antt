@@ -1,12 +1,11 @@
 -- Each Hold, Drop and Fall of a legal run has its ground.
-use Rattle.std.proofs.Common.{◌≡◌, ℕ, IsTrue}
+use Rattle.std.proofs.Common.{ℕ}
 use Rattle.tau_tree.specs.declared.programs.Program.{Program}
-use Rattle.tau_trace.specs.declared.step.Step.{Step}
 use Rattle.tau_trace.specs.declared.step.Step.TheVariants.{Hold, Drop, Fall}
 use Rattle.tau_trace.specs.Run.{Run}
 use Rattle.tau_legal.specs.Traces.{Legal}
 use Rattle.tau_past.specs.Decisions.{Verdict, drops, falls, fall, drop, FallsBy, DropsBy}
-use Rattle.tau_explain.specs.Decisions.{IsAsked, IsGroundless, IsGrounded}
+use Rattle.tau_explain.specs.Decisions.{IsGrounded}
 use Rattle.tau_output.specs.Laws.{LegalRunsAreGrounded}
 
 dropped_by : (T : Run) (t k m : ℕ) → Verdict T t k m drops → DropsBy T t k m

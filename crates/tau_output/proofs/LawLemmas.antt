@@ -23,7 +23,6 @@ use Rattle.tau_command.specs.declared.commands.Command.TheVariants.{Run as RunCo
 use Rattle.tau_text.specs.declared.errors.InputError.{InputError}
 use Rattle.tau_text.specs.declared.errors.InputError.TheVariants as inputs
 use Rattle.tau_text.specs.Errors.{TellsInputFault}
-use Rattle.tau_text.specs.Faults.{IsRunFault}
 use Rattle.tau_text.specs.Meaning.{IsRunInput}
 use Rattle.tau_text.proofs.FaultLemmas.{program_unique, run_unique, print_unique}
 use Rattle.tau_output.specs.declared.outputs.End.{End}

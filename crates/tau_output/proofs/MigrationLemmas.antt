@@ -1,5 +1,5 @@
 -- Programs in version 2, and what the other commands make of a text that `migrate` writes.
-use Rattle.std.proofs.Common.{◌≤◌, inl, inr, ℕ, get_or, refl, arith}
+use Rattle.std.proofs.Common.{inl, inr, ℕ, get_or, refl, arith}
 use Rattle.tau_tree.specs.declared.programs.Program.{Program}
 use Rattle.tau_tree.specs.declared.entries.Failure.{Failure}
 use Rattle.tau_tree.specs.declared.entries.Failure.TheVariants.{Fail, Lose, Repeat}

@@ -4,7 +4,6 @@ use Rattle.std.specs.Result.{IfOk, IfErr}
 use Rattle.tau_text.specs.declared.errors.InputError.{InputError}
 use Rattle.tau_text.specs.declared.errors.InputError.TheVariants.{NoMemory}
 use Rattle.tau_text.specs.Errors.{TellsInputFault}
-use Rattle.tau_output.specs.declared.outputs.End.{End}
 use Rattle.tau_output.specs.declared.outputs.End.TheVariants.{Done}
 use Rattle.tau_output.specs.declared.outputs.Output.{Output}
 

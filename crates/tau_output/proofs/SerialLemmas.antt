@@ -1,5 +1,5 @@
 -- On one thread `run` and `drill` write one text, since there is one serial run.
-use Rattle.std.proofs.Common.{◌≡◌, ℕ, suc, List, [], ◌∷◌, ◌++◌, Option, Some, None, refl, sym, ap, subst, ◌∙◌, arith}
+use Rattle.std.proofs.Common.{◌≡◌, ℕ, suc, List, [], ◌∷◌, ◌++◌, Some, None, refl, sym, ap, subst, ◌∙◌, arith}
 use Rattle.std.specs.Prelude.{slice_get}
 use Rattle.tau_sexpr.specs.Tree.{Tree}
 use Rattle.tau_sexpr.specs.Printing.{printed}
@@ -8,13 +8,13 @@ use Rattle.tau_forms.specs.Printed as program_forms
 use Rattle.tau_trace.specs.Run.{Run}
 use Rattle.tau_trace.proofs.Lists.{same_some}
 use Rattle.tau_report.proofs.Uniqueness.{report_once}
-use Rattle.tau_text.specs.RunText.{trace_mark, report_mark, AreStepForms, AreRunForms, IsRunText}
+use Rattle.tau_text.specs.RunText.{trace_mark, report_mark, AreRunForms, IsRunText}
 use Rattle.tau_book.specs.SerialRun.{IsSerialRun}
 use Rattle.tau_book.proofs.OneRun.{one_serial_run}
 use Rattle.tau_gen.specs.Generated.{generated}
 use Rattle.tau_text.proofs.FaultLemmas.{program_unique}
 use Rattle.tau_output.specs.declared.outputs.End.{End}
-use Rattle.tau_output.specs.Runs.{EndsAs, RunsAs, RunsBy}
+use Rattle.tau_output.specs.Runs.{EndsAs, RunsBy}
 use Rattle.tau_output.specs.Drills.{drill_lines, DrillsAs}
 use Rattle.tau_output.proofs.RunLemmas.{ends_once}
 

@@ -1,11 +1,9 @@
 -- What `storm` writes for an input is determined.
-use Rattle.std.proofs.Common.{◌≡◌, ◌≢◌, ◌<◌, ◌≤◌, ℕ, zero, suc, List, [], ◌∷◌, ◌++◌, length, Option, Some, None, All, AllPairs, refl, sym, ap, subst, ◌∙◌, arith}
+use Rattle.std.proofs.Common.{◌≡◌, ◌≢◌, ◌≤◌, ℕ, zero, suc, List, [], ◌∷◌, length, Some, All, AllPairs, refl, sym, ap, subst, ◌∙◌, arith}
 use Rattle.std.specs.Prelude.{slice_get, Contains}
 use Rattle.std.proofs.lemmas.List.Elements.{All-contains}
-use Rattle.tau_sexpr.specs.Printing.{printed}
 use Rattle.tau_tree.specs.declared.programs.Program.{Program}
 use Rattle.tau_tree.specs.Sound.{Sound, behaviour_names}
-use Rattle.tau_trace.specs.Run.{Run}
 use Rattle.tau_trace.proofs.Lists.{same_some}
 use Rattle.tau_text.proofs.FaultLemmas.{program_unique}
 use Rattle.tau_command.specs.declared.storms.StormNumbers.{StormNumbers}
@@ -17,14 +15,14 @@ use Rattle.tau_storm.specs.declared.totals.Totals.{Totals}
 use Rattle.tau_storm.specs.Seeds.{AreEndsOfSeeds}
 use Rattle.tau_storm.specs.Outcomes.{HasLines, IsSimplest, AreTotals}
 use Rattle.tau_storm.specs.Order.{AreOrdered}
-use Rattle.tau_storm.specs.Lines.{totals_form, storm_text}
-use Rattle.tau_storm.specs.Claims.{Holds, AreBroken}
+use Rattle.tau_storm.specs.Lines.{storm_text}
+use Rattle.tau_storm.specs.Claims.{Holds}
 use Rattle.tau_storm.proofs.OneOutcome.{outcomes_once, simplest_once}
 use Rattle.tau_storm.proofs.OneStorm.{contains_at, seeds_once, totals_once, broken_once, broken_among}
 use Rattle.tau_output.specs.declared.outputs.End.{End}
 use Rattle.tau_output.specs.declared.outputs.End.TheVariants.{Done, Stopped, Bad, Broken, Claimed}
 use Rattle.tau_output.specs.Asking.{IsProgramWithout}
-use Rattle.tau_output.specs.Storming.{setting_of, HasOutcomes, IsTextOf, TellsOutcomes, ShowsOutcome, TriesClaim, IsKept, IsBroken, IsClaimEnd, StormsAs, LacksOutcome}
+use Rattle.tau_output.specs.Storming.{setting_of, HasOutcomes, IsTextOf, ShowsOutcome, TriesClaim, IsKept, IsBroken, IsClaimEnd, StormsAs, LacksOutcome}
 use Rattle.tau_output.proofs.SerialLemmas.{text_of_same}
 
 -- two tellings of the storm of an input tell the same

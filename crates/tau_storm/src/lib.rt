@@ -2,6 +2,7 @@
 //! claim holds at each of them (docs/rules.md, "Storm").
 #![tactic(auto)]
 
+mod apart;
 mod claims;
 mod dealing;
 mod laws;

@@ -8,6 +8,7 @@ ghost use Rattle.tau_storm.specs.Inner.Claiming.{TellsTrial};
 ghost use Rattle.tau_storm.specs.Inner.Dealing.{TellsPart};
 
 use crate::Table;
+use crate::apart::unshared;
 use crate::dealing::Deal;
 use crate::storms::{Told, Tried, storm, told_of, tried_of, visit_seeds};
 use crate::trials::{Trial, TrialTold};
@@ -112,7 +113,7 @@ fn storm_part<W: Watch>(
     requires worker { worker < deal.workers }
     ensures { IfOk result (TellsPart TellsEnds setting.now program.now deal worker) }
 {
-    let mut own = program.copy()?;
+    let mut own = unshared(alloc, program)?;
     let worker = worker as u32;
     storm(
         alloc,
@@ -140,7 +141,7 @@ fn trial_part<W: Watch>(
     requires worker { worker < deal.workers }
     ensures { IfOk result (TellsPart (TellsTrial behaviour) setting.now program.now deal worker) }
 {
-    let mut own = program.copy()?;
+    let mut own = unshared(alloc, program)?;
     let mut trial = Watched {
         visitor: Trial::new(alloc, behaviour),
         watch,

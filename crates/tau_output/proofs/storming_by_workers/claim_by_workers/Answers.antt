@@ -1,12 +1,10 @@
-use Rattle.std.proofs.Common.{◌≡◌, ◌∙◌, ◌∷◌, [], ℕ, Option, Some, None, IfSome, sym, subst}
+use Rattle.std.proofs.Common.{◌≡◌, ◌∙◌, ◌∷◌, [], ℕ, Option, Some, None, IfSome, subst}
 use Rattle.std.specs.Prelude.{slice_get}
 use Rattle.tau_sexpr.specs.Printing.{printed}
-use Rattle.tau_tree.specs.declared.programs.Program.{Program}
-use Rattle.tau_tree.specs.Sound.{Sound, behaviour_names}
+use Rattle.tau_tree.specs.Sound.{behaviour_names}
 use Rattle.tau_storm.specs.declared.outcomes.Outcome.{Outcome}
 use Rattle.tau_storm.specs.Storms.{HasTried}
 use Rattle.tau_storm.specs.Lines.{totals_form}
-use Rattle.tau_output.specs.Inner.Storms.{IsSerialText}
 use Rattle.tau_output.proofs.StormLemmas.{sound_broken, breaks_claim, keeps_claim}
 use Rattle.tau_output.proofs.storming_by_workers.claim_by_workers.Goals as goal
 

@@ -1,9 +1,6 @@
-use Rattle.std.proofs.Common.{◌≡◌, Some, length, ap, sym, subst, arith}
+use Rattle.std.proofs.Common.{◌≡◌, Some, length, ap, arith}
 use Rattle.std.specs.Prelude.{slice_get}
-use Rattle.tau_tree.specs.declared.programs.Program.{Program}
-use Rattle.tau_tree.specs.Sound.{Sound}
 use Rattle.tau_storm.proofs.ClaimLemmas.{element_at}
-use Rattle.tau_output.specs.Inner.Storms.{IsSerialText}
 use Rattle.tau_output.proofs.StormLemmas.{sound_shown, shows, lacks}
 use Rattle.tau_output.proofs.storming_by_workers.shown_by_workers.Goals as goal
 
