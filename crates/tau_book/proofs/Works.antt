@@ -188,11 +188,6 @@ has_ended b (Some true) f e = inl f
 has_ended b (Some false) f e = inr f.1
 has_ended b None f e = absurd (cc)
 
-pub goes_on_still : (b : Booked) (o : Option Bool) → IsFinished b o → is_some o ≡ false → ¬ (IsComplete b ⊎ IsAtLimit b)
-goes_on_still b (Some true) f e = absurd (cc)
-goes_on_still b (Some false) f e = absurd (cc)
-goes_on_still b None f e = λ ended. ⊎_elim (λ c. f.0 c) (λ (at : len b.system.run ≡ b.limit). omega (arith, f.1, at)) ended
-
 -- the run that was made is the one after that at the beginning
 pub is_run_after : (P : Program) (size seed limit : ℕ) (start : Run) (b : Booked) (h : Held) → b.system.program ≡ P → b.limit ≡ limit → h.size ≡ size → IsAtWork seed start b h → len b.system.run ≤ b.limit → IsComplete b ⊎ IsAtLimit b
     → IsRunAfter P size seed limit start b.system.run

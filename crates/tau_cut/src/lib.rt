@@ -16,5 +16,5 @@ pub use kept::kept_places;
 pub use laws::{cut_texts_are_unique, cuts_are_unique};
 pub use marking::greatest;
 pub use state_lines::put_states;
-pub use states::{Kept, KeptStates, kept_states};
+pub use states::{EndStates, Kept, KeptStates, end_states};
 pub use text::cut_text;

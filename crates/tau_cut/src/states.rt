@@ -4,7 +4,7 @@ ghost use Rattle.tau_trace.specs.Run.{len};
 ghost use Rattle.tau_trace.specs.Known.{WellFormed};
 ghost use Rattle.tau_script.specs.Openings.{program_opening};
 ghost use Rattle.tau_states.specs.Opening.{opening_states};
-ghost use Rattle.tau_states.specs.Table.{Advances};
+ghost use Rattle.tau_states.specs.Table.{Advances, Holds};
 ghost use Rattle.tau_cut.specs.Inner.Keeping as kept_specs;
 ghost use Rattle.tau_cut.specs.Inner.Keeping.{KeepsOf, KeepsClosed, KeepsHeld, AreKept};
 ghost use Rattle.tau_cut.specs.Cuts.{places_in, IsCut};
@@ -56,6 +56,15 @@ impl KeptStates {
     {
         &self.states
     }
+}
+
+/// The states after a trace, and what is kept of each of its transactors with a set of Checkpoints.
+#[derive(Drop)]
+pub struct EndStates {
+    /// The states after the trace.
+    pub states: States,
+    /// What is kept of each transactor.
+    pub kept: KeptStates,
 }
 
 /// What a record tells of the interval before its own.
@@ -135,18 +144,19 @@ fn note(
     Ok(())
 }
 
-/// What is kept of each transactor of a trace with the marked Checkpoints: what it saved with the greatest of its intervals that one
-/// of them ended, or its opening state where a start has none. One pass over the steps.
+/// The states after a trace, and what is kept of each transactor with the marked Checkpoints: what it saved with the greatest of its
+/// intervals that one of them ended, or its opening state where a start has none. One pass over the steps.
 fn states_kept(
     alloc: Global,
     starts: &Starts,
     trace: &Trace,
     marks: &[bool],
-) -> Result<Vec<Option<Kept>>, AllocError>
+) -> Result<EndStates, AllocError>
     requires starts { length trace.now.run.opening.names ≡ length starts.now }
     requires marks { length marks.now ≡ len trace.now.run }
     ensures well_formed { OnOk result (WellFormed trace.now.run) }
-    ensures kept { IfOk result (λ v. AreKept trace.now.run (opening_states starts.now) marks.now (len trace.now.run) v.items) }
+    ensures states { IfOk result (λ e. Holds trace.now.run (opening_states starts.now) e.states.records) }
+    ensures kept { IfOk result (λ e. AreKept trace.now.run (opening_states starts.now) marks.now (len trace.now.run) e.kept) }
 {
     let mut states = States::open(alloc, starts)?;
     let mut kept = kept_first(alloc, states.records(), trace.born())?;
@@ -156,34 +166,34 @@ fn states_kept(
             None => unreachable!(),
         }
     }
-    Ok(kept)
+    Ok(EndStates {
+        states,
+        kept: KeptStates { states: kept },
+    })
 }
 
-/// What is kept of each transactor of a trace with the Checkpoints that a cut marks In. The error is want of memory.
+/// The states after a trace, and what is kept of each transactor with the Checkpoints that a cut marks In. The error is want of memory.
 pub(crate) fn states_with(
     alloc: Global,
     program: &Program,
     trace: &Trace,
     cut: &Cut,
-) -> Result<KeptStates, AllocError>
+) -> Result<EndStates, AllocError>
     requires opening { trace.now.run.opening ≡ program_opening program.now }
     requires cut { IsCut trace.now.run cut.now }
-    ensures { IfOk result (AreKeptWith program.now trace.now.run (places_in cut.now)) }
+    ensures states { IfOk result (λ e. Holds trace.now.run (opening_states program.now.starts) e.states.records) }
+    ensures kept { IfOk result (λ e. AreKeptWith program.now trace.now.run (places_in cut.now) e.kept) }
 {
     let marks = kept_places(alloc, trace, cut)?;
-    let states = states_kept(alloc, &program.starts, trace, &marks)?;
-    Ok(KeptStates { states })
+    states_kept(alloc, &program.starts, trace, &marks)
 }
 
-/// What is kept of each transactor of a trace with the greatest consistent set of Checkpoints (docs/definitions.md, "Consistent").
-/// It takes the time of `greatest` and one pass over the steps. The error is want of memory.
-pub fn kept_states(
-    alloc: Global,
-    program: &Program,
-    trace: &Trace,
-) -> Result<KeptStates, AllocError>
+/// The states after a trace, and what is kept of each transactor with the greatest consistent set of Checkpoints (docs/definitions.md,
+/// "Consistent"). It takes the time of `greatest` and one pass over the steps. The error is want of memory.
+pub fn end_states(alloc: Global, program: &Program, trace: &Trace) -> Result<EndStates, AllocError>
     requires { trace.now.run.opening ≡ program_opening program.now }
-    ensures { IfOk result (AreKeptStates program.now trace.now.run) }
+    ensures states { IfOk result (λ e. Holds trace.now.run (opening_states program.now.starts) e.states.records) }
+    ensures kept { IfOk result (λ e. AreKeptStates program.now trace.now.run e.kept) }
 {
     let cut = greatest(alloc, trace)?;
     states_with(alloc, program, trace, &cut)

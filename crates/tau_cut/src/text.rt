@@ -136,8 +136,8 @@ pub fn cut_text(alloc: Global, program: &Program, trace: &Trace) -> Result<Vec<u
     ensures { IfOk result (λ v. IsCutText program.now trace.now.run v.items) }
 {
     let cut = greatest(alloc, trace)?;
-    let states = states_with(alloc, program, trace, &cut)?;
+    let end = states_with(alloc, program, trace, &cut)?;
     let mut text = lines_of_marks(alloc, trace.opening(), &cut)?;
-    put_states(&mut text, trace, &states)?;
+    put_states(&mut text, trace, &end.kept)?;
     Ok(text)
 }

@@ -1,5 +1,5 @@
 -- What was heard, marked in one pass downwards.
-use Rattle.std.proofs.Common.{◌≡◌, ◌⊎◌, ◌↔◌, inl, inr, ⊎_elim, ℕ, ◌<◌, ◌≤◌, Bool, true, false, List, [], take, drop, ◌∷◌, ◌++◌, ◌+◌, get_or, Option, Some, None, length, set, refl, sym, ap, ◌∙◌, subst, arith, IsTrue, option_and_then}
+use Rattle.std.proofs.Common.{◌≡◌, ◌⊎◌, ◌↔◌, inl, inr, ⊎_elim, ℕ, ◌<◌, ◌≤◌, Bool, true, false, List, [], take, drop, ◌∷◌, ◌++◌, ◌+◌, get_or, Option, Some, None, length, refl, sym, ap, ◌∙◌, subst, arith, IsTrue, option_and_then}
 use Rattle.std.specs.Prelude.{Contains, IsSome, IfSome}
 use Rattle.std.specs.List.{AllPairs}
 use Rattle.std.specs.List.Sorted.{IsStrictlySortedBy}
@@ -11,7 +11,6 @@ use Rattle.std.proofs.lemmas.List.Elements.{Contains-append_left, Contains-push,
 use Rattle.std.proofs.lemmas.List.Quantifiers.{all_pairs_push}
 use Rattle.std.proofs.lemmas.Map.Keys.{sorted_from_strictly_increasing}
 use Rattle.tau_points.specs.Reach.{Reach, start, next}
-use Rattle.tau_points.proofs.Membership.{Contains-none}
 use Rattle.tau_points.proofs.Reach.{least, monotone, union}
 use Rattle.tau_value.specs.declared.shared.Value.{Value}
 use Rattle.tau_trace.specs.declared.step.Step.{Step}
@@ -20,7 +19,7 @@ use Rattle.tau_trace.specs.Steps.{actor}
 use Rattle.tau_trace.specs.Run.{Run, len, step_at, ActsAt}
 use Rattle.tau_trace.specs.Numbering.{born, IsNew, IsOrigin}
 use Rattle.tau_trace.specs.Known.{WellFormed}
-use Rattle.tau_trace.proofs.Lists.{same_some, slice_get-set_same, slice_get-set_other}
+use Rattle.tau_trace.proofs.Lists.{same_some}
 use Rattle.tau_trace.specs.Stored.{IsMadeAt}
 use Rattle.tau_trace.proofs.Agreement.{born-grows}
 use Rattle.tau_trace.proofs.Once.{origin_once, origin_acts}
@@ -66,16 +65,6 @@ heard_is_needed T k s e d = absurd (cc)
 
 pub marks_none : (marks : List Bool) → MarksOne None marks marks
 marks_none marks = record { count = refl; kept = λ k h. h; marked = λ k e. absurd (cc); allowed = λ k h. inl h }
-
-pub marks_some : (n : ℕ) (marks : List Bool) → n < length marks → length (set marks n true) ≡ length marks → MarksOne (Some n) marks (set marks n true)
-marks_some n marks lt count = record {
-  count = count;
-  kept = λ k h. ⊎_elim (λ (e : k ≡ n). subst (IsMarked (set marks n true)) (sym e) here) (λ ne. slice_get-set_other marks n k true ne ∙ h) (cases_eq k n);
-  marked = λ k e. subst (IsMarked (set marks n true)) (same_some e) here;
-  allowed = λ k h. ⊎_elim (λ (e : k ≡ n). inr (ap (λ x. Some x) (sym e))) (λ ne. inl (sym (slice_get-set_other marks n k true ne) ∙ h)) (cases_eq k n);
-} where
-  here : IsMarked (set marks n true) n
-  here = slice_get-set_same marks n true lt
 
 pub noted_more : (T : Run) (j : ℕ) (known0 known entered0 entered : List Bool) → ((i : ℕ) → IsMarked known0 i → IsMarked known i) → ((u : ℕ) → IsMarked entered0 u → IsMarked entered u) → IsNoted T j known0 entered0 → IsNoted T j known entered
 noted_more T j known0 known entered0 entered f g n = ⊎_elim (λ h. inl (f j h)) (λ x. inr (x.0, x.1, g x.0 x.2)) n
@@ -174,12 +163,6 @@ module _ (T : Run) (k : ℕ) (w : WellFormed T) where
 
 -- the list of marked places
 
-pub pairs_none : AllPairs (λ (a b : ℕ). a < b) []
-pairs_none i j d less below = absurd (omega arith)
-
-pub members_none : (marks : List Bool) (j : ℕ) → Contains [] j ↔ ((j < 0) × IsMarked marks j)
-members_none marks j = (λ h. absurd (Contains-none j h), λ h. absurd (omega (arith, h.0)))
-
 pub ascending_of : (xs : List ℕ) → AllPairs (λ a b. a < b) xs → IsStrictlySortedBy nat_cmp xs
 ascending_of xs all = sorted_from_strictly_increasing xs (λ k l. all k (k + 1) 0 (omega arith) l)
 
@@ -246,9 +229,6 @@ entered_of T k entered who made is told = (
   λ x. ⊎_elim (λ a. inl (x.0, is ∙ a, x.2)) (λ n. inr (x.0, (told x.0).0 n, x.2)) x.1,
   λ c. ⊎_elim (λ m. (m.0, inl (sym is ∙ m.1), m.2)) (λ m. (m.0, inr ((told m.0).1 m.1), m.2)) c,
 )
-
-pub entered_first : (T : Run) (k : ℕ) (entered : List Bool) (who : Option ℕ) (first : Bool) → who ≡ option_and_then actor (step_at T k) → first ≡ true → IsTrue first ↔ IsMarkedOption entered who → IsEnteredAt T k entered
-entered_first T k entered who first is e f = let m = f.0 e in (m.0, inl (sym is ∙ m.1), m.2)
 
 pub entered_second : (T : Run) (k : ℕ) (entered : List Bool) (who made : Option ℕ) (first second : Bool) → who ≡ option_and_then actor (step_at T k) → ((u : ℕ) → ((by : ℕ) × IsNew T k by u) ↔ (made ≡ Some u)) → first ≡ false → IsTrue first ↔ IsMarkedOption entered who → IsTrue second ↔ IsMarkedOption entered made
     → IsTrue second ↔ IsEnteredAt T k entered

@@ -48,13 +48,6 @@ pub nearest_told : (T : Run) (far : Point → Option ℕ) (k : ℕ) (c : Carryin
     → (result ≡ first) ⊎ (result ≡ second) → IsNotBehindAny result first → IsNotBehindAny result second → TellsNearest T far k result
 nearest_told T far k c first second result told a b either up1 up2 = nearer_cases far (λ q. c.touched ≡ Some q) (CarriedFrom T c.rest) (Carried T k) told.points first second result a b either up1 up2
 
--- a single point
-pub one_none : (far : Point → Option ℕ) → IsNearestOf (λ q. None ≡ Some q) far None
-one_none far q e = absurd (cc)
-
-pub one_unreached : (far : Point → Option ℕ) (p : Point) → far p ≡ None → IsNearestOf (λ q. Some p ≡ Some q) far None
-one_unreached far p e q s = ap far (sym (same_some s)) ∙ e
-
 pub one_reached : (far : Point → Option ℕ) (p : Point) (n : ℕ) → far p ≡ Some n → IsNearestOf (λ q. Some p ≡ Some q) far (Some (p, n))
 one_reached far p n e = record {
   begins = refl;

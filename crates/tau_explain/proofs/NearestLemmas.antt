@@ -9,7 +9,6 @@ use Rattle.std.proofs.lemmas.Map.Keys.{Less-from_sorted}
 use Rattle.tau_points.specs.declared.point.Point.{Point}
 use Rattle.tau_points.specs.Order.{point_cmp, IsAscending}
 use Rattle.tau_points.proofs.PointOrder.{point_cmp-total}
-use Rattle.tau_points.proofs.Membership.{Contains-none}
 use Rattle.tau_explain.specs.Chains.Chains.{IsNotAfter}
 use Rattle.tau_explain.specs.Chains.Inner.Distances.{IsNearestOf, IsLeastAt, nearer_of}
 
@@ -96,16 +95,10 @@ before xs i d q s lt c =
     let at : get_or xs c.0 d ≡ q = get_or_default xs c.0 d q (omega (arith, low, lt)) ∙ sym (get_or-take i xs c.0 q low) ∙ c.2 in
     subst (λ z. point_cmp z (get_or xs i d) ≡ Less) at (Less-from_sorted point_cmp xs c.0 i d s low lt)
 
-pub nearest_none : (far : Point → Option ℕ) (xs : List Point) → IsNearestOf (Contains (take 0 xs)) far None
-nearest_none far xs = λ q c. absurd (Contains-none q c)
-
 pub nearest_more : (far : Point → Option ℕ) (xs : List Point) (i : ℕ) (d : Point) (n m : Option (Point × ℕ)) (o : Option ℕ) → IsAscending xs → i < length xs → far (get_or xs i d) ≡ o → m ≡ nearer_of n (get_or xs i d) o → IsNearestOf (Contains (take i xs)) far n → IsNearestOf (Contains (take (i + 1) xs)) far m
 nearest_more far xs i d n m o s lt e f h =
     subst (λ (l : List Point). IsNearestOf (Contains l) far m) (sym (take_more xs i d lt))
     (subst (IsNearestOf (Contains (take i xs ++ get_or xs i d ∷ [])) far) (sym f) (nearer_cases far (take i xs) (get_or xs i d) (λ q c. before xs i d q s lt c) n o e h))
-
-pub least_none : (far : Point → Option ℕ) (n : ℕ) (xs : List Point) → IsLeastAt (Contains (take 0 xs)) far n None
-least_none far n xs = λ q c f. absurd (Contains-none q c)
 
 pub least_more : (far : Point → Option ℕ) (n : ℕ) (xs : List Point) (i : ℕ) (d r : Point) (o : Option Point) → i < length xs → far (get_or xs i d) ≡ Some n → (r ≡ get_or xs i d) ⊎ (o ≡ Some r) → IfSome o (IsNotAfter r) → IsNotAfter r (get_or xs i d) → IsLeastAt (Contains (take i xs)) far n o → IsLeastAt (Contains (take (i + 1) xs)) far n (Some r)
 least_more far n xs i d r o lt e either least point h =

@@ -33,21 +33,7 @@ notes_fresh n p far0 far queue0 queue absent puts is =
     fresh (none_of (far0 p) absent) (puts p ∙ cond_true (point_eq p p) (Some n) (far0 p) ((point_eq-Decides p p).1 refl))
     (λ q ne. puts q ∙ cond_false (point_eq p q) (Some n) (far0 q) (other p q ne)) is
 
-pub notes_known : (n : ℕ) (p : Point) (far : Point → Option ℕ) (queue : List Point) → is_some (far p) ≡ true → NotesOne n p far far queue queue
-notes_known n p far queue here = known (some_of (far p) here) (λ q. refl) refl
-
 -- points, one after the other
-
-pub notes_start : (n : ℕ) (points : List Point) (far : Point → Option ℕ) (queue : List Point) → Notes n points points far far queue queue
-notes_start n points far queue = record {
-  noted = λ p c. inr c;
-  of_points = λ p c. c;
-  kept = λ p m e. e;
-  fresh = λ p m e. inl e;
-  longer = omega arith;
-  front = λ i d lt. refl;
-  back = λ i d low high. absurd (omega arith);
-}
 
 module _ (n : ℕ) (points left left1 : List Point) (p : Point) (far0 far1 far2 : Point → Option ℕ) (queue0 queue1 queue2 : List Point) (popped : left ≡ left1 ++ p ∷ []) (s : Notes n points left far0 far1 queue0 queue1) where
   here : Contains points p

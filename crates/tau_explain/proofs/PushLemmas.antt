@@ -138,9 +138,6 @@ none_above T marks q (Some j) e told p a = cc
 at_interval : (T : Run) (p q : Point) (i : ℕ) → p.who ≡ q.who → p.interval ≡ i → slice_get (numbers (history T p.who (len T))) p.interval ≡ slice_get (numbers (history T q.who (len T))) i
 at_interval T p q i who is = ap (λ u. slice_get (numbers (history T u (len T))) p.interval) who ∙ ap (slice_get (numbers (history T q.who (len T)))) is
 
-pub none_reached : (T : Run) (marks : List Bool) (q : Point) → None ≡ slice_get (numbers (history T q.who (len T))) (q.interval + 1) → (p : Point) → ¬ IsAbove T marks q p
-none_reached T marks q e p a = let f = e ∙ sym (at_interval T p q (q.interval + 1) a.who_is (omega (arith, a.interval_is))) ∙ a.came.has in cc
-
 pub above_up_to : (T : Run) (marks : List Bool) (q : Point) (j number : ℕ) (into0 into : List Point) → IsMarked marks j → ChecksAt T j q → Some number ≡ slice_get (numbers (history T q.who (len T))) (q.interval + 1) → AddsAll (IsUpToNumber q.who (q.interval + 1) number) into0 into
     → AddsAll (IsAbove T marks q) into0 into
 above_up_to T marks q j number into0 into marked checks e adds p = (
@@ -212,10 +209,6 @@ up_to_below who interval n into0 into adds p = (
 abbrev pub TellsBelow : Run → List Bool → ℕ → Point → Option ℕ → Type 0
 TellsBelow T marks n q None = (j : ℕ) → j < n → IsMarked marks j → ¬ ChecksAt T j q
 TellsBelow T marks n q (Some j) = IsMarked marks j × ChecksAt T j q
-
-pub tells_none : (T : Run) (marks : List Bool) (q : Point) (o : Option ℕ) → o ≡ None → TellsBelow T marks 0 q o
-tells_none T marks q None e = λ j lt m c. omega (arith, lt)
-tells_none T marks q (Some i) e = absurd (cc)
 
 -- nothing is put at place n
 pub tells_pass : (T : Run) (marks : List Bool) (n : ℕ) (q : Point) (o : Option ℕ) → (IsMarked marks n → ¬ ChecksAt T n q) → TellsBelow T marks n q o → TellsBelow T marks (n + 1) q o

@@ -27,9 +27,6 @@ pub record ArePrintable (forms : List Tree) : Type 0 where
   pub depth : depths forms ≤ 1
   pub words : All HasWords forms
 
-pub none_printable : ArePrintable []
-none_printable = record { depth = omega arith; words = All-nil HasWords }
-
 pub more_printable : (o : Opening) (c : Chained) (fs : List Tree) → AreNames o.names → Fits c → ArePrintable fs → ArePrintable (fs ++ point_form o c ∷ [])
 more_printable o c fs names fits p = record {
   depth = omega (arith, depths-append fs (point_form o c ∷ []), p.depth, point_depth o c);

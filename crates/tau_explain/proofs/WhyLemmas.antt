@@ -1,5 +1,5 @@
 -- Why a Hold, a Drop or a Fall was made.
-use Rattle.std.proofs.Common.{◌≡◌, ◌≢◌, ◌⊎◌, ◌↔◌, inl, inr, ⊎_elim, ℕ, Bool, List, [], ◌∷◌, Option, Some, None, refl, sym, ap, ◌∙◌, subst, option_and_then}
+use Rattle.std.proofs.Common.{◌≡◌, ◌⊎◌, ◌↔◌, inl, inr, ⊎_elim, ℕ, Bool, List, [], ◌∷◌, Option, Some, None, refl, sym, ap, ◌∙◌, subst, option_and_then}
 use Rattle.std.specs.Prelude.{Contains}
 use Rattle.tau_points.specs.declared.point.Point.{Point}
 use Rattle.tau_points.specs.Members.{SameMembers}
@@ -20,9 +20,8 @@ use Rattle.tau_past.proofs.Safety.{nothing_at_opening}
 use Rattle.tau_explain.specs.Links.Marks.{IsMarked}
 use Rattle.tau_explain.specs.Links.Inner.Dependents.{CameTo}
 use Rattle.tau_explain.specs.Links.Inner.Linking.{IsFirstChain}
-use Rattle.tau_explain.specs.declared.answers.Why.{Why}
 use Rattle.tau_explain.specs.declared.answers.Why.TheVariants as answers
-use Rattle.tau_explain.specs.Decisions.{IsAsked, IsGrounded, IsWhy}
+use Rattle.tau_explain.specs.Decisions.{IsAsked, IsWhy}
 use Rattle.tau_explain.specs.Inner.Asking.{answer_of}
 use Rattle.tau_explain.specs.Inner.Causes.{IsMadePoint, IsCandidate, IsUnfirm, IsSettled}
 use Rattle.tau_explain.proofs.ChainLemmas.{StoodIn, stood_came, stood_touched, first_told, none_told, no_cause, past_cases}
@@ -158,12 +157,6 @@ module _ (T : Run) (t k m : ℕ) (marks : List Bool) (same : (j : ℕ) → IsMar
       none_told T together marks (λ j. (same j).0) (λ j lt. (same j).1) closed_together (SentWith T m) (FellIn T together) from causes from_is came_sent fell (λ q c s. falls q c) (not_fallen_opening T together) none,
       λ h. no_cause T together marks (λ j. (same j).0) (λ j lt. (same j).1) closed_together (SentWith T m) (FellIn T together) from causes from_is came_sent fell (λ q c s. falls q c) (not_fallen_opening T together) none h.cause h.in_past h.fallen,
     )
-
--- in a trace each of whose decisions has its ground there is always a chain
-pub grounded_answers : (T : Run) (k : ℕ) (w : Why) → IsWhy T k w → IsGrounded T → w ≢ answers.NoChain
-grounded_answers T k (answers.Chain chain) h g e = cc
-grounded_answers T k answers.NoChain h g e = g k h.0 h.1 h.3
-grounded_answers T k answers.NotAsked h g e = cc
 
 -- as the code finds it
 

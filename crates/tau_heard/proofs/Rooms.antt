@@ -1,11 +1,10 @@
 -- Whichever room what is kept has, it says the same.
-use Rattle.std.proofs.Common.{◌≡◌, ◌≢◌, ⊎_elim, ℕ, zero, suc, ◌-◌, ◌<◌, Bool, List, [], ◌∷◌, length, get_or, Option, Some, None, refl, sym, ap, ◌∙◌, subst, arith, length-set}
-use Rattle.std.specs.Prelude.{slice_get, slice_set, vec_len}
+use Rattle.std.proofs.Common.{◌≡◌, ℕ, zero, suc, ◌-◌, ◌<◌, Bool, List, [], ◌∷◌, length, get_or, Option, Some, None, refl, sym, ap, ◌∙◌, subst, arith}
+use Rattle.std.specs.Prelude.{slice_get, vec_len}
 use Rattle.std.specs.Vec.{vec_capacity}
 use Rattle.std.specs.declared.alloc.Global.{Global}
 use Rattle.std.specs.declared.vec.Vec.{Vec}
 use Rattle.std.specs.Option.{option_map_or}
-use Rattle.std.proofs.lemmas.Bool.{cases_eq}
 use Rattle.std.proofs.lemmas.Option.{slice_get_within}
 use Rattle.tau_points.specs.declared.point.Point.{Point}
 use Rattle.tau_trace.specs.declared.step.Step.{Step}
@@ -15,7 +14,7 @@ use Rattle.tau_trace.specs.Known.{MayFollow, WellFormed}
 use Rattle.tau_knowledge.specs.Knowing.{IsReady}
 use Rattle.tau_past.specs.Carried.{is_set}
 use Rattle.tau_past.specs.Heard.{heard_by, Heard, HeardBy}
-use Rattle.tau_trace.proofs.Lists.{same_some, slice_get-set_same, slice_get-set_other}
+use Rattle.tau_trace.proofs.Lists.{same_some}
 use Rattle.tau_versions.specs.declared.logs.version.Version.{Version}
 use Rattle.tau_versions.specs.Logs.Versions.{IsLatest}
 use Rattle.tau_versions.specs.Logs.Told.{Told}
@@ -126,43 +125,6 @@ same_log l = (refl, refl, refl)
 same_own : (x : Own) → IsSameOwn x x
 same_own x = record { numbers = refl; roots = refl; touched = refl; depended = refl }
 
-pub logs_but_one : (L G : List Told) (k : ℕ) (y : Told) → G ≡ slice_set L k y → ((x : Told) → slice_get L k ≡ Some x → IsSameLog x y) → AreSameLogs L G
-logs_but_one L G k y is same = record { count = ap length is ∙ length-set L k y; each = each } where
-  each : (u : ℕ) (log : Told) → slice_get L u ≡ Some log → (next : Told) × (slice_get G u ≡ Some next) × IsSameLog log next
-  each u log e = ⊎_elim
-      (λ (s : u ≡ k).
-      let here : slice_get L k ≡ Some log = ap (slice_get L) (sym s) ∙ e in
-      (y, ap (λ xs. slice_get xs u) is ∙ ap (slice_get (slice_set L k y)) s ∙ slice_get-set_same L k y (slice_get_within L k log here), same log here))
-      (λ ne. (log, ap (λ xs. slice_get xs u) is ∙ slice_get-set_other L k u y ne ∙ e, same_log log))
-      (cases_eq u k)
-
-pub own_but_one : (L G : List Own) (k : ℕ) (y : Own) → G ≡ slice_set L k y → ((x : Own) → slice_get L k ≡ Some x → IsSameOwn x y) → AreSameOwn L G
-own_but_one L G k y is same = record { count = ap length is ∙ length-set L k y; each = each } where
-  each : (t : ℕ) (x : Own) → slice_get L t ≡ Some x → (next : Own) × (slice_get G t ≡ Some next) × IsSameOwn x next
-  each t x e = ⊎_elim
-      (λ (s : t ≡ k).
-      let here : slice_get L k ≡ Some x = ap (slice_get L) (sym s) ∙ e in
-      (y, ap (λ xs. slice_get xs t) is ∙ ap (slice_get (slice_set L k y)) s ∙ slice_get-set_same L k y (slice_get_within L k x here), same x here))
-      (λ ne. (x, ap (λ xs. slice_get xs t) is ∙ slice_get-set_other L k t y ne ∙ e, same_own x))
-      (cases_eq t k)
-
--- where all others are the same
-pub same_logs : (L G : List Told) (k : ℕ) → length G ≡ length L → ((u : ℕ) → u ≢ k → slice_get G u ≡ slice_get L u) → ((x : Told) → slice_get L k ≡ Some x → (y : Told) × (slice_get G k ≡ Some y) × IsSameLog x y) → AreSameLogs L G
-same_logs L G k count others at_k = record { count = count; each = each } where
-  each : (u : ℕ) (log : Told) → slice_get L u ≡ Some log → (next : Told) × (slice_get G u ≡ Some next) × IsSameLog log next
-  each u log e = ⊎_elim
-      (λ (s : u ≡ k). let y = at_k log (ap (slice_get L) (sym s) ∙ e) in (y.0, ap (slice_get G) s ∙ y.1, y.2))
-      (λ ne. (log, others u ne ∙ e, same_log log))
-      (cases_eq u k)
-
-pub same_owns : (L G : List Own) (k : ℕ) → length G ≡ length L → ((u : ℕ) → u ≢ k → slice_get G u ≡ slice_get L u) → ((x : Own) → slice_get L k ≡ Some x → (y : Own) × (slice_get G k ≡ Some y) × IsSameOwn x y) → AreSameOwn L G
-same_owns L G k count others at_k = record { count = count; each = each } where
-  each : (t : ℕ) (x : Own) → slice_get L t ≡ Some x → (next : Own) × (slice_get G t ≡ Some next) × IsSameOwn x next
-  each t x e = ⊎_elim
-      (λ (s : t ≡ k). let y = at_k x (ap (slice_get L) (sym s) ∙ e) in (y.0, ap (slice_get G) s ∙ y.1, y.2))
-      (λ ne. (x, others t ne ∙ e, same_own x))
-      (cases_eq t k)
-
 pub own_is_same : (L : List Own) → AreSameOwn L L
 own_is_same L = record { count = refl; each = λ t x e. (x, e, same_own x) }
 
@@ -200,16 +162,6 @@ room_next g s who sets message lists there by set heard room = record {
       let l = element g.logs.items who there in
       let F : Option ℕ → Type 0 = λ o. HasRoomToHear o g.letters.items x.numbers in
       subst F (heard ∙ h) (room l.0 x l.1 (ap (slice_get g.own.items) (sym same) ∙ f)).1;
-}
-
--- a step of nobody needs no more
-pub nobody_next : (g : Hearing) (s : Step) → HasListRoom g → actor s ≡ None → HasRoomNext g s
-nobody_next g s lists none = record {
-  logs = lists.0;
-  own = lists.1;
-  letters = lists.2;
-  log = λ t log x a e f. let both : None ≡ Some t = sym none ∙ a in absurd (cc);
-  hears = λ t m x a h f. let both : None ≡ Some t = sym none ∙ a in absurd (cc);
 }
 
 -- where the step hears of nothing, the numbers of the transactors need no room

@@ -12,7 +12,6 @@ use Rattle.tau_journal.proofs.Moments.{weaker, joined}
 use Rattle.tau_journal.specs.Records.{HasRecords, AreRecords, IsAtRest}
 use Rattle.tau_journal.specs.Found.{IsBlank, IsCreateFault}
 use Rattle.tau_journal.specs.Room.{most_bytes, IsFaultOrFailure}
-use Rattle.tau_journal.specs.declared.errors.JournalError.{JournalError}
 use Rattle.tau_book.specs.Books.{Booked, IsBook}
 use Rattle.tau_book.specs.Onward.{GoesOnFrom}
 use Rattle.tau_book.specs.Hands.{Held}

@@ -26,7 +26,7 @@ use Rattle.tau_journaling.specs.Found.Faults.{IsResumeFault, IsResumeNumber}
 use Rattle.tau_journaling.specs.Found.Reviving.{StandsForRevival, IsReviveFault}
 use Rattle.tau_journaling.specs.Going.{StandsBetween}
 use Rattle.tau_journaling.specs.Kept.{IsKeptOn, StandsForLonger}
-use Rattle.tau_journaling.specs.Resumed.{IsResumed, StandsForResumed, StandsForFrontOf, IsGoneOnFault, IsUnfinished, IsUnrevived, IsResumeRunFault, in_finding, in_going}
+use Rattle.tau_journaling.specs.Resumed.{IsResumed, StandsForResumed, StandsForFrontOf, IsGoneOnFault, IsUnrevived, IsResumeRunFault, in_finding, in_going}
 use Rattle.tau_journaling.proofs.Onward.{begins_itself}
 use Rattle.tau_journaling.proofs.KeptRuns.{stands_there, kept_at}
 use Rattle.tau_journaling.proofs.Faulted.{of_same}

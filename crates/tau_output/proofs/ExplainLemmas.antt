@@ -1,5 +1,5 @@
 -- What `why` writes for a place of a run.
-use Rattle.std.proofs.Common.{◌≡◌, ℕ, true, false, Result, Ok, Err, IfErr, sym, subst}
+use Rattle.std.proofs.Common.{◌≡◌, ℕ, false, Result, Ok, Err, IfErr, sym, subst}
 use Rattle.std.specs.Result.{IsErrAnd}
 use Rattle.tau_trace.specs.Run.{Run}
 use Rattle.tau_explain.specs.Decisions.{IsDecision, IsWhy}
@@ -20,12 +20,6 @@ pub is_asked : (T : Run) (k : ℕ) (answer : Why) → IsWhy T k answer → is_no
 is_asked T k (answers.Chain chain) h e = (h.0, h.1)
 is_asked T k answers.NoChain h e = (h.0, h.1)
 is_asked T k answers.NotAsked h e = absurd (cc)
-
--- and none where it says that none does
-pub is_unasked : (T : Run) (k : ℕ) (answer : Why) → IsWhy T k answer → is_not_asked answer ≡ true → ¬ IsDecision T k
-is_unasked T k (answers.Chain chain) h e = absurd (cc)
-is_unasked T k answers.NoChain h e = absurd (cc)
-is_unasked T k answers.NotAsked h e = h
 
 -- what the refusal for an error tells
 tells_fault : (F : ℕ → ℕ → Type 0) (e : InputError) → TellsInputFault F e → TellsFault F (of_input_error e)

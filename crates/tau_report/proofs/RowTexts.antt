@@ -43,9 +43,9 @@ puts_more o rs t r old now new e text bytes written before = record {
 }
 
 -- the rows of all transactors are the text of the saved states
-pub puts_saved : (P : Program) (T : Run) (o : Opening) (rs records : List StateRecord) (c : Counts) (old new : List ℕ) → Sound P → WellFormed T → IsSurvey T (opening_states P.starts) rs c → o ≡ T.opening → records ≡ rs → PutsRows o records (length records) old new → PutsSaved P T old new
-puts_saved P T o rs records c old new sound w x opening_is records_are rows =
-    let h : Holds T (opening_states P.starts) records = subst (Holds T (opening_states P.starts)) (sym records_are) x.holds in
+pub puts_saved : (P : Program) (T : Run) (o : Opening) (rs records : List StateRecord) (old new : List ℕ) → Sound P → WellFormed T → Holds T (opening_states P.starts) rs → o ≡ T.opening → records ≡ rs → PutsRows o records (length records) old new → PutsSaved P T old new
+puts_saved P T o rs records old new sound w holds opening_is records_are rows =
+    let h : Holds T (opening_states P.starts) records = subst (Holds T (opening_states P.starts)) (sym records_are) holds in
     let Q : ℕ → Type 0 = λ n. SavedForms P T n rows.forms in
     record { saved = rows.forms; saved_are = subst Q h.count (rows.rows P T w (sym opening_is) (opening_bounded P sound) h).0; text = rows.text }
 

@@ -134,5 +134,5 @@ counts_told T opening rs c tree w x is =
     let fits = counts_fit T c x.counts_are w.few_steps in
     (is ∙ ap counts_tree x.counts_are, subst HasWords (sym is) (counts_words c fits.0 fits.1 fits.2 fits.3 fits.4))
 
-pub few_records : (P : Program) (T : Run) (rs records : List StateRecord) (c : Counts) → WellFormed T → IsSurvey T (opening_states P.starts) rs c → records ≡ rs → length records < 2 ^ 32
-few_records P T rs records c w x e = omega (arith, ap length e, x.holds.count, born-le T (len T), w.opening.few_names, w.few_steps)
+pub few_records : (T : Run) (opening : List Value) (rs records : List StateRecord) → WellFormed T → Holds T opening rs → records ≡ rs → length records < 2 ^ 32
+few_records T opening rs records w h e = omega (arith, ap length e, h.count, born-le T (len T), w.opening.few_names, w.few_steps)

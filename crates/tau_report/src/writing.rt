@@ -1,9 +1,13 @@
 //! Reports.
-ghost use Rattle.std.specs.Prelude.{◌≡◌, IfOk, OnOk};
+ghost use Rattle.std.specs.Prelude.{◌≡◌, List, IfOk, OnOk};
 ghost use Rattle.tau_sexpr.specs.Form.{tree_of};
 ghost use Rattle.tau_sexpr.specs.Tree.{HasWords};
+ghost use Rattle.tau_value.specs.declared.shared.Value.{Value};
+ghost use Rattle.tau_tree.specs.declared.programs.Program.{Program};
 ghost use Rattle.tau_tree.specs.Sound.{Sound};
 ghost use Rattle.tau_script.specs.Openings.{program_opening};
+ghost use Rattle.tau_states.specs.Opening.{opening_states};
+ghost use Rattle.tau_states.specs.Table.{Holds};
 ghost use Rattle.tau_report.specs.Report.{counts_form as form_of_run, IsReportText, PutsReport, PutsSaved};
 ghost use Rattle.tau_report.specs.Inner.Rows.{counts_tree};
 
@@ -13,6 +17,7 @@ use crate::saved::put_rows;
 use crate::survey::survey_of;
 use std::alloc::{AllocError, Global};
 use tau_sexpr::{Form, put_form_line};
+use tau_states::States;
 use tau_trace::Trace;
 use tau_tree::Program;
 
@@ -48,20 +53,16 @@ pub fn put_report(
     put_form_line(out, &counts)
 }
 
-/// Adds the lines of the saved states alone to the end of `out` (docs/formats.md, "Report"), by transactor. It passes over the
-/// trace once. The error is want of memory, and a part of the lines may then be added.
-pub fn put_saved(
-    alloc: Global,
-    out: &mut Vec<u8>,
-    program: &Program,
-    trace: &Trace,
-) -> Result<(), AllocError>
-    requires opening { trace.now.run.opening ≡ program_opening program.now }
-    requires sound { Sound program.now }
-    ensures { OnOk result (PutsSaved program.now trace.now.run out.old.items out.new.items) }
+/// Adds the lines of the saved states alone to the end of `out` (docs/formats.md, "Report"), by transactor, from the states after a
+/// trace. The error is want of memory, and a part of the lines may then be added.
+pub fn put_saved(out: &mut Vec<u8>, trace: &Trace, states: &States) -> Result<(), AllocError>
+    requires { (opening : List Value) × Holds trace.now.run opening states.now.records }
+    ensures { OnOk result ((P : Program) → Sound P → Holds trace.now.run (opening_states P.starts) states.now.records
+        → PutsSaved P trace.now.run out.old.items out.new.items) }
 {
-    let survey = survey_of(alloc, &program.starts, trace)?;
-    put_rows(out, trace.opening(), survey.states.records())
+    // Its contract says that the run is well formed.
+    let _length = trace.len();
+    put_rows(out, trace.opening(), states.records())
 }
 
 /// The form of the counts of a trace, the last one of its report (docs/formats.md, "Report"). The error is want of memory.

@@ -25,9 +25,6 @@ use Rattle.tau_run_journal.specs.Inner.Items.{IsFaulty, IsLongest}
 pub first_range : (fs : List Tree) (n : ℕ) → slice_range fs 0 n ≡ take n fs
 first_range fs n = let all : n - 0 ≡ n = omega arith in ap (λ k. take k fs) all
 
-pub whole_range : (fs : List Tree) (n : ℕ) → n ≡ length fs → slice_range fs 0 n ≡ fs
-whole_range fs n is = first_range fs n ∙ take_all n fs (omega (arith, is))
-
 -- all forms are steps
 pub longest_whole : (o : Opening) (fs : List Tree) (T : Run) → MeansSteps o fs T → IsLongest o fs T
 longest_whole o fs T m = record {

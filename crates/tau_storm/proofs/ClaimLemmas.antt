@@ -54,12 +54,6 @@ pub record SavedBelow (T : Run) (opening : List Value) (n : ℕ) (values : List 
   pub count : length values ≡ n
   pub each : (t : ℕ) (v : Val) → slice_get values t ≡ Some v → (saved : Value) × IsSavedAfter T opening t (Some saved) × (val_of saved ≡ v)
 
-pub saved_none : (T : Run) (opening : List Value) (values : List Val) → values ≡ [] → SavedBelow T opening 0 values
-saved_none T opening values e = record {
-  count = ap (λ (l : List Val). length l) e;
-  each = λ t v at. absurd (omega (arith, slice_get_within values t v at, ap (λ (l : List Val). length l) e));
-}
-
 pub saved_more : (T : Run) (opening : List Value) (n : ℕ) (before after : List Val) (saved : Value) → after ≡ before ++ val_of saved ∷ [] → IsSavedAfter T opening n (Some saved) → SavedBelow T opening n before → SavedBelow T opening (n + 1) after
 saved_more T opening n before after saved e is b = record {
   count = omega (arith, ap (λ (l : List Val). length l) e, length-append before (val_of saved ∷ []), b.count);
@@ -112,12 +106,6 @@ saved_values_once P T vs ws a b = same_values vs ws (a.count ∙ sym b.count) (�
 pub record KeptBelow (kept : List (Option Kept)) (n : ℕ) (values : List Val) : Type 0 where
   pub count : length values ≡ n
   pub each : (t : ℕ) (v : Val) → slice_get values t ≡ Some v → (k : Kept) × (slice_get kept t ≡ Some (Some k)) × (val_of k.value ≡ v)
-
-pub kept_none : (kept : List (Option Kept)) (values : List Val) → values ≡ [] → KeptBelow kept 0 values
-kept_none kept values e = record {
-  count = ap (λ (l : List Val). length l) e;
-  each = λ t v at. absurd (omega (arith, slice_get_within values t v at, ap (λ (l : List Val). length l) e));
-}
 
 pub kept_more : (kept : List (Option Kept)) (n : ℕ) (before after : List Val) (k : Kept) → after ≡ before ++ val_of k.value ∷ [] → slice_get kept n ≡ Some (Some k) → KeptBelow kept n before → KeptBelow kept (n + 1) after
 kept_more kept n before after k e is b = record {

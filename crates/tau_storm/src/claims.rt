@@ -12,7 +12,7 @@ ghost use Rattle.tau_storm.specs.Claims.{AreSavedValues, AreKeptValues, IsClaimM
 ghost use Rattle.tau_storm.specs.Inner.Claiming.{IsDoneFor};
 
 use std::alloc::{AllocError, Global};
-use tau_cut::kept_states;
+use tau_cut::end_states;
 use tau_eval::{Effect, begin};
 use tau_states::States;
 use tau_trace::Trace;
@@ -127,10 +127,10 @@ fn kept_values(alloc: Global, program: &Program, trace: &Trace) -> Result<Values
     requires { trace.now.run.opening ≡ program_opening program.now }
     ensures { IfOk result (AreKeptValues program.now trace.now.run) }
 {
-    let kept = kept_states(alloc, program, trace)?;
+    let end = end_states(alloc, program, trace)?;
     let mut values = Values::new(alloc);
     for who in 0..program.starts.items().len() {
-        match kept.states().get(who) {
+        match end.kept.states().get(who) {
             Some(Some(state)) => add(&mut values, state.value.copy()?)?,
             Some(None) => unreachable!(),
             None => unreachable!(),

@@ -7,7 +7,7 @@ ghost use Rattle.tau_storm.specs.Outcomes.{open_form, EndsWithLines};
 
 use crate::outcomes::Lines;
 use std::alloc::{AllocError, Global};
-use tau_cut::{kept_states, put_states};
+use tau_cut::{end_states, put_states};
 use tau_faults::Ran;
 use tau_report::put_saved;
 use tau_tree::Program;
@@ -20,9 +20,9 @@ pub fn lines_of(alloc: Global, program: &Program, ran: &Ran) -> Result<Lines, Al
 {
     let mut bytes = Vec::new(alloc);
     put_open(&mut bytes, ran.is_complete)?;
-    put_saved(alloc, &mut bytes, program, &ran.trace)?;
-    let states = kept_states(alloc, program, &ran.trace)?;
-    put_states(&mut bytes, &ran.trace, &states)?;
+    let end = end_states(alloc, program, &ran.trace)?;
+    put_saved(&mut bytes, &ran.trace, &end.states)?;
+    put_states(&mut bytes, &ran.trace, &end.kept)?;
     Ok(Lines::from_vec(bytes))
 }
 

@@ -69,11 +69,6 @@ pub from_steps : {A : Type 0} (r : Result A InputError) (o : Opening) (ts : List
 from_steps (Ok a) o ts e h f = tt
 from_steps (Err x) o ts e h f = subst (TellsInputFault (StepsFault o ts)) (sym h) (tells_steps o ts e f)
 
--- want of memory tells nothing
-pub from_no_memory : {A : Type 0} (F : ℕ → ℕ → Type 0) (r : Result A InputError) → IsErrAnd r (λ x. x ≡ NoMemory) → IfErr r (TellsInputFault F)
-from_no_memory F (Ok a) h = tt
-from_no_memory F (Err x) h = subst (TellsInputFault F) (sym h) tt
-
 -- the fault of forms is one of the bytes that spell them
 pub from_forms : {A : Type 0} (F : List Tree → ℕ → ℕ → Type 0) (r : Result A InputError) (bytes : List ℕ) (ts : List Tree) → IsSpelling bytes ts → IfErr r (TellsInputFault (F ts)) → IfErr r (TellsInputFault (HasFault F bytes))
 from_forms F r bytes ts s t = same_more (F ts) (HasFault F bytes) r (λ a b h. of_forms ts s h) t

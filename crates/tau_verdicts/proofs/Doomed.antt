@@ -29,9 +29,6 @@ use Rattle.tau_verdicts.proofs.Cleanness.{link_on, closing_is_closed, behind_clo
 
 -- Points of one transactor.
 
-pub up_refl : (p : Point) → IsUpTo p p
-up_refl p = inr (refl, omega arith)
-
 up_then : (a b c : Point) → IsUpTo a b → IsUpTo b c → IsUpTo a c
 up_then a b c (inl x) (inl y) = inl (omega (arith, x, y))
 up_then a b c (inl x) (inr y) = inl (omega (arith, x, y.0))

@@ -1,11 +1,10 @@
 -- What is kept of transactors, read from lists.
-use Rattle.std.proofs.Common.{◌≡◌, ◌≢◌, ◌⊎◌, inl, inr, ⊎_elim, ℕ, zero, suc, ◌+◌, ◌<◌, Bool, true, false, IsTrue, List, [], ◌∷◌, ◌++◌, length, take, get_or, replicate, Option, Some, None, refl, sym, ap, ◌∙◌, subst}
+use Rattle.std.proofs.Common.{◌≡◌, ◌≢◌, ◌⊎◌, inl, inr, ⊎_elim, ℕ, zero, suc, ◌+◌, ◌<◌, Bool, true, false, List, [], ◌∷◌, ◌++◌, length, take, get_or, replicate, Option, Some, None, refl, sym, ap, ◌∙◌, subst}
 use Rattle.std.specs.Prelude.{slice_get, Contains}
 use Rattle.std.proofs.lemmas.Bool.{cases_eq}
 use Rattle.std.proofs.lemmas.List.{take_more}
 use Rattle.std.proofs.lemmas.List.Elements.{Contains-push_cases}
 use Rattle.std.specs.Bool.{OnTrue}
-use Rattle.std.specs.Option.{option_map_or}
 use Rattle.std.specs.declared.alloc.Global.{Global}
 use Rattle.std.specs.declared.vec.Vec.{Vec}
 use Rattle.tau_points.specs.declared.point.Point.{Point}
@@ -22,19 +21,6 @@ on_true false P Q f h = tt
 pub when_true : (b : Bool) (P : Type 0) → b ≡ true → OnTrue b P → P
 when_true true P e h = h
 when_true false P e h = absurd (cc)
-
-pub true_when : (b : Bool) (P : Type 0) → (b ≡ true → P) → OnTrue b P
-true_when true P f = f refl
-true_when false P f = tt
-
--- who is doomed stands in the list
-pub doomed_at : (xs : List Bool) (u : ℕ) → slice_get xs u ≡ Some true → IsTrue (flag_of xs u)
-doomed_at xs u e = ap (λ (o : Option Bool). option_map_or (λ b. b) o false) e
-
-pub doomed_stands : (xs : List Bool) (u : ℕ) → IsTrue (flag_of xs u) → slice_get xs u ≡ Some true
-doomed_stands xs u d = by (slice_get xs u) refl where
-  F : Option Bool → Bool
-  F = λ o. option_map_or (λ b. b) o false
 
   by : (o : Option Bool) → slice_get xs u ≡ o → slice_get xs u ≡ Some true
   by None e = absurd (let clash : false ≡ true = sym (ap F e) ∙ d in cc)

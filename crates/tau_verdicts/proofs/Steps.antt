@@ -322,14 +322,3 @@ faller_exists T s t follows is = by s is follows.known where
   by (Trap u c) e k = let F : ℕ → Type 0 = λ w. w < born T (len T) in subst F (sym (same_some e)) k.0
   by (Fail u) e k = let F : ℕ → Type 0 = λ w. w < born T (len T) in subst F (sym (same_some e)) k
   by x e k = absurd (cc)
-
--- a Set or a New, which isn't a New
-pub taker_acts : (s : Step) (t : ℕ) → Some t ≡ taker s → actor s ≡ Some t
-taker_acts (Set u v) t e = sym e
-taker_acts (New u b n v) t e = sym e
-taker_acts s t e = absurd (cc)
-
-pub taker_sets : (s : Step) (t : ℕ) → Some t ≡ taker s → is_new s ≡ false → IsTrue (is_set s)
-taker_sets (Set u v) t e n = refl
-taker_sets (New u b k v) t e n = absurd (let clash : true ≡ false = n in cc)
-taker_sets s t e n = absurd (cc)

@@ -9,8 +9,6 @@ pub mod Sets
 pub mod Operations
 pub mod Links
 pub mod Keeping
-pub mod Merges
 pub mod Firsts
 pub mod Stops
 pub mod SameKinds
-pub mod Empty

@@ -1,11 +1,13 @@
 use Rattle.std.proofs.Common.{◌≡◌, ◌<◌, ◌∙◌, ap, sym, subst, Some, None, List, arith, add-one}
 use Rattle.std.specs.Option.{option_copied}
 use Rattle.std.proofs.lemmas.Option.{slice_get-get_or}
-use Rattle.tau_trace.specs.Run.{len, step_at}
+use Rattle.tau_trace.specs.Run.{Run, len, step_at}
 use Rattle.tau_trace.specs.Numbering.{born}
 use Rattle.tau_states.specs.declared.state_record.StateRecord.{StateRecord}
+use Rattle.tau_trace.proofs.Prefix.{prefix}
 use Rattle.tau_states.specs.Opening.{opening_states}
-use Rattle.tau_report.proofs.Prefixes.{past_last}
+use Rattle.tau_states.specs.Table.{Holds}
+use Rattle.tau_report.proofs.Prefixes.{past_last, prefix_whole}
 use Rattle.tau_cut.specs.Inner.Keeping.{IsKeptFirst, AreKept}
 use Rattle.tau_cut.proofs.KeptLemmas.{kept_start, kept_next, holds_next}
 use Rattle.tau_cut.proofs.states.states_kept.Goals as goal
@@ -40,6 +42,13 @@ loop-place-preserved c =
       holds = rw add-one h;
       kept = kept_next T w values marks k _ s c.note.new.states.records c.loop-place.kept.items c.note.new.kept.items lt stands (slice_get-get_or marks k _ (omega (arith, lt, c.requires.marks))) h c.in_ok-note-in-Some.ensures.kept c.loop-place.invariant.kept;
     }
+
+pub returns-clause-states : goal.returns-clause-states
+returns-clause-states c =
+    let T = c.args.trace.now.run in
+    let all : c.loop-place.place ≡ len T = omega (arith, c.loop-place-test.false, c.loop-place.auto.place-end, c.len-place-end.ensures.len) in
+    let Q : Run → Type 0 = λ U. Holds U (opening_states c.args.starts.now) c.loop-place.states.records in
+    subst Q (ap (prefix T) all ∙ prefix_whole T) c.loop-place.invariant.holds
 
 pub returns-clause-kept : goal.returns-clause-kept
 returns-clause-kept c =

@@ -1,4 +1,4 @@
-use Rattle.std.proofs.Common.{◌≡◌, inr, ℕ, List, length, Option, IfSome, ◌≤◌, sym, rules}
+use Rattle.std.proofs.Common.{inr, length, IfSome, ◌≤◌, sym, rules}
 use Rattle.tau_journal.specs.Disk.Moments.{LeavesOnly}
 use Rattle.tau_journal.specs.Found.{IsCreateFault}
 use Rattle.tau_journal.specs.Gates.{gate_of}

@@ -1,4 +1,4 @@
-use Rattle.std.proofs.Common.{◌≡◌, ◌+◌, inl, inr, ℕ, List, Option, length, sym, subst, arith, rules}
+use Rattle.std.proofs.Common.{◌+◌, ℕ, List, Option, length, sym, subst, rules}
 use Rattle.tau_journal.specs.Disk.Moments.{IsUntouched}
 use Rattle.tau_journal.proofs.Moments.{untouched_then}
 use Rattle.tau_journal.specs.Records.{going_on}

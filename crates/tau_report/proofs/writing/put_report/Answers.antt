@@ -8,7 +8,7 @@ use Rattle.tau_report.proofs.writing.put_report.Goals as goal
 pub put_rows-requires-clause-few : goal.put_rows-requires-clause-few
 put_rows-requires-clause-few c =
     let survey = c.in_ok-survey.survey in
-    few_records c.args.program.now c.args.trace.now.run survey.states.records c.records.result.now survey.counts c.in_ok-survey.ensures.well_formed c.in_ok-survey.ensures.survey c.records.ensures
+    few_records c.args.trace.now.run (opening_states c.args.program.now.starts) survey.states.records c.records.result.now c.in_ok-survey.ensures.well_formed c.in_ok-survey.ensures.survey.holds c.records.ensures
 
 pub put_form_line-requires-clause-words : goal.put_form_line-requires-clause-words
 put_form_line-requires-clause-words c =

@@ -5,13 +5,12 @@ use Rattle.tau_report.proofs.writing.put_saved.Goals as goal
 
 pub put_rows-requires-clause-few : goal.put_rows-requires-clause-few
 put_rows-requires-clause-few c =
-    let survey = c.in_ok-survey.survey in
-    few_records c.args.program.now c.args.trace.now.run survey.states.records c.records.result.now survey.counts c.in_ok-survey.ensures.well_formed c.in_ok-survey.ensures.survey c.records.ensures
+    few_records c.args.trace.now.run c.requires.0 c.args.states.now.records c.records.result.now c.len-length.ensures.well_formed c.requires.1 c.records.ensures
 
 pub returns : goal.returns
 returns c =
-    let survey = c.in_ok-survey.survey in
     on_ok_weaker c.put_rows.result
-    (puts_saved c.args.program.now c.args.trace.now.run c.opening.result.now survey.states.records c.records.result.now survey.counts c.args.out.now.items c.put_rows.new.out.items
-    c.requires.sound c.in_ok-survey.ensures.well_formed c.in_ok-survey.ensures.survey c.opening.ensures.value c.records.ensures)
+    (λ rows P sound holds.
+    puts_saved P c.args.trace.now.run c.opening.result.now c.args.states.now.records c.records.result.now c.args.out.now.items c.put_rows.new.out.items
+    sound c.len-length.ensures.well_formed holds c.opening.ensures.value c.records.ensures rows)
     c.put_rows.ensures
