@@ -12,13 +12,16 @@ use tau_faults::Ran;
 use tau_report::put_saved;
 use tau_tree::Program;
 
+/// How many bytes are taken for the lines at once; most runs end by fewer.
+const USUAL_LEN: usize = 256;
+
 /// The lines by which a run ends (docs/definitions.md, "Storm"). The error is want of memory.
 pub fn lines_of(alloc: Global, program: &Program, ran: &Ran) -> Result<Lines, AllocError>
     requires sound { Sound program.now }
     requires ends { (limit : ℕ) × EndsAt limit program.now ran.now.trace.run ran.now.is_complete }
     ensures { IfOk result (EndsWithLines program.now ran.now.trace.run) }
 {
-    let mut bytes = Vec::new(alloc);
+    let mut bytes = Vec::with_capacity(alloc, USUAL_LEN)?;
     put_open(&mut bytes, ran.is_complete)?;
     let end = end_states(alloc, program, &ran.trace)?;
     put_saved(&mut bytes, &ran.trace, &end.states)?;

@@ -15,4 +15,4 @@ returns c =
     let kept = c.in_ok-end.ensures.kept in
     let saved = c.in_ok-put_saved.ensures P c.requires.sound c.in_ok-end.ensures.states in
     let put = c.in_ok-put_states.ensures P _ kept.are in
-    ends_with P T c.requires.ends.0 c.args.ran.now.is_complete c.new-bytes.result.items c.put_open.new.out.items c.put_saved.new.out.items c.put_states.new.out.items c.from_vec.result c.requires.ends.1 kept c.new-bytes.ensures.items c.in_ok-put_open.ensures saved put c.from_vec.ensures
+    ends_with P T c.requires.ends.0 c.args.ran.now.is_complete c.in_ok-bytes.bytes.items c.put_open.new.out.items c.put_saved.new.out.items c.put_states.new.out.items c.from_vec.result c.requires.ends.1 kept c.in_ok-bytes.ensures.items c.in_ok-put_open.ensures saved put c.from_vec.ensures
