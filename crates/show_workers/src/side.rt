@@ -104,7 +104,7 @@ fn act<'p, R: Wait>(
     if hand.room() == 0 {
         return Ok(false);
     }
-    let told = table.act(rt, seat, hand, pending);
+    let told = table.act(rt, seat, hand, pending, false);
     has_stepped(told)
 }
 

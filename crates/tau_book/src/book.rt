@@ -200,14 +200,17 @@ impl<'p, K: Knowledge + Drop> Book<'p, K> {
     }
 
     /// Takes the effect to which a job has come (docs/rules.md, "Choice of a worker"): the first that applies of `Stopped`, `Later`
-    /// after a due step of the script, `Stale`, `Redone` and `Stepped`. The hand has room. Without memory the effect comes back, and
-    /// nothing is different.
+    /// after a due step of the script, `Stale`, `Redone` and `Stepped`. The hand has room. `was_open` says that the job was the record of
+    /// an open turn at some moment of the book's run (docs/rules.md, "Seats"). The answer is the same then, and the job is compared with
+    /// no record that has as many replies. Without memory the effect comes back, and nothing is different.
     pub fn act(
         &mut self,
         hand: &mut Hand<'p>,
         pending: Pending<'p>,
+        was_open: bool,
     ) -> Result<Told<'p>, (Pending<'p>, AllocError)>
         requires room { length hand.old.jobs < hand.old.size }
+        requires known { IsTrue was_open → WasOpenJob self.old.system.program self.old.system.run pending }
         ensures ok { IfOk result (IsTold self.old self.new hand.old hand.new pending.entry) }
         ensures was_book { IsBook self.old }
         ensures is_book { IsBook self.new }
@@ -219,7 +222,7 @@ impl<'p, K: Knowledge + Drop> Book<'p, K> {
     {
         // What holds of the book before and after.
         let _before = self.system();
-        let told = self.tell(hand, pending)?;
+        let told = self.tell(hand, pending, was_open)?;
         let _after = self.system();
         Ok(told)
     }
@@ -229,8 +232,10 @@ impl<'p, K: Knowledge + Drop> Book<'p, K> {
         &mut self,
         hand: &mut Hand<'p>,
         pending: Pending<'p>,
+        was_open: bool,
     ) -> Result<Told<'p>, (Pending<'p>, AllocError)>
         requires room { length hand.old.jobs < hand.old.size }
+        requires known { IsTrue was_open → WasOpenJob self.old.system.program self.old.system.run pending }
         ensures ok { IfOk result (IsTold self.old self.new hand.old hand.new pending.entry) }
         ensures later { IfOk result (ComesBack hand.old hand.new pending.entry) }
         ensures size { hand.new.size ≡ hand.old.size }
@@ -243,12 +248,18 @@ impl<'p, K: Knowledge + Drop> Book<'p, K> {
         }
         match self.make_due() {
             Ok(true) => Ok(Told::Later(pending)),
-            Ok(false) => self.make(hand, pending),
+            Ok(false) => {
+                if was_open {
+                    self.make_known(hand, pending)
+                } else {
+                    self.make(hand, pending)
+                }
+            }
             Err(failed) => Err((pending, failed)),
         }
     }
 
-    /// Makes the step of an effect; none of the script is due.
+    /// Makes the step of an effect whose job is compared with the record; none of the script is due.
     fn make(
         &mut self,
         hand: &mut Hand<'p>,
@@ -287,56 +298,6 @@ impl<'p, K: Knowledge + Drop> Book<'p, K> {
         ensures err { IfErr result (IsUnacted self.old.system.run pending.now.place) }
     {
         self.scripted.act(pending)
-    }
-
-    /// `act` of a job that was the record of an open turn at some moment of the book's run (docs/rules.md, "Seats"). It answers the same,
-    /// and compares the job with no record that has as many replies.
-    pub fn act_known(
-        &mut self,
-        hand: &mut Hand<'p>,
-        pending: Pending<'p>,
-    ) -> Result<Told<'p>, (Pending<'p>, AllocError)>
-        requires room { length hand.old.jobs < hand.old.size }
-        requires known { WasOpenJob self.old.system.program self.old.system.run pending }
-        ensures ok { IfOk result (IsTold self.old self.new hand.old hand.new pending.entry) }
-        ensures was_book { IsBook self.old }
-        ensures is_book { IsBook self.new }
-        ensures later { IfOk result (ComesBack hand.old hand.new pending.entry) }
-        ensures size { hand.new.size ≡ hand.old.size }
-        ensures pending_on_err { IfErr result (λ e. e.0 ≡ pending.entry) }
-        ensures book_on_err { OnErr result (self.new ≡ self.old) }
-        ensures hand_on_err { OnErr result (hand.new ≡ hand.old) }
-    {
-        // What holds of the book before and after.
-        let _before = self.system();
-        let told = self.tell_known(hand, pending)?;
-        let _after = self.system();
-        Ok(told)
-    }
-
-    /// The answer of `act_known`.
-    fn tell_known(
-        &mut self,
-        hand: &mut Hand<'p>,
-        pending: Pending<'p>,
-    ) -> Result<Told<'p>, (Pending<'p>, AllocError)>
-        requires room { length hand.old.jobs < hand.old.size }
-        requires known { WasOpenJob self.old.system.program self.old.system.run pending }
-        ensures ok { IfOk result (IsTold self.old self.new hand.old hand.new pending.entry) }
-        ensures later { IfOk result (ComesBack hand.old hand.new pending.entry) }
-        ensures size { hand.new.size ≡ hand.old.size }
-        ensures pending_on_err { IfErr result (λ e. e.0 ≡ pending.entry) }
-        ensures book_on_err { OnErr result (self.new ≡ self.old) }
-        ensures hand_on_err { OnErr result (hand.new ≡ hand.old) }
-    {
-        if self.is_at_limit() {
-            return Ok(Told::Stopped);
-        }
-        match self.make_due() {
-            Ok(true) => Ok(Told::Later(pending)),
-            Ok(false) => self.make_known(hand, pending),
-            Err(failed) => Err((pending, failed)),
-        }
     }
 
     /// Makes the step of an effect of a job that was the record of an open turn; none of the script is due.

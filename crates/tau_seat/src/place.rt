@@ -207,11 +207,7 @@ fn bring<'p, K: Knowledge + Drop, R: Wait>(
 {
     // What is known of the jobs afterwards.
     known_jobs_are_handed_on();
-    if knows {
-        table.act_known(rt, seat, hand, pending)
-    } else {
-        table.act(rt, seat, hand, pending)
-    }
+    table.act(rt, seat, hand, pending, knows)
 }
 
 /// Whether the trace is complete, where the answer tells the end.

@@ -205,48 +205,20 @@ impl<'p, K: Knowledge + Drop> SeatBook<'p, K> {
         answer
     }
 
-    /// `act` of the book in the seat's turn, for which it waits (docs/rules.md, "Seats"). The hand has room. Without memory the effect comes back,
-    /// no step was appended, and the hand is as it was.
+    /// `act` of the book in the seat's turn, for which it waits (docs/rules.md, "Seats"). The hand has room. `was_open` says that the job was
+    /// the record of an open turn at some moment of the run that the seat has seen. Without memory the effect comes back, no step was
+    /// appended, and the hand is as it was.
     pub fn act<R: Wait>(
         &self,
         rt: &R,
         seat: &mut BookSeat<'p, K>,
         hand: &mut Hand<'p>,
         pending: Pending<'p>,
+        was_open: bool,
     ) -> Result<Told<'p>, (Pending<'p>, AllocError)>
         requires table { seat.old.table ≡ self.now.table }
         requires room { length hand.old.jobs < hand.old.size }
-        ensures stays { Stays seat.old seat.new }
-        ensures sound { IsSound (key_at seat.new) (bare seat.new.seen) }
-        ensures prefix { Begins seat.old.seen seat.new.seen }
-        ensures step { Grows (has_made result) seat.old seat.new }
-        ensures answer { IfOk result (λ a. IsTurn seat.old seat.new (λ b c. IsTold b c hand.old hand.new pending.entry a)) }
-        ensures later { IfOk result (ComesBack hand.old hand.new pending.entry) }
-        ensures size { hand.new.size ≡ hand.old.size }
-        ensures pending_on_err { IfErr result (λ e. e.0 ≡ pending.entry) }
-        ensures hand_on_err { OnErr result (hand.new ≡ hand.old) }
-    {
-        let _idlers = self.bell.enter(rt);
-        let mut boxed = self.table.take(rt, &mut seat.pass);
-        let book = &mut *boxed.book;
-        let answer = book.act(hand, pending);
-        let grew = has_made(&answer);
-        self.table.put_back(&mut seat.pass, boxed, grew);
-        answer
-    }
-
-    /// `act` of the book in the seat's turn, for which it waits, where it is known that the job was the record of an open turn at some moment of
-    /// the run that the seat has seen (docs/rules.md, "Seats"). It answers the same, and compares the job with no record that has as many replies.
-    pub fn act_known<R: Wait>(
-        &self,
-        rt: &R,
-        seat: &mut BookSeat<'p, K>,
-        hand: &mut Hand<'p>,
-        pending: Pending<'p>,
-    ) -> Result<Told<'p>, (Pending<'p>, AllocError)>
-        requires table { seat.old.table ≡ self.now.table }
-        requires room { length hand.old.jobs < hand.old.size }
-        requires known { IsSeenOpen seat.old pending }
+        requires known { IsTrue was_open → IsSeenOpen seat.old pending }
         ensures stays { Stays seat.old seat.new }
         ensures sound { IsSound (key_at seat.new) (bare seat.new.seen) }
         ensures prefix { Begins seat.old.seen seat.new.seen }
@@ -262,7 +234,7 @@ impl<'p, K: Knowledge + Drop> SeatBook<'p, K> {
         let book = &mut *boxed.book;
         // What holds of the book.
         let _system = book.system();
-        let answer = book.act_known(hand, pending);
+        let answer = book.act(hand, pending, was_open);
         let grew = has_made(&answer);
         self.table.put_back(&mut seat.pass, boxed, grew);
         answer

@@ -116,7 +116,7 @@ impl<'p, K: Knowledge + Drop> Desk<'p, K> {
         ensures size { hand.new.size ≡ hand.old.size }
     {
         let mut shared = self.shared.lock(rt);
-        shared.book.act(hand, pending)
+        shared.book.act(hand, pending, false)
     }
 
     /// `give_back` of the book.

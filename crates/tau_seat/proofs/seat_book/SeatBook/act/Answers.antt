@@ -1,9 +1,11 @@
 use Rattle.std.proofs.Common.{rules, sym, subst, ◌∙◌}
 use Rattle.tau_book.specs.Tolds.{IsTold}
 use Rattle.tau_seat.specs.Answers.{has_made}
-use Rattle.tau_seat.specs.Seated.{seated, Grows, IsTurn}
+use Rattle.tau_seat.specs.Seated.{Seated, seated, Grows, IsTurn}
+use Rattle.tau_seat.specs.Knowing.{IsSeenOpen}
 use Rattle.tau_seat.proofs.BookTurns.{told_made}
-use Rattle.tau_seat.proofs.SeatTurns.{taken_as, seat_grows, seat_turn, each_ok, grows_begin, put_value, put_grew, seat_keeps}
+use Rattle.tau_seat.proofs.SeatTurns.{taken_as, seat_grows, seat_turn, each_ok, grows_begin, put_value, put_grew, seat_keeps, book_taken}
+use Rattle.tau_seat.proofs.Knowing.{known_then}
 use Rattle.tau_seat.proofs.seat_book.SeatBook.act.Goals as goal
 
 pub returns-clause-step : goal.returns-clause-step
@@ -50,3 +52,10 @@ returns-clause-sound g c =
     let keeps = seat_keeps c.seat.inside.pass.table_id c.put_back.new.seat.table_id c.seat.inside.key c.seat.inside.pass.me c.deref_mut-book.result.now c.act-answer.new.self c.take-boxed.new.seat.me c.put_back.new.seat.me (has_made c.act-answer.result) c.seat.invariant (taken_as c.seat.inside.pass.me c.take-boxed.new.seat.me c.deref_mut-book.result.now c.take-boxed.result (c.deref_mut-book.ensures.value ∙ c.boxed.view_is) c.take-boxed.ensures.taken) c.act-answer.ensures.is_book made
     (λ e. c.put_back.ensures.grew (c.has_made-grew.ensures ∙ e)) (λ e. c.put_back.ensures.stayed (c.has_made-grew.ensures ∙ e)) in
     keeps.sound
+
+pub act-answer-requires-clause-known : goal.act-answer-requires-clause-known
+act-answer-requires-clause-known g c = λ was.
+    let taken = (taken_as c.seat.inside.pass.me c.take-boxed.new.seat.me c.deref_mut-book.result.now c.take-boxed.result (c.deref_mut-book.ensures.value ∙ c.boxed.view_is) c.take-boxed.ensures.taken) in
+    known_then (seated c.seat.inside.pass.table_id c.seat.inside.key c.seat.inside.pass.me.0) taken.3.0 c.deref_mut-book.result.now
+    (book_taken c.seat.inside.pass.table_id c.seat.inside.key c.seat.inside.pass.me c.take-boxed.new.seat.me c.deref_mut-book.result.now c.seat.invariant taken c.system-system.ensures.book) c.args.pending
+    (subst (λ (s : Seated). IsSeenOpen s c.args.pending) (sym c.seat.view_is) (c.requires.known was))
