@@ -353,29 +353,16 @@ impl<'p, K: Knowledge + Drop> Book<'p, K> {
     {
         // What holds of the book before and after.
         let _before = self.system();
-        self.make_open(hand, pending)?;
+        match self.bring_open(hand, pending) {
+            Ok(()) => {}
+            Err((_pending, failed)) => return Err(failed),
+        }
         let _after = self.system();
         Ok(())
     }
 
-    /// Makes the step of an effect of a job that is the record of its turn; none of the script is due.
-    fn make_open(&mut self, hand: &mut Hand<'p>, pending: Pending<'p>) -> Result<(), AllocError>
-        requires room { length hand.old.jobs < hand.old.size }
-        requires goes_on { GoesOn self.old }
-        requires is_open { IsOpenJob self.old.system.program self.old.system.run pending }
-        ensures ok { OnOk result (IsTurnStep self.old self.new hand.old hand.new pending.entry) }
-        ensures limit { self.new.limit ≡ self.old.limit }
-        ensures size { hand.new.size ≡ hand.old.size }
-        ensures book_on_err { OnErr result (self.new ≡ self.old) }
-        ensures hand_on_err { OnErr result (hand.new ≡ hand.old) }
-    {
-        match self.bring_open(hand, pending) {
-            Ok(()) => Ok(()),
-            Err((_pending, failed)) => Err(failed),
-        }
-    }
-
-    /// The same; without memory the effect comes back.
+    /// Makes the step of an effect of a job that is the record of its turn; none of the script is due. Without memory the effect comes
+    /// back.
     fn bring_open(
         &mut self,
         hand: &mut Hand<'p>,
