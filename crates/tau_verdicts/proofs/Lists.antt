@@ -22,11 +22,6 @@ pub when_true : (b : Bool) (P : Type 0) → b ≡ true → OnTrue b P → P
 when_true true P e h = h
 when_true false P e h = absurd (cc)
 
-  by : (o : Option Bool) → slice_get xs u ≡ o → slice_get xs u ≡ Some true
-  by None e = absurd (let clash : false ≡ true = sym (ap F e) ∙ d in cc)
-  by (Some true) e = e
-  by (Some false) e = absurd (let clash : false ≡ true = sym (ap F e) ∙ d in cc)
-
 -- places that are added at the end are those of who isn't doomed
 pub doomed_filled : (xs : List Bool) (k u : ℕ) → flag_of (xs ++ replicate k false) u ≡ flag_of xs u
 doomed_filled [] zero u = refl
