@@ -12,6 +12,8 @@ end is judged by other commands.
 - The programs of the cases of `run`, with 2 and with 4 workers, with K = 1 and with K the number of workers, which can make all of them
   short of memory. A run that doesn't end with status 7 writes a run text of the same program, which `check` calls legal, and complete
   exactly with status 0, and which `audit` calls safe.
+- The cases of `storm`, with 2 and with 4 workers and the same K. A run ends with status 7 and nothing written, or as the run without a
+  refusal, which is that of one worker.
 - The same programs by `keep`, each time without a file, and by `resume` of a journal with half of the steps, and with all where the run is
   complete; K = 1. An end is one of the first kind. Without status 7 the journal is that of the run without a refusal. With it, it is blank
   or has the first records of that one, and for `resume` at least those from before; then `resume` without a refusal says that it is
@@ -421,6 +423,18 @@ def together_rows(refuser, chosen):
                 yield f"run --workers {workers}, K = {many}", tried(judge, row, many, workers)
 
 
+def stormed_rows(refuser, chosen):
+    """Tries each case of `storm` with several workers, and yields their number and K with the tally."""
+    for name, words, given in cases():
+        if words[:1] != ["storm"] or "--workers" not in words:
+            continue
+        for workers, many in [(workers, many) for workers in WORKERS for many in [1, workers]]:
+            together = with_workers(words, workers)
+            row = f"{' '.join(together)}, K = {many}: {name.partition(': ')[2]}"
+            if chosen(row):
+                yield f"storm --workers {workers}, K = {many}", tried(TogetherJudge(refuser, together, given), row, many)
+
+
 def with_steps(options, steps):
     """Options with another limit of steps."""
     rest = re.sub(r"--steps[ =]\S+", "", " ".join(options)).split()
@@ -463,7 +477,7 @@ def main():
         def chosen(name):
             return not words or any(word in name for word in words)
 
-        for rows in [serial_rows, together_rows, kept_rows]:
+        for rows in [serial_rows, together_rows, stormed_rows, kept_rows]:
             for command, tally in rows(refuser, chosen):
                 sums[command].add(tally)
     print()
