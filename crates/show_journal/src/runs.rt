@@ -3,6 +3,7 @@ ghost use Rattle.std.specs.Prelude.{◌≡◌, None, IfOk, IfSome};
 ghost use Rattle.tau_tree.specs.Sound.{Sound};
 ghost use Rattle.tau_journal.specs.Records.{IsAtRest};
 ghost use Rattle.tau_journal.specs.Gates.{gate_of};
+ghost use Rattle.tau_revival.specs.Revival.{LeadsOn};
 
 use crate::playing::made;
 use crate::texts::{add_program, add_run};
@@ -11,7 +12,7 @@ use tau_journal::disk::Disk;
 use tau_journal::{Journal, JournalError};
 use tau_journaling::found::{find_legal, revive};
 use tau_run_journal::keep_step;
-use tau_script::opening_of;
+use tau_script::{Cursor, opening_of};
 use tau_sexpr::{Form, FormError, Forms, read_forms};
 use tau_steps::{StepError, form_of_step, steps_of};
 use tau_trace::Trace;
@@ -211,6 +212,7 @@ pub(crate) fn revive_found<D: Disk>(
                 found.journal,
                 &found.program,
                 &found.trace,
+                found.cursor,
             )
         }
         Err(error) => none(text, error),
@@ -225,12 +227,14 @@ fn revive_run<D: Disk>(
     journal: Journal,
     program: &Program,
     trace: &Trace,
+    cursor: Cursor,
 ) -> Result<Option<Journal>, AllocError>
     requires sound { Sound program.now }
+    requires cursor { LeadsOn program.now.script trace.now.run cursor }
     requires rest { IsAtRest (D.bytes disk.old) (D.images disk.old) (gate_of journal) }
     ensures { IfOk result (λ o. IfSome o (λ j. IsAtRest (D.bytes disk.new) (D.images disk.new) (gate_of j))) }
 {
-    match revive(journal, alloc, disk, program, trace) {
+    match revive(journal, alloc, disk, program, trace, cursor) {
         Ok(revived) => {
             add_program(alloc, text, &revived.program)?;
             text.push_str(", ")?;

@@ -10,7 +10,7 @@ ghost use Rattle.tau_journal.specs.Disk.Moments.{LeavesOnly, IsUntouched};
 ghost use Rattle.tau_journal.specs.Records.{IsAtRest, going_on};
 ghost use Rattle.tau_journal.specs.Room.{most_bytes, IsFaultOrFailure};
 ghost use Rattle.tau_journal.specs.Gates.{gate_of};
-ghost use Rattle.tau_revival.specs.Revival.{IsRevival};
+ghost use Rattle.tau_revival.specs.Revival.{IsRevival, LeadsOn};
 ghost use Rattle.tau_book.specs.declared.limits.TheConstants.{JOB_LIMIT};
 ghost use Rattle.tau_book.specs.Onward.{BeginsWith};
 ghost use Rattle.tau_book.specs.Alone.{IsRunAfter};
@@ -48,6 +48,7 @@ pub(crate) fn run_on_revived<G: Gate, D: Disk>(
     requires limit { steps ≤ STEP_LIMIT }
     requires sound { Sound found.program }
     requires legal { Legal found.program found.trace.run }
+    requires cursor { LeadsOn found.program.script found.trace.run found.cursor }
     requires rest { IsAtRest (D.bytes disk.old) (D.images disk.old) (gate_of found.journal) }
     ensures revival { IfOk result (λ r. IsRevival found.program found.trace.run r.program) }
     ensures sound { IfOk result (λ r. Sound r.program) }
@@ -75,7 +76,14 @@ pub(crate) fn run_on_revived<G: Gate, D: Disk>(
     ensures never_falls { D.faults disk.old ≤ D.faults disk.new }
 {
     revival_keeps_legality();
-    let revived = revive(found.journal, alloc, disk, &found.program, &found.trace)?;
+    let revived = revive(
+        found.journal,
+        alloc,
+        disk,
+        &found.program,
+        &found.trace,
+        found.cursor,
+    )?;
     let limit = steps.max(found.trace.len());
     let ran = run_on_trace(
         alloc,

@@ -10,6 +10,8 @@ use Rattle.tau_trace.proofs.Indexing.{len-appended}
 use Rattle.tau_script.specs.declared.cursor.Cursor.{Cursor}
 use Rattle.tau_script.specs.Cursors.{first_cursor, MovedFrom, CursorAt, ComesTo, IsCurrent}
 use Rattle.tau_script.specs.Laws.{CursorsGoOn}
+use Rattle.tau_script.proofs.Passing.{current}
+use Rattle.tau_revival.specs.Revival.{LeadsOn}
 
 -- at the first
 pub current_first : (S : List Entry) (T U : Run) (c : Cursor) → U ≡ record { opening = T.opening; steps = [] } → c ≡ first_cursor → IsCurrent S U (len U) c
@@ -20,6 +22,13 @@ pub current_next : CursorsGoOn → (S : List Entry) (U V : Run) (s : Step) (c : 
 current_next law S U V s c moved is =
     let comes : ComesTo S (appended U s) (suc (len U)) c = subst (λ (d : Cursor). ComesTo S (appended U s) (suc (len U)) d) (sym moved.moved) (law S U moved.before moved.step s moved.stood moved.due) in
     subst (λ (W : Run). IsCurrent S W (len W) c) (sym is) (inr (subst (λ (n : ℕ). ComesTo S (appended U s) n c) (sym (len-appended U s)) comes))
+
+-- from there one comes to the script's own
+pub leads_first : (S : List Entry) (T U : Run) (c : Cursor) → U ≡ record { opening = T.opening; steps = [] } → c ≡ first_cursor → LeadsOn S U c
+leads_first S T U c is first = λ d p. current S U (len U) c d (current_first S T U c is first) p
+
+pub leads_next : CursorsGoOn → (S : List Entry) (U V : Run) (s : Step) (c : Cursor) → MovedFrom (CursorAt S U (len U)) S U (len U) c → V ≡ appended U s → LeadsOn S V c
+leads_next law S U V s c moved is = λ d p. current S V (len V) c d (current_next law S U V s c moved is) p
 
 -- the run so far
 pub prefix_next : (T U V : Run) (k : ℕ) (s : Step) → U ≡ prefix T k → V ≡ appended U s → step_at T k ≡ Some s → V ≡ prefix T (k + 1)

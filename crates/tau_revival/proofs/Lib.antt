@@ -2,3 +2,4 @@ pub mod Coming
 pub mod Keeping
 pub mod Legality
 pub mod Revival
+pub mod Cursors

@@ -6,16 +6,16 @@ use Rattle.tau_tree.specs.declared.programs.Program.{Program}
 use Rattle.tau_tree.specs.Sound.{Sound}
 use Rattle.tau_trace.specs.Run.{Run, Agree, len}
 use Rattle.tau_script.specs.declared.cursor.Cursor.{Cursor}
-use Rattle.tau_script.specs.Cursors.{PassesTo, CursorAt}
+use Rattle.tau_script.specs.Cursors.{CursorAt}
 use Rattle.tau_script.specs.Scripts.{IsDue}
 use Rattle.tau_legal.specs.Traces.{IsLegal, Legal}
-use Rattle.tau_revival.specs.Revival.{IsRevival, revived}
+use Rattle.tau_revival.specs.Revival.{IsRevival, LeadsOn, revived}
 
 -- the revived script makes the same due at each place before the end of the run, and from the old cursor at the end it
 -- comes to its own by passing over entries
 pub record KeepsDue (S : List Entry) (T : Run) (nodes : ℕ) (c : Cursor) : Type 0 where
   pub due : (k : ℕ) (s : Option Step) → k < len T → IsDue S T k s ↔ IsDue (revived S nodes (len T) c.entry) T k s
-  pub goes_on : (d : Cursor) → PassesTo (revived S nodes (len T) c.entry) T (len T) c d → CursorAt (revived S nodes (len T) c.entry) T (len T) d
+  pub goes_on : LeadsOn (revived S nodes (len T) c.entry) T c
 
 -- so it is for every run, legal or not
 abbrev pub RevivalKeepsDue : Type 0

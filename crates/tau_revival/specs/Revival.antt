@@ -6,7 +6,7 @@ use Rattle.tau_tree.specs.declared.entries.Failure.TheVariants.{Fail}
 use Rattle.tau_tree.specs.declared.programs.Program.{Program}
 use Rattle.tau_trace.specs.Run.{Run, len}
 use Rattle.tau_script.specs.declared.cursor.Cursor.{Cursor}
-use Rattle.tau_script.specs.Cursors.{CursorAt}
+use Rattle.tau_script.specs.Cursors.{CursorAt, PassesTo}
 
 -- where new entries go after n steps, by what stands at the cursor's entry e: behind it where it is ripe, before it where
 -- it isn't, and at the end where there is none
@@ -25,6 +25,10 @@ failing_nodes n (suc m) = failing_nodes n m ++ record { at = n; failure = Fail m
 -- the script in which each node fails after n steps, the cursor being at entry e
 abbrev pub revived : List Entry → ℕ → ℕ → ℕ → List Entry
 revived S nodes n e = take (block_place S n e) S ++ (failing_nodes n nodes ++ drop (block_place S n e) S)
+
+-- from cursor c one comes to the script's own at the end of the run by passing over entries
+abbrev pub LeadsOn : List Entry → Run → Cursor → Type 0
+LeadsOn S T c = (d : Cursor) → PassesTo S T (len T) c d → CursorAt S T (len T) d
 
 -- the program in which each node fails after the steps of T
 pub record IsRevival (P : Program) (T : Run) (Q : Program) : Type 0 where

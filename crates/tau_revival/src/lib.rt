@@ -7,4 +7,4 @@ mod reviving;
 mod scripts;
 
 pub use errors::ReviveError;
-pub use reviving::revive;
+pub use reviving::{pass_due, revive};

@@ -1,32 +1,51 @@
 //! Reviving a program.
-ghost use Rattle.std.specs.Prelude.{◌≡◌, ◌≤◌, ◌↔◌, ℕ, length, IfOk, IsErrOf, Err};
+ghost use Rattle.std.specs.Prelude.{◌≡◌, ◌+◌, ◌≤◌, ◌↔◌, ℕ, length, IfOk, IsErrOf, Err};
 ghost use Rattle.tau_value.specs.declared.limits.TheConstants.{ENTRY_LIMIT};
 ghost use Rattle.tau_tree.specs.Sound.{Sound};
 ghost use Rattle.tau_trace.specs.Run.{len};
-ghost use Rattle.tau_script.specs.Cursors.{CursorAt, IsCurrent, MovedFrom};
+ghost use Rattle.tau_script.specs.Cursors.{CursorAt, MovedFrom};
 ghost use Rattle.tau_legal.specs.Traces.{Legal};
-ghost use Rattle.tau_revival.specs.Revival.{IsRevival, IsScriptFull};
+ghost use Rattle.tau_revival.specs.Revival.{IsRevival, IsScriptFull, LeadsOn};
 
 use crate::errors::ReviveError;
-use crate::laws::revival_keeps_legality;
+use crate::laws::{revival_keeps_due, revival_keeps_legality};
 use crate::scripts::revived_script;
 use std::alloc::{AllocError, Global};
-use tau_script::laws::cursors_go_on;
 use tau_script::{Cursor, due, passed};
 use tau_trace::Trace;
 use tau_tree::{Program, Script};
 use tau_value::ENTRY_LIMIT;
 
-/// The program in which each node fails after the steps of the trace (docs/journal.md, "Going on").
+/// The program in which each node fails after the steps of the trace (docs/journal.md, "Going on"). The cursor is one that came along with
+/// the trace, moved by `pass_due` before each step was appended, and it goes on in the revived script.
 ///
 /// The new entries stand in the order of the nodes: behind the entry at the cursor where it is ripe, before it where it
 /// isn't, and at the end where the cursor is past the last entry. ScriptFull comes exactly where the entries and the
-/// nodes are more than 4,096 together.
-pub fn revive(alloc: Global, program: &Program, trace: &Trace) -> Result<Program, ReviveError>
-    requires { Sound program.now }
+/// nodes are more than 4,096 together; the cursor stays then. The time goes with the program and its script.
+pub fn revive(
+    alloc: Global,
+    program: &Program,
+    trace: &Trace,
+    cursor: &mut Cursor,
+) -> Result<Program, ReviveError>
+    requires sound { Sound program.now }
+    requires cursor { LeadsOn program.now.script trace.now.run cursor.old }
     ensures revival { IfOk result (IsRevival program.now trace.now.run) }
     ensures sound { IfOk result Sound }
     ensures legal { IfOk result (λ q. Legal program.now trace.now.run ↔ Legal q trace.now.run) }
+    ensures cursor { IfOk result (λ q. LeadsOn q.script trace.now.run cursor.new) }
+    ensures full { (n : ℕ) → IsErrOf result (ReviveError.ScriptFull n) → IsScriptFull program.now n }
+    ensures fully { (n : ℕ) → IsScriptFull program.now n → result ≡ Err (ReviveError.ScriptFull n) }
+    ensures stays { (n : ℕ) → IsErrOf result (ReviveError.ScriptFull n) → cursor.new ≡ cursor.old }
+{
+    check_room(program)?;
+    Ok(revived_from(alloc, program, trace, cursor)?)
+}
+
+/// Whether the script has room for an entry more for each node.
+fn check_room(program: &Program) -> Result<(), ReviveError>
+    requires { Sound program.now }
+    ensures room { IfOk result (λ _. length program.now.script + program.now.nodes ≤ ENTRY_LIMIT) }
     ensures full { (n : ℕ) → IsErrOf result (ReviveError.ScriptFull n) → IsScriptFull program.now n }
     ensures fully { (n : ℕ) → IsScriptFull program.now n → result ≡ Err (ReviveError.ScriptFull n) }
 {
@@ -36,8 +55,27 @@ pub fn revive(alloc: Global, program: &Program, trace: &Trace) -> Result<Program
             entries: entries as u64,
         });
     }
+    Ok(())
+}
+
+/// The revived program, by a cursor that has come to the end of the trace.
+fn revived_from(
+    alloc: Global,
+    program: &Program,
+    trace: &Trace,
+    cursor: &mut Cursor,
+) -> Result<Program, AllocError>
+    requires sound { Sound program.now }
+    requires room { length program.now.script + program.now.nodes ≤ ENTRY_LIMIT }
+    requires cursor { LeadsOn program.now.script trace.now.run cursor.old }
+    ensures revival { IfOk result (IsRevival program.now trace.now.run) }
+    ensures sound { IfOk result Sound }
+    ensures legal { IfOk result (λ q. Legal program.now trace.now.run ↔ Legal q trace.now.run) }
+    ensures cursor { IfOk result (λ q. LeadsOn q.script trace.now.run cursor.new) }
+{
+    revival_keeps_due();
     revival_keeps_legality();
-    let cursor = cursor_after(alloc, &program.script, trace)?;
+    due(&program.script, cursor, trace);
     let script = revived_script(
         alloc,
         &program.script,
@@ -45,7 +83,7 @@ pub fn revive(alloc: Global, program: &Program, trace: &Trace) -> Result<Program
         trace.len(),
         cursor.entry,
     )?;
-    Ok(with_script(program, script)?)
+    with_script(program, script)
 }
 
 /// The program with another script.
@@ -62,33 +100,13 @@ fn with_script(program: &Program, script: Script) -> Result<Program, AllocError>
     })
 }
 
-/// The cursor of a script after the steps of a trace.
-pub fn cursor_after(alloc: Global, script: &Script, trace: &Trace) -> Result<Cursor, AllocError>
+/// Moves the cursor of a script past what is due after the steps so far, before one more step is appended (docs/rules.md, "Scripts").
+pub fn pass_due(script: &Script, cursor: &mut Cursor, so_far: &Trace)
     requires { length script.now ≤ ENTRY_LIMIT }
-    ensures { IfOk result (CursorAt script.now trace.now.run (len trace.now.run)) }
+    ensures { LeadsOn script.now so_far.now.run cursor.old
+        → MovedFrom (CursorAt script.now so_far.now.run (len so_far.now.run)) script.now so_far.now.run (len so_far.now.run) cursor.new }
 {
-    cursors_go_on();
-    let mut so_far = Trace::begin(alloc, trace.opening().copy()?)?;
-    let mut cursor = Cursor::first();
-    for place in 0..trace.len() {
-        let Some(step) = trace.step(place) else {
-            unreachable!()
-        };
-        pass_due(script, &mut cursor, &so_far);
-        so_far.reserve()?;
-        so_far.push_spare(step.copy()?);
-    }
-    due(script, &mut cursor, &so_far);
-    Ok(cursor)
-}
-
-/// Moves the cursor past what is due after the trace.
-fn pass_due(script: &Script, cursor: &mut Cursor, trace: &Trace)
-    requires { length script.now ≤ ENTRY_LIMIT }
-    ensures { IsCurrent script.now trace.now.run (len trace.now.run) cursor.old
-        → MovedFrom (CursorAt script.now trace.now.run (len trace.now.run)) script.now trace.now.run (len trace.now.run) cursor.new }
-{
-    if let Some(step) = due(script, cursor, trace) {
+    if let Some(step) = due(script, cursor, so_far) {
         passed(script, cursor, &step);
     }
 }

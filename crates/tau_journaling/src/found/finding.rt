@@ -8,6 +8,7 @@ ghost use Rattle.tau_journal.specs.Disk.Moments.{LeavesOnly};
 ghost use Rattle.tau_journal.specs.Records.{IsAtRest};
 ghost use Rattle.tau_journal.specs.Room.{most_bytes, IsFailure, IsFaultOrFailure};
 ghost use Rattle.tau_journal.specs.Gates.{gate_of};
+ghost use Rattle.tau_revival.specs.Revival.{LeadsOn};
 ghost use Rattle.tau_run_journal.specs.Laws.{IsRunOf};
 ghost use Rattle.tau_run_journal.specs.Standing.{Stands, StandsAt};
 ghost use Rattle.tau_journaling.specs.Found.Faults.{IsResumeFault, IsResumeNumber};
@@ -27,6 +28,7 @@ pub fn find_legal<D: Disk>(alloc: Global, disk: &mut D) -> Result<FoundRun, Jour
     // The records stand for the program and the trace, which is legal, and can be gone on with.
     ensures stands { IfOk result (λ f. IfSome (D.bytes disk.old) (λ _. StandsAt (D.bytes disk.old) (gate_of f.journal) f.program f.trace.run)) }
     ensures run { IfOk result (λ f. IsRunOf f.program f.trace.run) }
+    ensures cursor { IfOk result (λ f. LeadsOn f.program.script f.trace.run f.cursor) }
     ensures legal { IfOk result (λ f. Legal f.program f.trace.run) }
     ensures complete { IfOk result (λ f. IsTrue f.complete ↔ Complete f.program f.trace.run) }
     ensures rest { IfOk result (λ f. IsAtRest (D.bytes disk.new) (D.images disk.new) (gate_of f.journal)) }

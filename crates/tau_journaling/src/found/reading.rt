@@ -3,6 +3,7 @@ ghost use Rattle.std.specs.Prelude.{◌≡◌, ◌≤◌, ◌↔◌, ℕ, IfOk, 
 ghost use Rattle.tau_legal.specs.Traces.{Legal, Complete};
 ghost use Rattle.tau_journal.specs.Room.{IsFaultOrFailure};
 ghost use Rattle.tau_journal.specs.Gates.{gate_of};
+ghost use Rattle.tau_revival.specs.Revival.{LeadsOn};
 ghost use Rattle.tau_run_journal.specs.Laws.{IsRunOf};
 ghost use Rattle.tau_run_journal.specs.Standing.{StandsFor};
 ghost use Rattle.tau_journaling.specs.Found.Faults.{IsRunFault};
@@ -12,6 +13,7 @@ use tau_check::{Legality, check};
 use tau_journal::{Journal, JournalError, Records};
 use tau_revival::laws::revival_keeps_steps;
 use tau_run_journal::read_records;
+use tau_script::Cursor;
 use tau_trace::Trace;
 use tau_tree::Program;
 
@@ -24,6 +26,8 @@ pub struct FoundRun {
     pub journal: Journal,
     pub program: Program,
     pub trace: Trace,
+    /// The cursor of the script at the end of the trace, which may have entries to pass over there.
+    pub cursor: Cursor,
     /// Whether the trace is complete (docs/definitions.md, "Complete").
     pub complete: bool,
 }
@@ -42,6 +46,7 @@ pub(crate) fn legal_run(
     ensures journal { IfOk result (λ f. gate_of f.journal ≡ gate_of journal) }
     ensures stand { IfOk result (λ f. StandsFor records.now f.program f.trace.run) }
     ensures run { IfOk result (λ f. IsRunOf f.program f.trace.run) }
+    ensures cursor { IfOk result (λ f. LeadsOn f.program.script f.trace.run f.cursor) }
     ensures legal { IfOk result (λ f. Legal f.program f.trace.run) }
     ensures complete { IfOk result (λ f. IsTrue f.complete ↔ Complete f.program f.trace.run) }
     ensures fault { (fault at : ℕ) → IsErrOf result (JournalError.Fault fault at) → IsRunFault records.now fault at }
@@ -57,6 +62,7 @@ pub(crate) fn legal_run(
                 journal,
                 program: standing.program,
                 trace: standing.trace,
+                cursor: standing.cursor,
                 complete,
             }),
             Some(fault) => Err(fault.error()),

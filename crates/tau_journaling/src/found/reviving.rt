@@ -7,7 +7,7 @@ ghost use Rattle.tau_journal.specs.Disk.Moments.{LeavesOnly, IsUntouched};
 ghost use Rattle.tau_journal.specs.Records.{IsAtRest, going_on};
 ghost use Rattle.tau_journal.specs.Room.{most_bytes, too_large, IsUnlessSmall};
 ghost use Rattle.tau_journal.specs.Gates.{gate_of};
-ghost use Rattle.tau_revival.specs.Revival.{IsRevival, IsScriptFull};
+ghost use Rattle.tau_revival.specs.Revival.{IsRevival, IsScriptFull, LeadsOn};
 ghost use Rattle.tau_run_journal.specs.Standing.{StandsAt};
 ghost use Rattle.tau_journaling.specs.Found.Reviving.{StandsForRevival, IsReviveFault};
 
@@ -16,6 +16,7 @@ use tau_journal::disk::Disk;
 use tau_journal::{Journal, JournalError};
 use tau_revival::ReviveError;
 use tau_run_journal::keep_mark;
+use tau_script::Cursor;
 use tau_trace::Trace;
 use tau_tree::Program;
 
@@ -29,8 +30,8 @@ pub struct Revived {
     pub program: Program,
 }
 
-/// Revives the program that a journal stands for by its trace, and marks the journal, so that it stands for the revival
-/// (docs/journal.md, "Going on").
+/// Revives the program that a journal stands for by its trace, and by the cursor of its script there, as both were found, and marks the
+/// journal, so that it stands for the revival (docs/journal.md, "Going on").
 ///
 /// Fault 6 comes where the script has no room for one entry more for each node, at the number of its entries; otherwise 8
 /// where the disk has too many bytes, or would have. Both come before anything is written. DiskFault comes only where the
@@ -41,8 +42,10 @@ pub fn revive<D: Disk>(
     disk: &mut D,
     program: &Program,
     trace: &Trace,
+    cursor: Cursor,
 ) -> Result<Revived, JournalError>
     requires sound { Sound program.now }
+    requires cursor { LeadsOn program.now.script trace.now.run cursor }
     requires rest { IsAtRest (D.bytes disk.old) (D.images disk.old) (gate_of journal) }
 
     // Where the disk stands for the program, it stands for the revival, whatever crash comes then.
@@ -71,7 +74,7 @@ pub fn revive<D: Disk>(
     ensures disk_fault { IsErrOf result JournalError.DiskFault → HasRisen (D.faults disk.old) (D.faults disk.new) }
     ensures never_falls { D.faults disk.old ≤ D.faults disk.new }
 {
-    let revived = revived_program(alloc, program, trace)?;
+    let revived = revived_program(alloc, program, trace, cursor)?;
     let marked = keep_mark(journal, alloc, disk)?;
     Ok(Revived {
         journal: marked,
@@ -80,8 +83,14 @@ pub fn revive<D: Disk>(
 }
 
 /// The revived program; fault 6 where its script would have too many entries.
-fn revived_program(alloc: Global, program: &Program, trace: &Trace) -> Result<Program, JournalError>
-    requires { Sound program.now }
+fn revived_program(
+    alloc: Global,
+    program: &Program,
+    trace: &Trace,
+    mut cursor: Cursor,
+) -> Result<Program, JournalError>
+    requires sound { Sound program.now }
+    requires cursor { LeadsOn program.now.script trace.now.run cursor }
     ensures revival { IfOk result (IsRevival program.now trace.now.run) }
     ensures sound { IfOk result Sound }
     ensures legal { IfOk result (λ q. Legal program.now trace.now.run ↔ Legal q trace.now.run) }
@@ -89,7 +98,7 @@ fn revived_program(alloc: Global, program: &Program, trace: &Trace) -> Result<Pr
     ensures full { (n : ℕ) → IsScriptFull program.now n → result ≡ Err (JournalError.Fault 6 n) }
     ensures no_disk { IsErrOf result JournalError.DiskFault → ⊥ }
 {
-    match tau_revival::revive(alloc, program, trace) {
+    match tau_revival::revive(alloc, program, trace, &mut cursor) {
         Ok(revived) => Ok(revived),
         Err(ReviveError::ScriptFull { entries }) => Err(JournalError::Fault {
             fault: SCRIPT_FULL,

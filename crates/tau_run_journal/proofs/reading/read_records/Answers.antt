@@ -9,7 +9,7 @@ read_later-requires-clause-first c = some_text c.args.records.now c.in-Some.prog
 pub returns-in_ok-read_later-in-Some-clause-run : goal.returns-in_ok-read_later-in-Some-clause-run
 returns-in_ok-read_later-in-Some-clause-run c =
     let s = c.in_ok-read_later-in-Some.field-0 in
-    run_read c.args.records.now s.program s.trace.run s.fault c.in_ok-read_later-in-Some.ensures
+    run_read c.args.records.now s.program s.trace.run s.fault c.in_ok-read_later-in-Some.ensures.read
 
 pub returns-in-None-clause-fault : goal.returns-in-None-clause-fault
 returns-in-None-clause-fault c = λ fault at is. (
