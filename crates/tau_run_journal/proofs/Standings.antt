@@ -1,11 +1,10 @@
 -- What records stand for, one after another.
-use Rattle.std.proofs.Common.{◌≡◌, ◌≢◌, ◌⊎◌, ⊎_elim, Bool, true, false, is_some, ℕ, ◌+◌, ◌<◌, ◌≤◌, List, [], ◌∷◌, ◌++◌, length, get_or, take, Option, Some, None, refl, sym, ap, ◌∙◌, subst, arith}
+use Rattle.std.proofs.Common.{◌≡◌, ◌≢◌, ◌⊎◌, ⊎_elim, Bool, true, false, is_some, ℕ, ◌+◌, ◌<◌, ◌≤◌, List, [], ◌∷◌, ◌++◌, length, take, Option, Some, None, refl, sym, ap, ◌∙◌, subst, arith}
 use Rattle.std.specs.Prelude.{slice_get}
 use Rattle.std.proofs.lemmas.List.{take_more, take_all}
 use Rattle.std.proofs.lemmas.Option.{slice_get_within, get_or_from_slice_get}
 use Rattle.tau_sexpr.specs.Tree.{Tree}
 use Rattle.tau_sexpr.proofs.LawLemmas.{once}
-use Rattle.tau_value.specs.declared.limits.TheConstants.{STEP_LIMIT}
 use Rattle.tau_tree.specs.declared.programs.Program.{Program}
 use Rattle.tau_trace.specs.declared.opening.Opening.{Opening}
 use Rattle.tau_trace.specs.declared.step.Step.{Step}
@@ -26,7 +25,7 @@ use Rattle.tau_run_journal.specs.Standing.{form_behind, IsProgramText, IsStepTex
 use Rattle.tau_run_journal.specs.declared.faults.RecordFault.{RecordFault}
 use Rattle.tau_run_journal.specs.declared.faults.RecordFault.TheVariants.{Item, ScriptFull}
 use Rattle.tau_run_journal.specs.Laws.{IsRunOf}
-use Rattle.tau_run_journal.specs.Reading.{HasNoProgram, StandsTo, IsNoItem, IsReadAs}
+use Rattle.tau_run_journal.specs.Reading.{HasNoProgram, IsNoItem, IsReadAs}
 use Rattle.tau_run_journal.specs.Inner.Items.{IsItem, items_before, AreForms, IsLongest, MeansThere, AreSteps, front, IsReadTo, TakesRecord, TakesMark, TakesItem, IsTextAt, TellsProgram}
 use Rattle.tau_run_journal.proofs.ItemForms.{first_items, next_item, next_mark}
 use Rattle.tau_run_journal.proofs.Steps.{MeansNext, one_step}

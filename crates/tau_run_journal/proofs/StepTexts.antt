@@ -1,5 +1,5 @@
 -- The text of a step of a run.
-use Rattle.std.proofs.Common.{◌≡◌, ◌↔◌, true, Bool, ℕ, ◌<◌, ◌-◌, List, [], ◌∷◌, take, Option, Some, sym, ◌∙◌, ap, subst, arith}
+use Rattle.std.proofs.Common.{◌≡◌, ◌↔◌, true, Bool, ℕ, ◌<◌, ◌-◌, List, [], ◌∷◌, Option, Some, sym, ◌∙◌, ap, subst, arith}
 use Rattle.std.specs.Prelude.{option_map, IsTrue}
 use Rattle.std.proofs.lemmas.List.{take_at}
 use Rattle.std.proofs.lemmas.Option.{slice_get_within}

@@ -1,9 +1,8 @@
 -- Records stand for one program and one run at most.
-use Rattle.std.proofs.Common.{◌≡◌, ◌⊎◌, ⊎_elim, inl, inr, ℕ, ◌+◌, ◌<◌, ◌≤◌, List, [], ◌∷◌, ◌++◌, length, take, Some, refl, sym, ap, ◌∙◌, subst, arith, length-take, codes}
+use Rattle.std.proofs.Common.{◌≡◌, ◌⊎◌, ⊎_elim, ℕ, ◌+◌, ◌<◌, ◌≤◌, List, [], ◌∷◌, ◌++◌, length, take, Some, refl, sym, ap, ◌∙◌, subst, arith, codes}
 use Rattle.std.specs.Prelude.{slice_get, All}
 use Rattle.std.proofs.lemmas.List.{length_push, take_at, take-append-le}
 use Rattle.std.proofs.lemmas.List.Elements.{All-nil, All-cons}
-use Rattle.std.proofs.lemmas.Option.{slice_get_within}
 use Rattle.tau_sexpr.specs.Bytes.{IsWordByte, is_word_byte, is_letter_or_digit, is_word_sign}
 use Rattle.tau_sexpr.specs.Tree.{Tree, word, list, none, more, HasWords}
 use Rattle.tau_sexpr.specs.Printing.{printed, HasBytes}

@@ -1,8 +1,7 @@
-use Rattle.std.proofs.Common.{◌≡◌, ◌≢◌, true, sym, ◌∙◌, ◌++◌, ◌∷◌, []}
+use Rattle.std.proofs.Common.{◌≢◌, sym, ◌∙◌}
 use Rattle.std.proofs.lemmas.Bool.{false≢true}
 use Rattle.tau_sexpr.specs.Form.{tree_of}
 use Rattle.tau_journal.specs.Records.{going_on}
-use Rattle.tau_run_journal.specs.Inner.Items.{TellsForm, AddsItem}
 use Rattle.tau_run_journal.proofs.Answered.{if_ok_then}
 use Rattle.tau_run_journal.proofs.ItemForms.{adds_none, adds_form, adds_true, stops_there, form_told, no_form_told}
 use Rattle.tau_run_journal.proofs.items.add_item.Goals as goal

@@ -1,6 +1,6 @@
 use Rattle.tau_run_journal.specs.Inner.Items.{TellsForm}
 use Rattle.tau_run_journal.proofs.Answered.{if_ok_then}
-use Rattle.std.proofs.Common.{arith, rules, subst, sym, ◌∙◌, ◌≡◌, Some, [], ◌∷◌}
+use Rattle.std.proofs.Common.{rules, subst, sym, ◌∙◌, ◌≡◌, Some, [], ◌∷◌}
 use Rattle.std.specs.Prelude.{slice_get}
 use Rattle.tau_sexpr.specs.Form.{tree_of}
 use Rattle.tau_run_journal.proofs.ItemForms.{not_one, only_one, some_first, none_read}

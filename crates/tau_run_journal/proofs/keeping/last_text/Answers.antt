@@ -1,5 +1,4 @@
 use Rattle.std.proofs.Common.{◌-◌, ℕ, subst}
-use Rattle.tau_trace.specs.Run.{len}
 use Rattle.tau_run_journal.specs.Inner.Items.{IsTextAt}
 use Rattle.tau_run_journal.proofs.Answered.{if_ok_then}
 use Rattle.tau_run_journal.proofs.StepTexts.{last_text}

@@ -1,6 +1,5 @@
 use Rattle.std.proofs.Common.{◌≡◌, [], sym, ap, ◌∙◌, arith}
 use Rattle.tau_trace.specs.declared.opening.Opening.{Opening}
-use Rattle.tau_trace.specs.Run.{Run}
 use Rattle.tau_trace.proofs.Prefix.{run_of}
 use Rattle.tau_script.specs.Openings.{program_opening}
 use Rattle.tau_revival.proofs.Coming.{leads_first}

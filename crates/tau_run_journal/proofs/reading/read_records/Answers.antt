@@ -1,4 +1,4 @@
-use Rattle.std.proofs.Common.{◌≡◌, ℕ, List, subst}
+use Rattle.std.proofs.Common.{◌≡◌, subst}
 use Rattle.tau_run_journal.specs.Inner.Items.{TellsProgram}
 use Rattle.tau_run_journal.proofs.Standings.{no_text, some_text, run_read}
 use Rattle.tau_run_journal.proofs.reading.read_records.Goals as goal

@@ -1,8 +1,7 @@
-use Rattle.std.proofs.Common.{◌≡◌, true, sym, ap, ◌∙◌, arith}
+use Rattle.std.proofs.Common.{◌≡◌, sym, ap, ◌∙◌}
 use Rattle.std.proofs.lemmas.Bool.{false≢true}
 use Rattle.std.proofs.lemmas.Option.{slice_get_within}
-use Rattle.tau_trace.specs.declared.step.Step.{Step}
-use Rattle.tau_trace.specs.Run.{Run, len, appended}
+use Rattle.tau_trace.specs.Run.{Run, appended}
 use Rattle.tau_revival.proofs.Coming.{leads_next}
 use Rattle.tau_run_journal.specs.Inner.Items.{IsTextAt}
 use Rattle.tau_run_journal.proofs.Standings.{item_none, item_text, item_differs, item_goes_on, may_copied}

@@ -1,4 +1,4 @@
-use Rattle.std.proofs.Common.{◌≡◌, ◌≢◌, true, sym, ap, take, ◌∙◌}
+use Rattle.std.proofs.Common.{◌≢◌, sym, ap, take, ◌∙◌}
 use Rattle.std.proofs.lemmas.Bool.{false≢true}
 use Rattle.tau_trace.specs.Run.{Run}
 use Rattle.tau_journal.specs.Records.{going_on}
