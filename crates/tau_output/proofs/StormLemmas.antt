@@ -1,5 +1,5 @@
 -- What the command `storm` writes: the ends of the seeds, and the run texts of ends.
-use Rattle.std.proofs.Common.{◌≡◌, ◌≢◌, ◌⊎◌, inl, inr, ⊎_elim, Bool, ℕ, zero, suc, ◌<◌, ◌≤◌, ◌+◌, ◌∷◌, List, [], length, get_or, All, Some, None, refl, sym, ap, ◌∙◌, subst, arith}
+use Rattle.std.proofs.Common.{◌≡◌, ◌≢◌, ◌⊎◌, inl, inr, ⊎_elim, Bool, ℕ, zero, suc, ◌<◌, ◌≤◌, ◌+◌, ◌∷◌, List, [], length, get_or, All, Option, Some, None, IfSome, refl, sym, ap, ◌∙◌, subst, arith}
 use Rattle.std.specs.Prelude.{slice_get, Contains, option_map}
 use Rattle.std.proofs.lemmas.Option.{slice_get-map, slice_get-get_or}
 use Rattle.std.proofs.lemmas.List.Elements.{All-contains, All-map, All-weaker, All-contains_itself, Contains-append_left, Contains-append_right, Contains-append_cases}
@@ -165,30 +165,26 @@ sound_with : (numbers : StormNumbers) (P : Program) (some : List RunEnd) (o : Ou
 sound_with numbers P some o s = subst Sound (sym s.made.program_is) s.made.sound
 
 -- the program with the script of an outcome is sound
-pub sound_shown : (S : Setting) (numbers : StormNumbers) (P : Program) (outcomes : List Outcome) (totals : Totals) (number : ℕ) (o : Outcome) → S ≡ setting_of numbers → Sound P → IsSetting (setting_of numbers)
-    → storms.HasOutcomes S P numbers.seed numbers.seeds outcomes totals → slice_get outcomes number ≡ Some o → Sound (record P { script = o.script })
-sound_shown S numbers P outcomes totals number o same sound setting told stands =
-    let h = subst (λ (X : Setting). storms.HasOutcomes X P numbers.seed numbers.seeds outcomes totals) same told in
+pub sound_shown : (numbers : StormNumbers) (P : Program) (outcomes : List Outcome) (totals : Totals) (number : ℕ) (o : Outcome) → Sound P → IsSetting (setting_of numbers)
+    → storms.HasOutcomes (setting_of numbers) P numbers.seed numbers.seeds outcomes totals → slice_get outcomes number ≡ Some o → Sound (record P { script = o.script })
+sound_shown numbers P outcomes totals number o sound setting h stands =
     sound_with numbers P h.ends o (shown_of numbers P h.ends h.ends outcomes number o sound setting h.are (λ e c. c) h.outcomes_are stands)
 
 -- ---- what is written
 
-pub tells : (S : Setting) (numbers : StormNumbers) (P : Program) (outcomes : List Outcome) (totals : Totals) (bytes text : List ℕ) → S ≡ setting_of numbers → Sound P → IsSetting (setting_of numbers)
-    → storms.HasOutcomes S P numbers.seed numbers.seeds outcomes totals → text ≡ storm_text numbers.seeds totals outcomes → IsProgram bytes P → TellsOutcomes numbers bytes Done text
-tells S numbers P outcomes totals bytes text same sound setting told is_text spelled =
-    let h = subst (λ (X : Setting). storms.HasOutcomes X P numbers.seed numbers.seeds outcomes totals) same told in
+pub tells : (numbers : StormNumbers) (P : Program) (outcomes : List Outcome) (totals : Totals) (bytes text : List ℕ) → Sound P → IsSetting (setting_of numbers)
+    → storms.HasOutcomes (setting_of numbers) P numbers.seed numbers.seeds outcomes totals → text ≡ storm_text numbers.seeds totals outcomes → IsProgram bytes P → TellsOutcomes numbers bytes Done text
+tells numbers P outcomes totals bytes text sound setting h is_text spelled =
     record { has = has_outcomes numbers bytes P h.ends outcomes totals spelled sound setting h.are h.outcomes_are h.totals_are; is_text = is_text; ends = refl }
 
-pub lacks : (S : Setting) (numbers : StormNumbers) (P : Program) (outcomes : List Outcome) (totals : Totals) (number : ℕ) (bytes : List ℕ) → S ≡ setting_of numbers → Sound P → IsSetting (setting_of numbers)
-    → storms.HasOutcomes S P numbers.seed numbers.seeds outcomes totals → length outcomes ≤ number → IsProgram bytes P → LacksOutcome numbers number bytes
-lacks S numbers P outcomes totals number bytes same sound setting told few spelled =
-    let h = subst (λ (X : Setting). storms.HasOutcomes X P numbers.seed numbers.seeds outcomes totals) same told in
+pub lacks : (numbers : StormNumbers) (P : Program) (outcomes : List Outcome) (totals : Totals) (number : ℕ) (bytes : List ℕ) → Sound P → IsSetting (setting_of numbers)
+    → storms.HasOutcomes (setting_of numbers) P numbers.seed numbers.seeds outcomes totals → length outcomes ≤ number → IsProgram bytes P → LacksOutcome numbers number bytes
+lacks numbers P outcomes totals number bytes sound setting h few spelled =
     record { has = has_outcomes numbers bytes P h.ends outcomes totals spelled sound setting h.are h.outcomes_are h.totals_are; none = few }
 
-pub shows : (S : Setting) (numbers : StormNumbers) (P : Program) (outcomes : List Outcome) (totals : Totals) (number : ℕ) (o : Outcome) (bytes text : List ℕ) → S ≡ setting_of numbers → Sound P → IsSetting (setting_of numbers)
-    → storms.HasOutcomes S P numbers.seed numbers.seeds outcomes totals → slice_get outcomes number ≡ Some o → IsSerialText numbers o.seed (record P { script = o.script }) text → IsProgram bytes P → ShowsOutcome numbers number bytes Done text
-shows S numbers P outcomes totals number o bytes text same sound setting told stands serial spelled =
-    let h = subst (λ (X : Setting). storms.HasOutcomes X P numbers.seed numbers.seeds outcomes totals) same told in
+pub shows : (numbers : StormNumbers) (P : Program) (outcomes : List Outcome) (totals : Totals) (number : ℕ) (o : Outcome) (bytes text : List ℕ) → Sound P → IsSetting (setting_of numbers)
+    → storms.HasOutcomes (setting_of numbers) P numbers.seed numbers.seeds outcomes totals → slice_get outcomes number ≡ Some o → IsSerialText numbers o.seed (record P { script = o.script }) text → IsProgram bytes P → ShowsOutcome numbers number bytes Done text
+shows numbers P outcomes totals number o bytes text sound setting h stands serial spelled =
     let shown = shown_of numbers P h.ends h.ends outcomes number o sound setting h.are (λ e c. c) h.outcomes_are stands in
     record {
       has = has_outcomes numbers bytes P h.ends outcomes totals spelled sound setting h.are h.outcomes_are h.totals_are;
@@ -208,17 +204,21 @@ first_shown numbers P behaviour ends first sound setting are b =
     shown_of numbers P ends b.broken (first ∷ b.others) 0 first sound setting are (λ e c. (broken_each behaviour ends b.broken e b.broken_are c).0) b.outcomes_are refl
 
 -- the program with the script of the first outcome at which the claim is broken is sound
-pub sound_broken : (S : Setting) (numbers : StormNumbers) (P : Program) (behaviour : ℕ) (outcomes : List Outcome) (totals : Totals) (first : Outcome) → S ≡ setting_of numbers → Sound P → IsSetting (setting_of numbers)
-    → HasTried S P numbers.seed numbers.seeds behaviour outcomes totals (Some first) → Sound (record P { script = first.script })
-sound_broken S numbers P behaviour outcomes totals first same sound setting told =
-    let h = subst (λ (X : Setting). HasTried X P numbers.seed numbers.seeds behaviour outcomes totals (Some first)) same told in
+sound_broken : (numbers : StormNumbers) (P : Program) (behaviour : ℕ) (outcomes : List Outcome) (totals : Totals) (first : Outcome) → Sound P → IsSetting (setting_of numbers)
+    → HasTried (setting_of numbers) P numbers.seed numbers.seeds behaviour outcomes totals (Some first) → Sound (record P { script = first.script })
+sound_broken numbers P behaviour outcomes totals first sound setting h =
     sound_with numbers P h.tried.broken first (first_shown numbers P behaviour h.ends first sound setting h.are h.tried)
 
-pub breaks_claim : (S : Setting) (numbers : StormNumbers) (P : Program) (behaviour : ℕ) (outcomes : List Outcome) (totals : Totals) (first : Outcome) (name bytes text : List ℕ) → S ≡ setting_of numbers → Sound P → IsSetting (setting_of numbers)
-    → slice_get (behaviour_names P) behaviour ≡ Some name → HasTried S P numbers.seed numbers.seeds behaviour outcomes totals (Some first) → IsSerialText numbers first.seed (record P { script = first.script }) text → IsProgram bytes P
+-- so it is with the first broken outcome, if there is one
+pub sound_first : (numbers : StormNumbers) (P : Program) (behaviour : ℕ) (outcomes : List Outcome) (totals : Totals) (first : Option Outcome) → Sound P → IsSetting (setting_of numbers)
+    → HasTried (setting_of numbers) P numbers.seed numbers.seeds behaviour outcomes totals first → IfSome first (λ o. Sound (record P { script = o.script }))
+sound_first numbers P behaviour outcomes totals None sound setting h = tt
+sound_first numbers P behaviour outcomes totals (Some first) sound setting h = sound_broken numbers P behaviour outcomes totals first sound setting h
+
+pub breaks_claim : (numbers : StormNumbers) (P : Program) (behaviour : ℕ) (outcomes : List Outcome) (totals : Totals) (first : Outcome) (name bytes text : List ℕ) → Sound P → IsSetting (setting_of numbers)
+    → slice_get (behaviour_names P) behaviour ≡ Some name → HasTried (setting_of numbers) P numbers.seed numbers.seeds behaviour outcomes totals (Some first) → IsSerialText numbers first.seed (record P { script = first.script }) text → IsProgram bytes P
     → TriesClaim numbers name bytes Claimed text
-breaks_claim S numbers P behaviour outcomes totals first name bytes text same sound setting named told serial spelled =
-    let h = subst (λ (X : Setting). HasTried X P numbers.seed numbers.seeds behaviour outcomes totals (Some first)) same told in
+breaks_claim numbers P behaviour outcomes totals first name bytes text sound setting named h serial spelled =
     let b = h.tried in
     let shown = first_shown numbers P behaviour h.ends first sound setting h.are b in
     record {
@@ -237,11 +237,10 @@ breaks_claim S numbers P behaviour outcomes totals first name bytes text same so
       };
     }
 
-pub keeps_claim : (S : Setting) (numbers : StormNumbers) (P : Program) (behaviour : ℕ) (outcomes : List Outcome) (totals : Totals) (name bytes text : List ℕ) → S ≡ setting_of numbers → Sound P → IsSetting (setting_of numbers)
-    → slice_get (behaviour_names P) behaviour ≡ Some name → HasTried S P numbers.seed numbers.seeds behaviour outcomes totals None → text ≡ printed (totals_form numbers.seeds totals (length outcomes) ∷ []) → IsProgram bytes P
+pub keeps_claim : (numbers : StormNumbers) (P : Program) (behaviour : ℕ) (outcomes : List Outcome) (totals : Totals) (name bytes text : List ℕ) → Sound P → IsSetting (setting_of numbers)
+    → slice_get (behaviour_names P) behaviour ≡ Some name → HasTried (setting_of numbers) P numbers.seed numbers.seeds behaviour outcomes totals None → text ≡ printed (totals_form numbers.seeds totals (length outcomes) ∷ []) → IsProgram bytes P
     → TriesClaim numbers name bytes Done text
-keeps_claim S numbers P behaviour outcomes totals name bytes text same sound setting named told is_text spelled =
-    let h = subst (λ (X : Setting). HasTried X P numbers.seed numbers.seeds behaviour outcomes totals None) same told in
+keeps_claim numbers P behaviour outcomes totals name bytes text sound setting named h is_text spelled =
     record {
       has = has_outcomes numbers bytes P h.ends outcomes totals spelled sound setting h.are h.outcomes_are h.totals_are;
       behaviour = behaviour;

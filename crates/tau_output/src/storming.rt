@@ -11,7 +11,7 @@ ghost use Rattle.tau_output.specs.Faults.{input_limit};
 ghost use Rattle.tau_output.specs.Refusals.{TellsFault, TellsLacking};
 ghost use Rattle.tau_output.specs.Asking.{AsksInVain};
 ghost use Rattle.tau_output.specs.Storming.{setting_of as setting_by, StormsAs, TellsOutcomes, ShowsOutcome, TriesClaim, LacksOutcome};
-ghost use Rattle.tau_output.specs.Inner.Storms.{IsSerialText};
+ghost use Rattle.tau_output.specs.Inner.Storms.{IsSerialText, IsTold, IsTrialOf};
 
 use crate::running::write_run;
 use crate::{End, Output, Refusal, Wanted};
@@ -19,7 +19,7 @@ use std::alloc::{AllocError, Global};
 use tau_book::run_serially;
 use tau_command::{Line, Question, StormNumbers};
 use tau_faults::{FaultCounts, Setting};
-use tau_storm::{storm, storm_text, totals_text, try_claim};
+use tau_storm::{Told, Tried, storm, storm_text, totals_text, try_claim};
 use tau_text::read_program;
 use tau_tree::{Behaviour, Program, Script};
 use tau_workers::OpenGate;
@@ -95,10 +95,7 @@ fn outcomes_output(
         numbers.seeds,
         &OpenGate,
     )?;
-    Ok(Output {
-        text: storm_text(alloc, u64::from(numbers.seeds), told.totals, &told.outcomes)?,
-        end: End::Done,
-    })
+    tell_outcomes(alloc, numbers, &told)
 }
 
 /// The run text of the simplest run with an outcome; `None` where there is no outcome of this number. The error is want of memory.
@@ -122,14 +119,7 @@ fn shown_output(
         numbers.seeds,
         &OpenGate,
     )?;
-    let outcomes = told.outcomes.items();
-    match outcomes.get(outcome as usize) {
-        Some(shown) => Ok(Some(Output {
-            text: run_text_with(alloc, program, numbers, shown.seed, &shown.script)?,
-            end: End::Done,
-        })),
-        None => Ok(None),
-    }
+    show_outcome(alloc, program, numbers, &told, outcome)
 }
 
 /// Whether a behaviour holds as a claim at each end of the storm of a program; `None` where the program has none of this name. The error
@@ -158,12 +148,70 @@ fn claim_output(
         behaviour,
         &OpenGate,
     )?;
-    match &tried.broken {
+    Ok(Some(tell_trial(alloc, program, numbers, &tried)?))
+}
+
+/// What is written of the outcomes of a storm. The error is want of memory.
+pub(crate) fn tell_outcomes(
+    alloc: Global,
+    numbers: &StormNumbers,
+    told: &Told,
+) -> Result<Output, AllocError>
+    requires { IsSetting (setting_by numbers.now) }
+    ensures { IfOk result (λ o. (P : Program) (bytes : List ℕ) → Sound P → IsTold numbers.now P told.now → IsProgram bytes P
+        → TellsOutcomes numbers.now bytes o.end o.text.items) }
+{
+    Ok(Output {
+        text: storm_text(alloc, u64::from(numbers.seeds), told.totals, &told.outcomes)?,
+        end: End::Done,
+    })
+}
+
+/// What is written of one outcome of a storm: the run text of the simplest run with it; `None` where there is no outcome of this number. The
+/// error is want of memory.
+pub(crate) fn show_outcome(
+    alloc: Global,
+    program: &mut Program,
+    numbers: &StormNumbers,
+    told: &Told,
+    outcome: u32,
+) -> Result<Option<Output>, AllocError>
+    requires sound { Sound program.old }
+    requires setting { IsSetting (setting_by numbers.now) }
+    requires told { IsTold numbers.now program.old told.now }
+    ensures shown { IfOk result (λ r. IfSome r (λ o. (bytes : List ℕ) → IsProgram bytes program.old → ShowsOutcome numbers.now outcome bytes o.end o.text.items)) }
+    ensures lacks { IfOk result (λ r. r ≡ None → (bytes : List ℕ) → IsProgram bytes program.old → LacksOutcome numbers.now outcome bytes) }
+{
+    let outcomes = told.outcomes.items();
+    match outcomes.get(outcome as usize) {
         Some(shown) => Ok(Some(Output {
             text: run_text_with(alloc, program, numbers, shown.seed, &shown.script)?,
-            end: End::Claimed,
+            end: End::Done,
         })),
-        None => Ok(Some(Output {
+        None => Ok(None),
+    }
+}
+
+/// What is written of a storm in which a behaviour was tried as a claim: the totals where it holds at each end, and otherwise the run text
+/// of the simplest run of the first broken outcome. The error is want of memory.
+pub(crate) fn tell_trial(
+    alloc: Global,
+    program: &mut Program,
+    numbers: &StormNumbers,
+    tried: &Tried,
+) -> Result<Output, AllocError>
+    requires sound { Sound program.old }
+    requires setting { IsSetting (setting_by numbers.now) }
+    requires broken { IfSome tried.now.broken (λ shown. Sound (record program.old { script = shown.script })) }
+    ensures { IfOk result (λ o. (behaviour : ℕ) (name bytes : List ℕ) → slice_get (behaviour_names program.old) behaviour ≡ Some name
+        → IsTrialOf numbers.now program.old behaviour tried.now → IsProgram bytes program.old → TriesClaim numbers.now name bytes o.end o.text.items) }
+{
+    match &tried.broken {
+        Some(shown) => Ok(Output {
+            text: run_text_with(alloc, program, numbers, shown.seed, &shown.script)?,
+            end: End::Claimed,
+        }),
+        None => Ok(Output {
             text: totals_text(
                 alloc,
                 u64::from(numbers.seeds),
@@ -171,7 +219,7 @@ fn claim_output(
                 tried.told.outcomes.len() as u64,
             )?,
             end: End::Done,
-        })),
+        }),
     }
 }
 
@@ -198,7 +246,7 @@ fn is_named(behaviour: &Behaviour, name: &Line) -> bool
 }
 
 /// The run text of the serial run with a seed of the program with another script. The error is want of memory.
-pub(crate) fn run_text_with(
+fn run_text_with(
     alloc: Global,
     program: &mut Program,
     numbers: &StormNumbers,

@@ -11,14 +11,13 @@ ghost use Rattle.tau_output.specs.Faults.{input_limit};
 ghost use Rattle.tau_output.specs.Refusals.{TellsFault, TellsLacking};
 ghost use Rattle.tau_output.specs.Asking.{AsksInVain};
 ghost use Rattle.tau_output.specs.Storming.{setting_of as setting_by, StormsAs, TellsOutcomes, ShowsOutcome, TriesClaim, LacksOutcome};
-ghost use Rattle.tau_output.specs.Inner.Storms.{IsSerialText};
 
-use crate::storming::{behaviour_named, run_text_with, setting_of};
-use crate::{End, Output, Refusal, Wanted};
+use crate::storming::{behaviour_named, setting_of, show_outcome, tell_outcomes, tell_trial};
+use crate::{Output, Refusal, Wanted};
 use std::alloc::{AllocError, Global};
 use std::thread::Threads;
 use tau_command::{Line, Question, StormNumbers};
-use tau_storm::{Watch, storm_by_threads, storm_text, totals_text, try_claim_by_threads};
+use tau_storm::{Watch, storm_by_threads, try_claim_by_threads};
 use tau_text::read_program;
 use tau_tree::Program;
 
@@ -94,10 +93,7 @@ fn outcomes_by_workers<R: Threads + Sync, W: Watch + Sync>(
         workers,
         watch,
     )?;
-    Ok(Output {
-        text: storm_text(alloc, u64::from(numbers.seeds), told.totals, &told.outcomes)?,
-        end: End::Done,
-    })
+    tell_outcomes(alloc, numbers, &told)
 }
 
 /// The run text of the simplest run with an outcome; `None` where there is no outcome of this number. The error is want of memory.
@@ -127,14 +123,7 @@ fn shown_by_workers<R: Threads + Sync, W: Watch + Sync>(
         workers,
         watch,
     )?;
-    let outcomes = told.outcomes.items();
-    match outcomes.get(outcome as usize) {
-        Some(shown) => Ok(Some(Output {
-            text: run_text_with(alloc, program, numbers, shown.seed, &shown.script)?,
-            end: End::Done,
-        })),
-        None => Ok(None),
-    }
+    show_outcome(alloc, program, numbers, &told, outcome)
 }
 
 /// Whether a behaviour holds as a claim at each end of the storm of a program; `None` where the program has none of this name. The error
@@ -169,19 +158,5 @@ fn claim_by_workers<R: Threads + Sync, W: Watch + Sync>(
         behaviour,
         watch,
     )?;
-    match &tried.broken {
-        Some(shown) => Ok(Some(Output {
-            text: run_text_with(alloc, program, numbers, shown.seed, &shown.script)?,
-            end: End::Claimed,
-        })),
-        None => Ok(Some(Output {
-            text: totals_text(
-                alloc,
-                u64::from(numbers.seeds),
-                tried.told.totals,
-                tried.told.outcomes.len() as u64,
-            )?,
-            end: End::Done,
-        })),
-    }
+    Ok(Some(tell_trial(alloc, program, numbers, &tried)?))
 }

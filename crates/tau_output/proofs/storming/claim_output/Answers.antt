@@ -1,47 +1,34 @@
-use Rattle.std.proofs.Common.{◌≡◌, ◌∙◌, ◌∷◌, [], ℕ, Option, Some, None, IfSome, sym, subst}
+use Rattle.std.proofs.Common.{◌≡◌, ℕ, List, Option, Some, IfSome, sym, subst}
 use Rattle.std.specs.Prelude.{slice_get}
-use Rattle.tau_sexpr.specs.Printing.{printed}
 use Rattle.tau_tree.specs.declared.programs.Program.{Program}
 use Rattle.tau_tree.specs.Sound.{Sound, behaviour_names}
-use Rattle.tau_storm.specs.declared.outcomes.Outcome.{Outcome}
+use Rattle.tau_faults.specs.declared.setting.Setting.{Setting}
 use Rattle.tau_storm.specs.Storms.{HasTried}
-use Rattle.tau_storm.specs.Lines.{totals_form}
-use Rattle.tau_output.specs.Inner.Storms.{IsSerialText}
-use Rattle.tau_output.proofs.StormLemmas.{sound_broken, breaks_claim, keeps_claim}
+use Rattle.tau_text.specs.Meaning.{IsProgram}
+use Rattle.tau_output.specs.Storming.{TriesClaim}
+use Rattle.tau_output.specs.Inner.Storms.{IsTrialOf}
+use Rattle.tau_output.proofs.StormLemmas.{sound_first}
 use Rattle.tau_output.proofs.storming.claim_output.Goals as goal
 
-pub run_text_with-requires-clause-sound : goal.run_text_with-requires-clause-sound
-run_text_with-requires-clause-sound c =
-    let tried = c.in_ok-tried in
-    let shown = c.in-Some-broken.shown in
-    let S = c.setting_of-setting.result in
-    let n = c.args.numbers.now in
-    let P = c.args.program.now in
-    let told = subst (λ (o : Option Outcome). HasTried S P n.seed n.seeds c.in-Some.behaviour tried.tried.told.outcomes tried.tried.told.totals o) c.in-Some-broken.is tried.ensures.tried in
-    subst (λ (Q : Program). Sound (record Q { script = shown.script })) (sym tried.ensures.program)
-    (sound_broken S n P c.in-Some.behaviour tried.tried.told.outcomes tried.tried.told.totals shown c.setting_of-setting.ensures c.requires.sound c.requires.setting told)
+pub tell_trial-requires-clause-sound : goal.tell_trial-requires-clause-sound
+tell_trial-requires-clause-sound c = subst Sound (sym c.in_ok-tried.ensures.program) c.requires.sound
 
-pub returns-in-Some-broken-clause-tried : goal.returns-in-Some-broken-clause-tried
-returns-in-Some-broken-clause-tried c = λ bytes spelled.
-    let tried = c.in_ok-tried in
-    let shown = c.in-Some-broken.shown in
-    let S = c.setting_of-setting.result in
+pub tell_trial-requires-clause-broken : goal.tell_trial-requires-clause-broken
+tell_trial-requires-clause-broken c =
+    let t = c.in_ok-tried.tried in
     let n = c.args.numbers.now in
     let P = c.args.program.now in
-    let text = c.in_ok-run_text_with-in-Some-broken.field-0.items in
-    let named = subst (λ (o : Option ℕ). IfSome o (λ b. slice_get (behaviour_names P) b ≡ Some c.args.name.now)) c.in-Some.is c.behaviour_named.ensures.named in
-    let told = subst (λ (o : Option Outcome). HasTried S P n.seed n.seeds c.in-Some.behaviour tried.tried.told.outcomes tried.tried.told.totals o) c.in-Some-broken.is tried.ensures.tried in
-    let serial = subst (λ (Q : Program). IsSerialText n shown.seed (record Q { script = shown.script }) text) tried.ensures.program c.in_ok-run_text_with-in-Some-broken.ensures in
-    breaks_claim S n P c.in-Some.behaviour tried.tried.told.outcomes tried.tried.told.totals shown c.args.name.now bytes text c.setting_of-setting.ensures c.requires.sound c.requires.setting named told serial spelled
+    let told = subst (λ (S : Setting). HasTried S P n.seed n.seeds c.in-Some.behaviour t.told.outcomes t.told.totals t.broken) c.setting_of-setting.ensures c.in_ok-tried.ensures.tried in
+    subst (λ (Q : Program). IfSome t.broken (λ o. Sound (record Q { script = o.script }))) (sym c.in_ok-tried.ensures.program)
+    (sound_first n P c.in-Some.behaviour t.told.outcomes t.told.totals t.broken c.requires.sound c.requires.setting told)
 
 pub returns-clause-tried : goal.returns-clause-tried
 returns-clause-tried c = λ bytes spelled.
-    let tried = c.in_ok-tried in
-    let S = c.setting_of-setting.result in
+    let t = c.in_ok-tried.tried in
+    let o = c.in_ok-tell_trial.field-0 in
     let n = c.args.numbers.now in
     let P = c.args.program.now in
-    let text = c.in_ok-totals_text-in-None.field-0.items in
-    let named = subst (λ (o : Option ℕ). IfSome o (λ b. slice_get (behaviour_names P) b ≡ Some c.args.name.now)) c.in-Some.is c.behaviour_named.ensures.named in
-    let told = subst (λ (o : Option Outcome). HasTried S P n.seed n.seeds c.in-Some.behaviour tried.tried.told.outcomes tried.tried.told.totals o) c.in-None.is tried.ensures.tried in
-    let is_text = c.in_ok-totals_text-in-None.ensures ∙ (λ i. printed (totals_form (c.from.ensures i) tried.tried.told.totals (c.len.ensures i) ∷ [])) in
-    keeps_claim S n P c.in-Some.behaviour tried.tried.told.outcomes tried.tried.told.totals c.args.name.now bytes text c.setting_of-setting.ensures c.requires.sound c.requires.setting named told is_text spelled
+    let told = subst (λ (S : Setting). HasTried S P n.seed n.seeds c.in-Some.behaviour t.told.outcomes t.told.totals t.broken) c.setting_of-setting.ensures c.in_ok-tried.ensures.tried in
+    let named = subst (λ (b : Option ℕ). IfSome b (λ k. slice_get (behaviour_names P) k ≡ Some c.args.name.now)) c.in-Some.is c.behaviour_named.ensures.named in
+    let tells = subst (λ (Q : Program). (behaviour : ℕ) (name bytes : List ℕ) → slice_get (behaviour_names Q) behaviour ≡ Some name → IsTrialOf n Q behaviour t → IsProgram bytes Q → TriesClaim n name bytes o.end o.text.items) c.in_ok-tried.ensures.program c.in_ok-tell_trial.ensures in
+    tells c.in-Some.behaviour c.args.name.now bytes named told spelled

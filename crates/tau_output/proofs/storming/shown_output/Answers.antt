@@ -1,31 +1,29 @@
-use Rattle.std.proofs.Common.{◌≡◌, Some, length, ap, sym, subst, arith}
-use Rattle.std.specs.Prelude.{slice_get}
+use Rattle.std.proofs.Common.{ℕ, List, IfOk, IfSome, ◌≡◌, None, sym, subst}
 use Rattle.tau_tree.specs.declared.programs.Program.{Program}
 use Rattle.tau_tree.specs.Sound.{Sound}
-use Rattle.tau_storm.proofs.ClaimLemmas.{element_at}
-use Rattle.tau_output.specs.Inner.Storms.{IsSerialText}
-use Rattle.tau_output.proofs.StormLemmas.{sound_shown, shows, lacks}
+use Rattle.tau_faults.specs.declared.setting.Setting.{Setting}
+use Rattle.tau_storm.specs.Storms.{HasOutcomes}
+use Rattle.tau_text.specs.Meaning.{IsProgram}
+use Rattle.tau_output.specs.Storming.{ShowsOutcome, LacksOutcome}
+use Rattle.tau_output.specs.Inner.Storms.{IsTold}
 use Rattle.tau_output.proofs.storming.shown_output.Goals as goal
 
-pub run_text_with-requires-clause-sound : goal.run_text_with-requires-clause-sound
-run_text_with-requires-clause-sound c =
-    let told = c.in_ok-told in
-    let shown = c.in-Some.shown.now in
-    let at : slice_get told.told.outcomes c.args.outcome ≡ Some shown = element_at c.items-outcomes.result.now told.told.outcomes c.args.outcome shown c.items-outcomes.ensures c.in-Some.ensures.lookup.3.0 c.in-Some.ensures.lookup.1 in
-    subst (λ (Q : Program). Sound (record Q { script = shown.script })) (sym told.ensures.program)
-    (sound_shown c.setting_of-setting.result c.args.numbers.now c.args.program.now told.told.outcomes told.told.totals c.args.outcome shown c.setting_of-setting.ensures c.requires.sound c.requires.setting told.ensures.told at)
+pub show_outcome-requires-clause-sound : goal.show_outcome-requires-clause-sound
+show_outcome-requires-clause-sound c = subst Sound (sym c.in_ok-told.ensures.program) c.requires.sound
 
-pub returns-in-Some-clause-shown : goal.returns-in-Some-clause-shown
-returns-in-Some-clause-shown c = λ bytes spelled.
-    let told = c.in_ok-told in
-    let shown = c.in-Some.shown.now in
-    let at : slice_get told.told.outcomes c.args.outcome ≡ Some shown = element_at c.items-outcomes.result.now told.told.outcomes c.args.outcome shown c.items-outcomes.ensures c.in-Some.ensures.lookup.3.0 c.in-Some.ensures.lookup.1 in
-    let text = c.in_ok-run_text_with-in-Some.field-0.items in
-    let serial = subst (λ (Q : Program). IsSerialText c.args.numbers.now shown.seed (record Q { script = shown.script }) text) told.ensures.program c.in_ok-run_text_with-in-Some.ensures in
-    shows c.setting_of-setting.result c.args.numbers.now c.args.program.now told.told.outcomes told.told.totals c.args.outcome shown bytes text c.setting_of-setting.ensures c.requires.sound c.requires.setting told.ensures.told at serial spelled
+pub show_outcome-requires-clause-told : goal.show_outcome-requires-clause-told
+show_outcome-requires-clause-told c =
+    let t = c.in_ok-told.told in
+    let n = c.args.numbers.now in
+    let told = subst (λ (S : Setting). HasOutcomes S c.args.program.now n.seed n.seeds t.outcomes t.totals) c.setting_of-setting.ensures c.in_ok-told.ensures.told in
+    subst (λ (Q : Program). IsTold n Q t) (sym c.in_ok-told.ensures.program) told
+
+pub returns-clause-shown : goal.returns-clause-shown
+returns-clause-shown c =
+    subst (λ (Q : Program). IfOk c.show_outcome.result (λ r. IfSome r (λ o. (bytes : List ℕ) → IsProgram bytes Q → ShowsOutcome c.args.numbers.now c.args.outcome bytes o.end o.text.items)))
+    c.in_ok-told.ensures.program c.show_outcome.ensures.shown
 
 pub returns-clause-lacks : goal.returns-clause-lacks
-returns-clause-lacks c = λ none bytes spelled.
-    let told = c.in_ok-told in
-    lacks c.setting_of-setting.result c.args.numbers.now c.args.program.now told.told.outcomes told.told.totals c.args.outcome bytes c.setting_of-setting.ensures c.requires.sound c.requires.setting told.ensures.told
-    (omega (arith, c.in-None.ensures.lookup, ap length c.items-outcomes.ensures)) spelled
+returns-clause-lacks c =
+    subst (λ (Q : Program). IfOk c.show_outcome.result (λ r. r ≡ None → (bytes : List ℕ) → IsProgram bytes Q → LacksOutcome c.args.numbers.now c.args.outcome bytes))
+    c.in_ok-told.ensures.program c.show_outcome.ensures.lacks

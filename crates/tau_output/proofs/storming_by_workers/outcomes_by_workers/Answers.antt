@@ -1,10 +1,13 @@
-use Rattle.std.proofs.Common.{◌∙◌}
-use Rattle.tau_storm.specs.Lines.{storm_text}
-use Rattle.tau_output.proofs.StormLemmas.{tells}
+use Rattle.std.proofs.lemmas.Result.{IfOk-weaker}
+use Rattle.std.proofs.Common.{subst}
+use Rattle.tau_faults.specs.declared.setting.Setting.{Setting}
+use Rattle.tau_storm.specs.Storms.{HasOutcomes}
 use Rattle.tau_output.proofs.storming_by_workers.outcomes_by_workers.Goals as goal
 
 pub returns : goal.returns
-returns g c = λ bytes spelled.
-    let told = c.in_ok-told in
-    tells c.setting_of-setting.result c.args.numbers.now c.args.program.now told.told.outcomes told.told.totals bytes c.in_ok-storm_text.field-0.items c.setting_of-setting.ensures c.requires.sound c.requires.setting told.ensures.told
-    (c.in_ok-storm_text.ensures ∙ (λ i. storm_text (c.from.ensures i) told.told.totals told.told.outcomes)) spelled
+returns g c =
+    let t = c.in_ok-told.told in
+    let n = c.args.numbers.now in
+    let P = c.args.program.now in
+    let told = subst (λ (S : Setting). HasOutcomes S P n.seed n.seeds t.outcomes t.totals) c.setting_of-setting.ensures c.in_ok-told.ensures.told in
+    IfOk-weaker c.tell_outcomes.result _ _ (λ o tells bytes spelled. tells P bytes c.requires.sound told spelled) c.tell_outcomes.ensures
