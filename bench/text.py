@@ -99,4 +99,5 @@ def main():
             subprocess.run([sys.executable, os.path.abspath(__file__), source.name], check=True)
 
 
-main()
+if __name__ == "__main__":
+    main()
