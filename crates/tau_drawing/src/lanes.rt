@@ -4,6 +4,7 @@ mod lanes;
 mod names;
 mod nodes;
 
+pub(crate) use lanes::name_of;
 pub use lanes::put_lanes;
 pub use names::put_names;
 pub use nodes::put_nodes;

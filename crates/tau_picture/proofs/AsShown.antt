@@ -64,11 +64,11 @@ mark_same T k p a b s = λ i. line (codes "use") (undone_class (s.undone_is i) +
 row_same : (T : Run) (k : ℕ) (p : Spot) (a b : StepLook) → IsAlike a b → place_line k p ∷ row_line T k a p ∷ [] ≡ place_line k p ∷ row_line T k b p ∷ []
 row_same T k p a b s = λ i. place_line k p ∷ text_at (row_word (s.row_is i)) 54 (p.y + 4) (said (cut (bare_text T k ++ s.note_is i) 46) ∷ []) ∷ []
 
-ending_same : (plan : Plan) (rank x : ℕ) (o q : Option Ending) → EndAlike o q → ending_lines plan rank x o ≡ ending_lines plan rank x q
-ending_same plan rank x None None a = refl
-ending_same plan rank x None (Some e) a = absurd a
-ending_same plan rank x (Some e) None a = absurd a
-ending_same plan rank x (Some e) (Some f) a = λ i. end_lines plan rank x (a.0 i) (a.1 i)
+ending_same : (plan : Plan) (rank x : ℕ) (name : List ℕ) (o q : Option Ending) → EndAlike o q → ending_lines plan rank x name o ≡ ending_lines plan rank x name q
+ending_same plan rank x name None None a = refl
+ending_same plan rank x name None (Some e) a = absurd a
+ending_same plan rank x name (Some e) None a = absurd a
+ending_same plan rank x name (Some e) (Some f) a = λ i. end_lines plan rank x (a.0 i) name (a.1 i)
 
 module _ (T : Run) (plan : Plan) (looks others : Looks) (same : ShowsSame looks others) where
   strip_lane_as : (rank : ℕ) (ls : List Line) → IsStripLane T.opening.names plan looks rank ls → IsStripLane T.opening.names plan others rank ls
@@ -125,12 +125,12 @@ module _ (T : Run) (plan : Plan) (looks others : Looks) (same : ShowsSame looks 
   pub rows_as : (ls : List Line) → AreRows T plan looks.steps.items ls → AreRows T plan others.steps.items ls
   rows_as ls x = each_as (IsRow T plan looks.steps.items) (IsRow T plan others.steps.items) plan.window.from plan.window.to row_as ls x
 
-  end_as : (rank : ℕ) (ls : List Line) → IsEndAt plan looks rank ls → IsEndAt plan others rank ls
+  end_as : (rank : ℕ) (ls : List Line) → IsEndAt T.opening.names plan looks rank ls → IsEndAt T.opening.names plan others rank ls
   end_as rank ls a = record {
     lane = a.lane;
     at_rank = a.at_rank;
-    are = a.are ∙ ending_same plan rank (lane_x plan rank a.lane) (slice_get looks.ends.items rank) (slice_get others.ends.items rank) (same.ends_are rank);
+    are = a.are ∙ ending_same plan rank (lane_x plan rank a.lane) (who_text T.opening.names a.lane.who) (slice_get looks.ends.items rank) (slice_get others.ends.items rank) (same.ends_are rank);
   }
 
-  pub ends_as : (ls : List Line) → AreEndLines plan looks ls → AreEndLines plan others ls
-  ends_as ls a = record { lanes = a.lanes; lanes_are = each_as (IsEndAt plan looks) (IsEndAt plan others) 0 (length plan.lanes) end_as a.lanes a.lanes_are; are = a.are }
+  pub ends_as : (ls : List Line) → AreEndLines T plan looks ls → AreEndLines T plan others ls
+  ends_as ls a = record { lanes = a.lanes; lanes_are = each_as (IsEndAt T.opening.names plan looks) (IsEndAt T.opening.names plan others) 0 (length plan.lanes) end_as a.lanes a.lanes_are; are = a.are }

@@ -83,12 +83,12 @@ middle_parts P T plan looks o0 o1 o2 o3 o4 o5 o6 o7 o8 a b c d e f g h =
     }) a'
 
 pub rest_parts : (T : Run) (plan : Plan) (looks : Looks) (a : Asked) (o0 o1 o2 o3 o4 : List ℕ)
-    → Writes (AreCauseLines T plan looks (place_asked a) (cause_asked a)) o0 o1 → Writes (AreRows T plan looks.steps.items) o1 o2 → Writes (AreEndLines plan looks) o2 o3 → Writes (λ ls. ls ≡ key_lines plan) o3 o4
+    → Writes (AreCauseLines T plan looks (place_asked a) (cause_asked a)) o0 o1 → Writes (AreRows T plan looks.steps.items) o1 o2 → Writes (AreEndLines T plan looks) o2 o3 → Writes (λ ls. ls ≡ key_lines plan) o3 o4
     → Writes (AreRest T plan looks a) o0 o4
 rest_parts T plan looks asked o0 o1 o2 o3 o4 a b c d =
     let A = AreCauseLines T plan looks (place_asked asked) (cause_asked asked) in
     let B = AreRows T plan looks.steps.items in
-    let C = AreEndLines plan looks in
+    let C = AreEndLines T plan looks in
     let D : List Line → Type 0 = λ ls. ls ≡ key_lines plan in
     let c' = behind C D o2 o3 o4 c d in
     let b' = behind B (Then C D) o1 o2 o4 b c' in

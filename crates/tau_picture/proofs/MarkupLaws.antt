@@ -187,20 +187,21 @@ module _ (plan : Plan) where
 
   -- what may be kept
 
-  kept_elements : (rank x : ℕ) (o : Option Ending) → Elements (ending_lines plan rank x o)
-  kept_elements rank x None = tt
-  kept_elements rank x (Some e) =
+  kept_elements : (rank x : ℕ) (name : List ℕ) (o : Option Ending) → Elements (ending_lines plan rank x name o)
+  kept_elements rank x name None = tt
+  kept_elements rank x name (Some e) =
       let foot = (grid plan).foot + 11 in
-      (end_use e.look x foot (cut e.text.items 400), (end_mark e.look (end_x plan rank) (end_y plan rank), (end_text e.look (end_x plan rank + 12) (end_y plan rank + 4) (cut e.text.items 33), tt)))
+      (end_use e.look x foot (cut (name ++ e.text.items) 400), (end_mark e.look (end_x plan rank) (end_y plan rank), (end_text e.look (end_x plan rank + 12) (end_y plan rank + 4) (cut (cut_inside name 15 ++ e.text.items) 33), tt)))
 
-  end_elements : (looks : Looks) (rank : ℕ) (ls : List Line) → IsEndAt plan looks rank ls → Elements ls
-  end_elements looks rank ls a =
+  end_elements : (names : List (List ℕ)) (looks : Looks) (rank : ℕ) (ls : List Line) → IsEndAt names plan looks rank ls → Elements ls
+  end_elements names looks rank ls a =
       let x = lane_x plan rank a.lane in
+      let name = who_text names a.lane.who in
       let o = slice_get looks.ends.items rank in
-      as_elements ls (ending_lines plan rank x o) a.are (kept_elements rank x o)
+      as_elements ls (ending_lines plan rank x name o) a.are (kept_elements rank x name o)
 
-  ends_elements : (looks : Looks) (ls : List Line) → AreEndLines plan looks ls → Elements ls
-  ends_elements looks ls a = as_elements ls (heading_line plan ∷ a.lanes) a.are (refl, each_element (IsEndAt plan looks) 0 (length plan.lanes) (length plan.lanes) (omega arith) (λ k l lt p. end_elements looks k l p) a.lanes a.lanes_are)
+  ends_elements : (T : Run) (looks : Looks) (ls : List Line) → AreEndLines T plan looks ls → Elements ls
+  ends_elements T looks ls a = as_elements ls (heading_line plan ∷ a.lanes) a.are (refl, each_element (IsEndAt T.opening.names plan looks) 0 (length plan.lanes) (length plan.lanes) (omega arith) (λ k l lt p. end_elements T.opening.names looks k l p) a.lanes a.lanes_are)
 
   -- guides, marks and rows
 
@@ -304,7 +305,7 @@ module _ (P : Program) (T : Run) (from to : ℕ) (ask : Option ℕ) (lines : Lis
       let v = a.plan.window in
       let n = length a.plan.lanes in
       let looks = a.looks.steps.items in
-      let r = all_append IsElement a.rows a.ends (each_element (IsRow T a.plan looks) v.from v.to v.to (omega arith) (λ k l lt p. row_elements a.plan T looks k l p) a.rows a.rows_are) (ends_elements a.plan a.looks a.ends a.ends_are) in
+      let r = all_append IsElement a.rows a.ends (each_element (IsRow T a.plan looks) v.from v.to v.to (omega arith) (λ k l lt p. row_elements a.plan T looks k l p) a.rows a.rows_are) (ends_elements a.plan T a.looks a.ends a.ends_are) in
       let c = all_append IsElement a.chain (a.rows ++ a.ends) (chain_elements a.plan T a.looks ask a.cause a.chain a.chain_is) r in
       let w = all_append IsElement a.names (a.chain ++ (a.rows ++ a.ends)) (each_element (IsNamesLine T a.plan) 1 (count v / 50 + 1) (count v / 50 + 1) (omega arith) (λ k l lt p. names_elements a.plan T k l p) a.names a.names_are) c in
       let m = all_append IsElement a.marks (a.names ++ (a.chain ++ (a.rows ++ a.ends))) (each_element (IsMark T a.plan looks) v.from v.to v.to (omega arith) (λ k l lt p. mark_elements a.plan T looks k l p) a.marks a.marks_are) w in

@@ -89,13 +89,13 @@ module _ (T : Run) (plan : Plan) where
     pub state_lines_once : (ls ks : List Line) → AreStateLines T plan looks ls → AreStateLines T plan looks ks → ls ≡ ks
     state_lines_once ls ks x y = each_once (AreStatesAt T plan looks) 0 (length plan.lanes) (λ k ge lt l m p q. states_at_once k l m p q) ls ks x y
 
-    end_once : (rank : ℕ) (ls ks : List Line) → IsEndAt plan looks rank ls → IsEndAt plan looks rank ks → ls ≡ ks
+    end_once : (rank : ℕ) (ls ks : List Line) → IsEndAt T.opening.names plan looks rank ls → IsEndAt T.opening.names plan looks rank ks → ls ≡ ks
     end_once rank ls ks a b =
-        a.are ∙ ap (λ (l : Lane). ending_lines plan rank (lane_x plan rank l) (slice_get looks.ends.items rank)) (same_some (sym a.at_rank ∙ b.at_rank)) ∙ sym b.are
+        a.are ∙ ap (λ (l : Lane). ending_lines plan rank (lane_x plan rank l) (who_text T.opening.names l.who) (slice_get looks.ends.items rank)) (same_some (sym a.at_rank ∙ b.at_rank)) ∙ sym b.are
 
-    pub end_lines_once : (ls ks : List Line) → AreEndLines plan looks ls → AreEndLines plan looks ks → ls ≡ ks
+    pub end_lines_once : (ls ks : List Line) → AreEndLines T plan looks ls → AreEndLines T plan looks ks → ls ≡ ks
     end_lines_once ls ks a b =
-        let lanes : a.lanes ≡ b.lanes = each_once (IsEndAt plan looks) 0 (length plan.lanes) (λ k ge lt l m p q. end_once k l m p q) a.lanes b.lanes a.lanes_are b.lanes_are in
+        let lanes : a.lanes ≡ b.lanes = each_once (IsEndAt T.opening.names plan looks) 0 (length plan.lanes) (λ k ge lt l m p q. end_once k l m p q) a.lanes b.lanes a.lanes_are b.lanes_are in
         a.are ∙ ap (λ x. heading_line plan ∷ x) lanes ∙ sym b.are
 
     strip_lane_once : (rank : ℕ) (ls ks : List Line) → IsStripLane T.opening.names plan looks rank ls → IsStripLane T.opening.names plan looks rank ks → ls ≡ ks

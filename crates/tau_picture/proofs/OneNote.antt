@@ -147,11 +147,11 @@ module _ (P : Program) (T : Run) (cut : List Marked) where
   ending_once o t ends.Kept ends.Kept v w x y =
       let same : x.0 ≡ y.0 = omega (arith, x.2.last y.0 y.2.keeps, y.2.last x.0 x.2.keeps) in
       let value : x.1 ≡ y.1 = saved_once T (opening_states P.starts) t (point_at T t y.0).interval x.1 y.1 (subst (λ (k : ℕ). SavedWith T (opening_states P.starts) t (point_at T t k).interval x.1) same x.3) y.3 in
-      (refl, x.4 ∙ (λ i. kept_text T.opening.names t (val_of (value i)) (same i)) ∙ sym y.4)
+      (refl, x.4 ∙ (λ i. kept_text T.opening.names (val_of (value i)) (same i)) ∙ sym y.4)
   ending_once o t ends.Kept ends.First v w x y = absurd (y.0 x.0 x.2.keeps)
   ending_once o t ends.Kept ends.None v w x y = absurd (y.0 x.0 x.2.keeps)
   ending_once o t ends.First ends.Kept v w x y = absurd (x.0 y.0 y.2.keeps)
-  ending_once o t ends.First ends.First v w x y = (refl, x.3 ∙ ap (λ z. opened_text T.opening.names t (val_of z)) (same_some (sym x.2 ∙ y.2)) ∙ sym y.3)
+  ending_once o t ends.First ends.First v w x y = (refl, x.3 ∙ ap (λ z. opened_text T.opening.names (val_of z)) (same_some (sym x.2 ∙ y.2)) ∙ sym y.3)
   ending_once o t ends.First ends.None v w x y = absurd (no_start o t x.1 x.2 y.1)
   ending_once o t ends.None ends.Kept v w x y = absurd (x.0 y.0 y.2.keeps)
   ending_once o t ends.None ends.First v w x y = absurd (no_start o t y.1 y.2 x.1)

@@ -103,7 +103,7 @@ module _ (P : Program) (T : Run) (w : WellFormed T) (opening : T.opening ≡ pro
       (rows_as T b.plan a.looks b.looks shows_same a.rows (subst (λ (p : Plan). AreRows T p a.looks.steps.items a.rows) plans a.rows_are)) b.rows_are
 
   ends : a.ends ≡ b.ends
-  ends = end_lines_once T b.plan b.looks a.ends b.ends (ends_as T b.plan a.looks b.looks shows_same a.ends (subst (λ (p : Plan). AreEndLines p a.looks a.ends) plans a.ends_are)) b.ends_are
+  ends = end_lines_once T b.plan b.looks a.ends b.ends (ends_as T b.plan a.looks b.looks shows_same a.ends (subst (λ (p : Plan). AreEndLines T p a.looks a.ends) plans a.ends_are)) b.ends_are
 
   chain_there : AreCauseLines T b.plan b.looks ask b.cause a.chain
   chain_there = cause_lines_as T b.plan a.looks b.looks shows_same.states_are ask b.cause a.chain

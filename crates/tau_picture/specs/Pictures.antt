@@ -82,7 +82,7 @@ pub record IsPicture (P : Program) (T : Run) (from to : ℕ) (ask : Option ℕ) 
   pub rows : List Line
   pub rows_are : AreRows T plan looks.steps.items rows
   pub ends : List Line
-  pub ends_are : AreEndLines plan looks ends
+  pub ends_are : AreEndLines T plan looks ends
   pub is : lines ≡ begin_lines T plan ++ (heading_lines T plan.window cut ++ (said_lines T ask cause ++ (strip ++ (nodes ++ (lanes ++ (guides ++ (states ++ (messages ++ (marks ++ (names ++ (chain ++ (rows ++ (ends ++ key_lines plan)))))))))))))
 
 -- the bytes are those of the lines of the picture

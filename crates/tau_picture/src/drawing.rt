@@ -175,7 +175,7 @@ fn put_rest(
 {
     put_asked_chain(out, trace, layout, looks, asked)?;
     put_rows(alloc, out, trace, layout, looks)?;
-    put_ends(alloc, out, layout, looks)?;
+    put_ends(alloc, out, trace, layout, looks)?;
     put_legend(out, layout.grid().key)?;
     Ok(())
 }

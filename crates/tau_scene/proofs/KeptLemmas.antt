@@ -145,7 +145,7 @@ module _ (P : Program) (T : Run) (cut : List Marked) (marks : List Bool) (are : 
   none_keeps : (t : ℕ) → ((j : ℕ) → j < len T → ¬ KeepsAt T marks t j) → (k : ℕ) → ¬ Keeps T cut t k
   none_keeps t none k x = none k (slice_get_within T.steps k (Checkpoint t) x.0) (x.0, (are k).0 x.1)
 
-  ending_told : (t : ℕ) (o : Option Kept) (start : Option Start) (look : EndLook) (text : List ℕ) (e : Ending) → e.look ≡ look → e.text.items ≡ text → slice_get P.starts t ≡ start → IsKeptBelow T (opening_states P.starts) marks (len T) t o → IsEndingOf T.opening.names t o start e → IsEnding P T cut t look text
+  ending_told : (t : ℕ) (o : Option Kept) (start : Option Start) (look : EndLook) (text : List ℕ) (e : Ending) → e.look ≡ look → e.text.items ≡ text → slice_get P.starts t ≡ start → IsKeptBelow T (opening_states P.starts) marks (len T) t o → IsEndingOf T.opening.names o start e → IsEnding P T cut t look text
   ending_told t (Some kept) start look text e look_is text_is at h told = subst (λ (x : EndLook). IsEnding P T cut t x text) (sym told.0 ∙ look_is) (
     kept.place,
     kept.value,
@@ -177,7 +177,7 @@ module _ (P : Program) (T : Run) (cut : List Marked) (marks : List Bool) (are : 
   }
 
 -- endings, one by one
-pub endings_next : (names : List (List ℕ)) (starts : List Start) (lanes : List Lane) (kept : List (Option Kept)) (k : ℕ) (l : Lane) (o : Option Kept) (e : Ending) (old new : List Ending) → AreEndingsOf names starts lanes kept k old → new ≡ old ++ e ∷ [] → slice_get lanes k ≡ Some l → slice_get kept k ≡ Some o → IsEndingOf names l.who o (slice_get starts l.who) e → AreEndingsOf names starts lanes kept (k + 1) new
+pub endings_next : (names : List (List ℕ)) (starts : List Start) (lanes : List Lane) (kept : List (Option Kept)) (k : ℕ) (l : Lane) (o : Option Kept) (e : Ending) (old new : List Ending) → AreEndingsOf names starts lanes kept k old → new ≡ old ++ e ∷ [] → slice_get lanes k ≡ Some l → slice_get kept k ≡ Some o → IsEndingOf names o (slice_get starts l.who) e → AreEndingsOf names starts lanes kept (k + 1) new
 endings_next names starts lanes kept k l o e old new h is lane at told = record {
   count_is = omega (arith, ap (λ (x : List Ending). length x) is, length-append old (e ∷ []), h.count_is);
   each = λ r m p f a b d. ⊎_elim
@@ -186,7 +186,7 @@ endings_next names starts lanes kept k l o e old new h is lane at told = record 
       let here : r ≡ k = newer.0 ∙ h.count_is in
       let lane_is : l ≡ m = same_some (sym lane ∙ ap (slice_get lanes) (sym here) ∙ a) in
       let kept_is : o ≡ p = same_some (sym at ∙ ap (slice_get kept) (sym here) ∙ b) in
-      subst (λ (x : Lane). IsEndingOf names x.who p (slice_get starts x.who) f) lane_is (subst (λ (x : Option Kept). IsEndingOf names l.who x (slice_get starts l.who) f) kept_is (subst (IsEndingOf names l.who o (slice_get starts l.who)) newer.1 told)))
+      subst (λ (x : Lane). IsEndingOf names p (slice_get starts x.who) f) lane_is (subst (λ (x : Option Kept). IsEndingOf names x (slice_get starts l.who) f) kept_is (subst (IsEndingOf names o (slice_get starts l.who)) newer.1 told)))
       (slice_get-push_cases old e f r (sym (ap (λ (x : List Ending). slice_get x r) is) ∙ d));
 }
 

@@ -52,5 +52,5 @@ pub record AreRest (T : Run) (plan : Plan) (looks : Looks) (a : Asked) (lines : 
   pub rows : List Line
   pub rows_are : AreRows T plan looks.steps.items rows
   pub ends : List Line
-  pub ends_are : AreEndLines plan looks ends
+  pub ends_are : AreEndLines T plan looks ends
   pub is : lines ≡ chain ++ (rows ++ (ends ++ key_lines plan))

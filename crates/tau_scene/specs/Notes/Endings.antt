@@ -23,8 +23,9 @@ pub record KeepsLast (T : Run) (cut : List Marked) (t k : ℕ) : Type 0 where
   pub keeps : Keeps T cut t k
   pub last : (j : ℕ) → Keeps T cut t j → j ≤ k
 
--- what may be kept of t: what its last Checkpoint in the cut saved, else the opening state of a start, else nothing
+-- what may be kept of t: what its last Checkpoint in the cut saved, else the opening state of a start, else nothing; the text stands
+-- behind the name
 abbrev pub IsEnding : Program → Run → List Marked → ℕ → EndLook → List ℕ → Type 0
-IsEnding P T cut t ends.Kept text = (k : ℕ) × (v : Value) × KeepsLast T cut t k × SavedWith T (opening_states P.starts) t (point_at T t k).interval v × (text ≡ kept_text T.opening.names t (val_of v) k)
-IsEnding P T cut t ends.First text = ((k : ℕ) → ¬ Keeps T cut t k) × (v : Value) × (slice_get (opening_states P.starts) t ≡ Some v) × (text ≡ opened_text T.opening.names t (val_of v))
-IsEnding P T cut t ends.None text = ((k : ℕ) → ¬ Keeps T cut t k) × (starts T ≤ t) × (text ≡ nothing_text T.opening.names t)
+IsEnding P T cut t ends.Kept text = (k : ℕ) × (v : Value) × KeepsLast T cut t k × SavedWith T (opening_states P.starts) t (point_at T t k).interval v × (text ≡ kept_text T.opening.names (val_of v) k)
+IsEnding P T cut t ends.First text = ((k : ℕ) → ¬ Keeps T cut t k) × (v : Value) × (slice_get (opening_states P.starts) t ≡ Some v) × (text ≡ opened_text T.opening.names (val_of v))
+IsEnding P T cut t ends.None text = ((k : ℕ) → ¬ Keeps T cut t k) × (starts T ≤ t) × (text ≡ nothing_text)

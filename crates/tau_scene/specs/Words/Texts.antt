@@ -64,16 +64,14 @@ up_to_text (Some k) = codes " up to " ++ decimal k
 abbrev pub state_title : List (List ℕ) → Point → ℕ → Option ℕ → List ℕ → List ℕ
 state_title names p begin end said = codes "state " ++ (point_text names p ++ (codes " from " ++ (decimal begin ++ (up_to_text end ++ (codes ", " ++ said)))))
 
--- What may be kept of a transactor if all else is lost: what a Checkpoint at place k saved, the opening state, or nothing.
+-- What may be kept of a transactor if all else is lost, behind its name: what a Checkpoint at place k saved, the opening state, or
+-- nothing.
 
-abbrev pub state_text : List (List ℕ) → ℕ → Val → List ℕ
-state_text names t v = who_text names t ++ 32 ∷ value_text names v
+abbrev pub kept_text : List (List ℕ) → Val → ℕ → List ℕ
+kept_text names v k = 32 ∷ (value_text names v ++ (codes ", saved at " ++ decimal k))
 
-abbrev pub kept_text : List (List ℕ) → ℕ → Val → ℕ → List ℕ
-kept_text names t v k = state_text names t v ++ (codes ", saved at " ++ decimal k)
+abbrev pub opened_text : List (List ℕ) → Val → List ℕ
+opened_text names v = 32 ∷ (value_text names v ++ codes ", as it opened")
 
-abbrev pub opened_text : List (List ℕ) → ℕ → Val → List ℕ
-opened_text names t v = state_text names t v ++ codes ", as it opened"
-
-abbrev pub nothing_text : List (List ℕ) → ℕ → List ℕ
-nothing_text names t = who_text names t ++ codes ", nothing"
+abbrev pub nothing_text : List ℕ
+nothing_text = codes ", nothing"

@@ -19,7 +19,7 @@ pub struct StepLook {
     pub note: Vec<u8>,
 }
 
-/// What may be kept of a transactor: its look, and the text that says it.
+/// What may be kept of a transactor: its look, and the text that says it behind the name of the transactor.
 #[derive(Drop)]
 pub struct Ending {
     pub look: EndLook,

@@ -20,11 +20,11 @@ use tau_tree::{Program, Start, Starts};
 use tau_value::Names;
 
 /// What a Checkpoint saved may be kept.
-fn kept_ending(alloc: Global, names: &Names, who: u32, kept: &Kept) -> Result<Ending, AllocError>
-    ensures { IfOk result (λ e. (start : Option Start) → IsEndingOf names.now who (Some kept.now) start e) }
+fn kept_ending(alloc: Global, names: &Names, kept: &Kept) -> Result<Ending, AllocError>
+    ensures { IfOk result (λ e. (start : Option Start) → IsEndingOf names.now (Some kept.now) start e) }
 {
     let mut text = Vec::new(alloc);
-    put_kept(alloc, &mut text, names, who, &kept.value, kept.place)?;
+    put_kept(alloc, &mut text, names, &kept.value, kept.place)?;
     Ok(Ending {
         look: EndLook::Kept,
         text,
@@ -32,25 +32,20 @@ fn kept_ending(alloc: Global, names: &Names, who: u32, kept: &Kept) -> Result<En
 }
 
 /// The opening state of a start may be kept, and nothing of another transactor.
-fn first_ending(
-    alloc: Global,
-    names: &Names,
-    who: u32,
-    start: Option<&Start>,
-) -> Result<Ending, AllocError>
-    ensures { IfOk result (IsEndingOf names.now who None (option_copied start.entry)) }
+fn first_ending(alloc: Global, names: &Names, start: Option<&Start>) -> Result<Ending, AllocError>
+    ensures { IfOk result (IsEndingOf names.now None (option_copied start.entry)) }
 {
     let mut text = Vec::new(alloc);
     match start {
         Some(start) => {
-            put_opened(alloc, &mut text, names, who, &start.state)?;
+            put_opened(alloc, &mut text, names, &start.state)?;
             Ok(Ending {
                 look: EndLook::First,
                 text,
             })
         }
         None => {
-            put_nothing(&mut text, names, who)?;
+            put_nothing(&mut text)?;
             Ok(Ending {
                 look: EndLook::None,
                 text,
@@ -67,11 +62,11 @@ fn ending(
     who: u32,
     kept: &Option<Kept>,
 ) -> Result<Ending, AllocError>
-    ensures { IfOk result (IsEndingOf names.now who kept.now (slice_get starts.now who)) }
+    ensures { IfOk result (IsEndingOf names.now kept.now (slice_get starts.now who)) }
 {
     match kept {
-        Some(kept) => kept_ending(alloc, names, who, kept),
-        None => first_ending(alloc, names, who, starts.item(who as usize)),
+        Some(kept) => kept_ending(alloc, names, kept),
+        None => first_ending(alloc, names, starts.item(who as usize)),
     }
 }
 

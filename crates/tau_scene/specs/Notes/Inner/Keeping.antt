@@ -50,13 +50,13 @@ abbrev pub KeepsStep : Run → Plan → List Bool → ℕ → List StateRecord �
 KeepsStep T plan marks k records old new =
     (opening : List Value) → Holds (first_steps T (k + 1)) opening records → AreKept T opening plan.lanes marks k old → AreKept T opening plan.lanes marks (k + 1) new
 
--- what may be kept of t, by what is kept of it
-abbrev pub IsEndingOf : List (List ℕ) → ℕ → Option Kept → Option Start → Ending → Type 0
-IsEndingOf names t (Some kept) start e = (e.look ≡ ends.Kept) × (e.text.items ≡ kept_text names t (val_of kept.value) kept.place)
-IsEndingOf names t None (Some start) e = (e.look ≡ ends.First) × (e.text.items ≡ opened_text names t (val_of start.state))
-IsEndingOf names t None None e = (e.look ≡ ends.None) × (e.text.items ≡ nothing_text names t)
+-- what may be kept of a transactor, by what is kept of it and by its start
+abbrev pub IsEndingOf : List (List ℕ) → Option Kept → Option Start → Ending → Type 0
+IsEndingOf names (Some kept) start e = (e.look ≡ ends.Kept) × (e.text.items ≡ kept_text names (val_of kept.value) kept.place)
+IsEndingOf names None (Some start) e = (e.look ≡ ends.First) × (e.text.items ≡ opened_text names (val_of start.state))
+IsEndingOf names None None e = (e.look ≡ ends.None) × (e.text.items ≡ nothing_text)
 
 -- so it is for the first n lanes
 pub record AreEndingsOf (names : List (List ℕ)) (starts : List Start) (lanes : List Lane) (kept : List (Option Kept)) (n : ℕ) (ends : List Ending) : Type 0 where
   pub count_is : length ends ≡ n
-  pub each : (rank : ℕ) (l : Lane) (o : Option Kept) (e : Ending) → slice_get lanes rank ≡ Some l → slice_get kept rank ≡ Some o → slice_get ends rank ≡ Some e → IsEndingOf names l.who o (slice_get starts l.who) e
+  pub each : (rank : ℕ) (l : Lane) (o : Option Kept) (e : Ending) → slice_get lanes rank ≡ Some l → slice_get kept rank ≡ Some o → slice_get ends rank ≡ Some e → IsEndingOf names o (slice_get starts l.who) e
