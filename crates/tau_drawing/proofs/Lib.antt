@@ -9,6 +9,7 @@ pub mod LineLemmas
 pub mod MessagesOnce
 pub mod Lists
 pub mod Crowds
+pub mod Crossings
 pub mod StateLemmas
 pub mod StripLemmas
 pub mod EndLemmas

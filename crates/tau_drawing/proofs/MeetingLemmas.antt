@@ -11,7 +11,7 @@ use Rattle.tau_layout.specs.Paths.Senders.{met_by}
 use Rattle.tau_drawing.specs.Messages.Messages.{Meets, IsMet}
 use Rattle.tau_drawing.specs.Messages.Inner.Meetings.{IsMetBefore}
 
-at_or_before : (j k : ℕ) → j < k + 1 → (j ≡ k) ⊎ (j < k)
+pub at_or_before : (j k : ℕ) → j < k + 1 → (j ≡ k) ⊎ (j < k)
 at_or_before j k l = grind arith
 
 -- the mark by an answer on the step's message

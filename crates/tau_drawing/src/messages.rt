@@ -11,3 +11,4 @@ mod sends;
 mod titles;
 
 pub use messages::put_messages;
+pub(crate) use sends::flies;

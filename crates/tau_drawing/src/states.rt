@@ -1,5 +1,6 @@
 //! The strip, the states and the ends of a picture of a run (docs/formats.md, "Pictures").
 
+mod crossings;
 mod ends;
 mod kinds;
 mod states;

@@ -1,6 +1,6 @@
 -- A picture is markup.
-use Rattle.std.proofs.Common.{◌≡◌, ℕ, zero, suc, ◌+◌, ◌-◌, ◌*◌, ◌/◌, ◌<◌, Bool, true, false, cond, List, [], ◌∷◌, ◌++◌, Option, Some, None, refl, ◌∙◌, append_assoc, arith, length}
-use Rattle.std.specs.Prelude.{slice_get, nat_lt, option_and_then, codes}
+use Rattle.std.proofs.Common.{◌≡◌, ℕ, zero, suc, ◌+◌, ◌-◌, ◌*◌, ◌/◌, ◌<◌, ◌&&◌, Bool, true, false, cond, List, [], ◌∷◌, ◌++◌, Option, Some, None, refl, ◌∙◌, append_assoc, arith, length}
+use Rattle.std.specs.Prelude.{slice_get, nat_lt, nat_le, option_and_then, codes}
 use Rattle.std.specs.List.{flat_map}
 use Rattle.std.proofs.lemmas.List.Elements.{All-from_recursion}
 use Rattle.tau_svg.specs.Markup.Texts.{cut, cut_inside}
@@ -38,7 +38,7 @@ use Rattle.tau_drawing.specs.Marks.Marks.{mark_line, IsMark}
 use Rattle.tau_drawing.specs.Marks.Rows.{place_line, row_line, IsRow}
 use Rattle.tau_drawing.specs.States.Names.{tick_class, seen_at, state_class, state_words}
 use Rattle.tau_drawing.specs.States.StripLines.{class_at, span_lines, stable_span, strip_end, tick_lines, IsStripLane, IsTick, AreStripLines, with_strip, without, frame_line, place_lines, label_line}
-use Rattle.tau_drawing.specs.States.StateLines.{state_top, state_foot, stable_top, state_lines, point_y, point_lines, stable_from, IsStateAt, AreStatesAt}
+use Rattle.tau_drawing.specs.States.StateLines.{state_top, state_foot, stable_top, state_lines, point_end, point_y, point_off, point_lines, stable_from, IsStateAt, AreStatesAt}
 use Rattle.tau_drawing.specs.States.EndLines.{end_x, end_y, ending_lines, IsEndAt, AreEndLines, heading_line}
 use Rattle.tau_drawing.specs.Lanes.Bands.{lanes_below, span, band_line, node_line, first_x, last_x, band_lines, bands_below}
 use Rattle.tau_drawing.specs.Lanes.NameLines.{frame_line as name_frame, names_foot, named_lines, IsNamed, IsNamesLine}
@@ -121,15 +121,15 @@ module _ (plan : Plan) where
       let high = state_foot plan s.state - top in
       cond_elements (nat_lt k plan.window.to) (rect_of (state_class s.look) (codes "-s") (x - 2) top 4 high empty ∷ []) [] (state_part s.look (x - 2) top 4 high, tt) tt
 
-  point_elements : (x : ℕ) (s : State) (crowded : Bool) → Elements (point_lines plan x s crowded)
-  point_elements x s crowded =
-      cond_elements (grid plan).is_wide (text_at (codes "pt") (x + 11) (point_y plan s crowded) (number s.point.interval ∷ plain (codes " ") ∷ number s.point.incarnation ∷ []) ∷ []) [] (refl, tt) tt
+  point_elements : (x : ℕ) (s : State) (crowded crossed : Bool) → Elements (point_lines plan x s crowded crossed)
+  point_elements x s crowded crossed =
+      cond_elements ((grid plan).is_wide && nat_le (point_end s (point_off crossed)) 72) (text_at (codes "pt") (x + point_off crossed) (point_y plan s crowded) (number s.point.interval ∷ plain (codes " ") ∷ number s.point.incarnation ∷ []) ∷ []) [] (refl, tt) tt
 
-  state_elements : (names : List (List ℕ)) (x : ℕ) (s : Seen) (crowded : Bool) → Elements (state_lines plan names x s crowded)
-  state_elements names x s crowded =
+  state_elements : (names : List (List ℕ)) (x : ℕ) (s : Seen) (crowded crossed : Bool) → Elements (state_lines plan names x s crowded crossed)
+  state_elements names x s crowded crossed =
       let top = state_top plan s.state in (
         state_box s.look (x - 5) top 10 (state_foot plan s.state - top) 3 (state_title names s.state.point s.state.begin s.state.end (state_words s.look)),
-        all_append IsElement (point_lines plan x s.state crowded) (stable_from plan x s s.state.stable) (point_elements x s.state crowded) (stable_elements x s s.state.stable),
+        all_append IsElement (point_lines plan x s.state crowded crossed) (stable_from plan x s s.state.stable) (point_elements x s.state crowded crossed) (stable_elements x s s.state.stable),
       )
 
   states_elements : (T : Run) (looks : Looks) (rank : ℕ) (ls : List Line) → AreStatesAt T plan looks rank ls → Elements ls
@@ -138,7 +138,7 @@ module _ (plan : Plan) where
     x = lane_x plan rank a.lane
 
     of_state : (s : Seen) (ks : List Line) → IsStateAt T plan x s ks → Elements ks
-    of_state s ks b = as_elements ks (state_lines plan T.opening.names x s b.crowded) b.are (state_elements T.opening.names x s b.crowded)
+    of_state s ks b = as_elements ks (state_lines plan T.opening.names x s b.crowded b.crossed) b.are (state_elements T.opening.names x s b.crowded b.crossed)
 
   part_elements : (rank : ℕ) (s : Seen) (o : Option ℕ) → Elements (stable_span plan rank s o)
   part_elements rank s None = tt

@@ -27,7 +27,7 @@ use Rattle.tau_drawing.specs.Lanes.LaneLines.{top_name, axis_line, axis_top, axi
 use Rattle.tau_drawing.specs.Lanes.NameLines.{names_foot, named_lines, IsNamed, IsNamesLine, AreNameLines}
 use Rattle.tau_drawing.specs.States.Names.{seen_at}
 use Rattle.tau_drawing.specs.States.StripLines.{label_line, span_lines, IsStripLane, IsRankAt, class_at, tick_lines, IsTick, IsStrip, AreStripLines, with_strip, without, frame_line, place_lines}
-use Rattle.tau_drawing.specs.States.StateLines.{IsCrowded, state_lines, IsStateAt, AreStatesAt, AreStateLines}
+use Rattle.tau_drawing.specs.States.StateLines.{IsCrowded, IsCrossed, state_lines, IsStateAt, AreStatesAt, AreStateLines}
 use Rattle.tau_drawing.specs.States.EndLines.{heading_line, ending_lines, IsEndAt, AreEndLines}
 use Rattle.tau_picture.proofs.EachOnce.{items_once}
 
@@ -78,7 +78,9 @@ module _ (T : Run) (plan : Plan) where
 
   state_at_once : (x : ℕ) (s : Seen) (ls ks : List Line) → IsStateAt T plan x s ls → IsStateAt T plan x s ks → ls ≡ ks
   state_at_once x s ls ks a b =
-      a.are ∙ ap (state_lines plan T.opening.names x s) (same_bool a.crowded b.crowded (IsCrowded T plan s.state) a.crowded_is b.crowded_is) ∙ sym b.are
+      let crowded : a.crowded ≡ b.crowded = same_bool a.crowded b.crowded (IsCrowded T plan s.state) a.crowded_is b.crowded_is in
+      let crossed : a.crossed ≡ b.crossed = same_bool a.crossed b.crossed (IsCrossed T plan s.state) a.crossed_is b.crossed_is in
+      a.are ∙ (λ i. state_lines plan T.opening.names x s (crowded i) (crossed i)) ∙ sym b.are
 
   module _ (looks : Looks) where
     states_at_once : (rank : ℕ) (ls ks : List Line) → AreStatesAt T plan looks rank ls → AreStatesAt T plan looks rank ks → ls ≡ ks

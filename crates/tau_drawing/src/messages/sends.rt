@@ -18,7 +18,7 @@ use tau_layout::paths::spot_at;
 use tau_trace::{Step, Trace};
 
 /// Whether no step of the trace takes a message out of flight.
-fn flies(trace: &Trace, message: u32) -> bool
+pub(crate) fn flies(trace: &Trace, message: u32) -> bool
     ensures { IsTrue result ↔ ((j : ℕ) → ¬ Removes trace.now.run message j) }
 {
     trace.ended_by(message).is_none()

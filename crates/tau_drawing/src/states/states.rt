@@ -1,5 +1,5 @@
 //! The states of lanes.
-ghost use Rattle.std.specs.Prelude.{◌≡◌, ◌↔◌, ◌<◌, ◌≤◌, ◌+◌, ◌^◌, ℕ, Some, IsTrue, OnOk, IfOk};
+ghost use Rattle.std.specs.Prelude.{◌≡◌, ◌<◌, ◌≤◌, ◌+◌, ◌^◌, ◌&&◌, ℕ, Some, nat_le, OnOk, IfOk};
 ghost use Rattle.tau_svg.specs.Markup.Lines.{with_line, with_lines};
 ghost use Rattle.tau_trace.specs.Known.{WellFormed};
 ghost use Rattle.tau_svg.specs.Shapes.Each.{EachItem, Writes};
@@ -7,13 +7,12 @@ ghost use Rattle.tau_layout.specs.Plans.{IsPlan, grid};
 ghost use Rattle.tau_scene.specs.Words.Texts as texts;
 ghost use Rattle.tau_drawing.specs.States.Names as names_specs;
 ghost use Rattle.tau_drawing.specs.States.StateLines as specs;
-ghost use Rattle.tau_drawing.specs.States.StateLines.{IsCrowded, IsStateAt, AreStateLines};
-ghost use Rattle.tau_drawing.specs.States.Inner.Meetings.{IsMetIn};
+ghost use Rattle.tau_drawing.specs.States.StateLines.{IsStateAt, AreStateLines};
 
+use crate::states::crossings::{is_crossed, is_crowded, point_end};
 use crate::states::kinds::{seen_at, state_class, state_words};
 use std::alloc::{AllocError, Global};
-use tau_layout::paths::{comes_from_right, met};
-use tau_layout::{Layout, lane_at};
+use tau_layout::Layout;
 use tau_scene::looks::{Looks, Seen};
 use tau_scene::timelines::State;
 use tau_scene::words::put_state_title;
@@ -92,43 +91,6 @@ fn put_box(
     title_close(out, b"rect")
 }
 
-/// Whether a transactor, if there is one, is this one.
-fn is_who(lane: Option<u32>, who: u32) -> bool
-    ensures { IsTrue result ↔ (lane ≡ Some who) }
-{
-    lane == Some(who)
-}
-
-/// The message that the step at a place receives or loses, where it stands in the lane of this transactor.
-fn met_in(trace: &Trace, who: u32, place: u32) -> Option<u32>
-    ensures { IsMetIn trace.now.run who place result }
-{
-    if !is_who(lane_at(trace, place), who) {
-        return None;
-    }
-    match trace.step(place) {
-        Some(step) => met(step),
-        None => None,
-    }
-}
-
-/// Whether a message line comes from the right to the step where a state begins, which is drawn, and not the first that is.
-fn is_crowded(trace: &Trace, layout: &Layout, state: State) -> bool
-    requires plan { IsPlan trace.now.run layout.now.window layout.now }
-    requires well_formed { WellFormed trace.now.run }
-    ensures { IsTrue result ↔ IsCrowded trace.now.run layout.now state }
-{
-    let window = layout.window();
-    if state.begin <= window.from || window.to <= state.begin {
-        return false;
-    }
-    let who = state.point.who;
-    let Some(message) = met_in(trace, who, state.begin) else {
-        return false;
-    };
-    comes_from_right(trace, layout, message, who)
-}
-
 /// How high the interval and the incarnation of a state stand.
 fn point_y(layout: &Layout, state: State, crowded: bool) -> u64
     ensures { result ≡ specs.point_y layout.now state crowded }
@@ -142,21 +104,39 @@ fn point_y(layout: &Layout, state: State, crowded: bool) -> u64
     }
 }
 
-/// Writes the interval and the incarnation of a state, where the lanes are wide.
+/// How far beside the lane they begin.
+fn point_off(crossed: bool) -> u64
+    ensures off { result ≡ specs.point_off crossed }
+    ensures most { result ≤ 45 }
+{
+    if crossed { 45 } else { 11 }
+}
+
+/// Whether there is room for them.
+fn has_room(layout: &Layout, state: State, off: u64) -> bool
+    requires { off ≤ 45 }
+    ensures { result ≡ ((grid layout.now).is_wide && nat_le (specs.point_end state off) 72) }
+{
+    layout.grid().is_wide && point_end(state, off) <= 72
+}
+
+/// Writes the interval and the incarnation of a state, where there is room for them.
 fn put_point(
     out: &mut Vec<u8>,
     layout: &Layout,
     x: u64,
     state: State,
     crowded: bool,
+    crossed: bool,
 ) -> Result<(), AllocError>
     requires { x < 2 ^ 50 }
-    ensures { OnOk result (out.new.items ≡ with_lines out.old.items (specs.point_lines layout.now x state crowded)) }
+    ensures { OnOk result (out.new.items ≡ with_lines out.old.items (specs.point_lines layout.now x state crowded crossed)) }
 {
-    if !layout.grid().is_wide {
+    let off = point_off(crossed);
+    if !has_room(layout, state, off) {
         return Ok(());
     }
-    text_at(out, b"pt", x + 11, point_y(layout, state, crowded))?;
+    text_at(out, b"pt", x + off, point_y(layout, state, crowded))?;
     number(out, u64::from(state.point.interval))?;
     plain(out, b" ")?;
     number(out, u64::from(state.point.incarnation))?;
@@ -199,13 +179,14 @@ fn put_lines(
     x: u64,
     seen: Seen,
     crowded: bool,
+    crossed: bool,
 ) -> Result<(), AllocError>
     requires left { 386 ≤ x }
     requires right { x < 2 ^ 50 }
-    ensures { OnOk result (out.new.items ≡ with_lines out.old.items (specs.state_lines layout.now names.now x seen crowded)) }
+    ensures { OnOk result (out.new.items ≡ with_lines out.old.items (specs.state_lines layout.now names.now x seen crowded crossed)) }
 {
     put_box(alloc, out, names, layout, x, seen)?;
-    put_point(out, layout, x, seen.state, crowded)?;
+    put_point(out, layout, x, seen.state, crowded, crossed)?;
     put_stable(out, layout, x, seen)
 }
 
@@ -224,8 +205,10 @@ fn put_state(
     requires right { x < 2 ^ 50 }
     ensures { OnOk result (Writes (IsStateAt trace.now.run layout.now x seen) out.old.items out.new.items) }
 {
+    let names = &trace.opening().names;
     let crowded = is_crowded(trace, layout, seen.state);
-    put_lines(alloc, out, &trace.opening().names, layout, x, seen, crowded)?;
+    let crossed = is_crossed(trace, layout, seen.state);
+    put_lines(alloc, out, names, layout, x, seen, crowded, crossed)?;
     Ok(())
 }
 

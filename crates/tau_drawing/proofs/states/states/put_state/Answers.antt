@@ -12,7 +12,8 @@ returns c =
     let x = c.args.x in
     let seen = c.args.seen in
     let crowded = c.is_crowded-crowded.result in
+    let crossed = c.is_crossed-crossed.result in
     let out = c.args.out.now.items in
-    these (IsStateAt T plan x seen) out c.put_lines.new.out.items (state_lines plan T.opening.names x seen crowded)
-    (record { crowded = crowded; crowded_is = c.is_crowded-crowded.ensures; are = refl })
-    (c.in_ok-put_lines.ensures ∙ ap (λ (o : Opening). with_lines out (state_lines plan o.names x seen crowded)) c.opening.ensures.value)
+    these (IsStateAt T plan x seen) out c.put_lines.new.out.items (state_lines plan T.opening.names x seen crowded crossed)
+    (record { crowded = crowded; crowded_is = c.is_crowded-crowded.ensures; crossed = crossed; crossed_is = c.is_crossed-crossed.ensures; are = refl })
+    (c.in_ok-put_lines.ensures ∙ ap (λ (o : Opening). with_lines out (state_lines plan o.names x seen crowded crossed)) c.opening.ensures.value)

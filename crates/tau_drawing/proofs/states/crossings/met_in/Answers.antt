@@ -2,7 +2,7 @@ use Rattle.std.proofs.Common.{ℕ, Option, ◌∙◌, refl, sym, ap, subst}
 use Rattle.std.specs.Option.{option_copied}
 use Rattle.tau_layout.specs.Lanes.{IsLaneAt}
 use Rattle.tau_drawing.proofs.Crowds.{lane_told, met_told}
-use Rattle.tau_drawing.proofs.states.states.met_in.Goals as goal
+use Rattle.tau_drawing.proofs.states.crossings.met_in.Goals as goal
 
 pub returns-then-not-is_who : goal.returns-then-not-is_who
 returns-then-not-is_who c =
