@@ -4,16 +4,15 @@
     bench/side.py OTHER [WORD..]
 
 OTHER and its words stand in the place of `tau`: a command and its options follow them, and a text is read from standard input. The two
-run in turn, so that both meet the same minute of the machine, and a row shows the median of the shares of the pairs, in brackets the
-least and the greatest: shares are kept, not seconds, which differ from machine to machine. Processor time is user and system time; of
-memory it is the peak. The last column tells whether both ended with the same status and wrote the same bytes; where they didn't, the
+run in turn, so that both meet the same minute of the machine. A row shows the share that the least of `tau`'s runs has of the least
+of the other's, and in brackets the least and the greatest share of a pair: shares are kept, not seconds, which differ from machine
+to machine. Processor time is user and system time; of memory it is the peak. The last column tells whether both ended with the same status and wrote the same bytes; where they didn't, the
 shares compare different work. `bin/tau prove` builds what is measured. The aims are 2.0 in time and 1.3 in memory, against a program
 of the same rules that proves nothing.
 """
 
 import filecmp
 import os
-import statistics
 import subprocess
 import sys
 import tempfile
@@ -51,9 +50,10 @@ def measured(given, taken, words):
 
 
 def share(pairs, column):
-    """The median of the shares of the pairs, and in brackets the least and the greatest."""
-    shares = sorted(ours[column] / max(other[column], 0.001) for ours, other in pairs)
-    return f"{statistics.median(shares):5.2f} ({shares[0]:.2f} to {shares[-1]:.2f})"
+    """The share of the least of both, and in brackets the least and the greatest of the pairs."""
+    ours, others = ([max(each[column], 0.001) for each in runs] for runs in zip(*pairs))
+    shares = sorted(one / other for one, other in zip(ours, others))
+    return f"{min(ours) / min(others):5.2f} ({shares[0]:.2f} to {shares[-1]:.2f})"
 
 
 def compare(name, words, given, other, folder):
