@@ -222,6 +222,11 @@ impl<'p> Pending<'p> {
         }
     }
 
+    /// How many parts the turn has evaluated so far (docs/rules.md, "Workers", Waiting). No clause rests on it.
+    pub fn evaluated(&self) -> u32 {
+        self.course.machine.count
+    }
+
     /// How many replies the turn has had.
     pub fn replies_len(&self) -> usize
         ensures { result ≡ length self.now.replies }

@@ -173,7 +173,8 @@ fn ask<'p, K: Knowledge + Drop, R: Wait>(
     ensures known { IsTrue knows.new → All (IsSeenOpen seat.old) hand.old.jobs → All (IsSeenOpen seat.new) hand.new.jobs }
     ensures work { IsTrue knows.new → All (IsSeenOpen seat.old) hand.old.jobs → IfOk result (IsVouched (IsSeenOpen seat.new)) }
 {
-    let mut idlers = table.enter(rt);
+    let has_jobs = hand.len() > 0;
+    let mut idlers = table.enter_to_ask(rt, has_jobs);
     for _ in rt.forever() {
         match table.next_entered(rt, &mut idlers, seat, hand, knows)? {
             Next::Idle { .. } => idlers = table.wait_for_change(rt, idlers),

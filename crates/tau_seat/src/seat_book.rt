@@ -168,6 +168,11 @@ impl<'p, K: Knowledge + Drop> SeatBook<'p, K> {
         self.bell.enter(rt)
     }
 
+    /// Waits as `enter` does, and where a seat has no jobs, evaluations are short and another seat evaluates, until it is woken.
+    pub(crate) fn enter_to_ask<R: Wait>(&self, rt: &R, has_jobs: bool) -> MutexGuard<'_, Idlers> {
+        self.bell.enter_to_ask(rt, has_jobs)
+    }
+
     /// `next` of a seat that has entered. Its jobs are known on to be records of open turns where they were and no job had come back to the
     /// book; then what it is handed out is one too. (No clause tells which jobs had come back.)
     pub(crate) fn next_entered<R: Wait>(
@@ -229,7 +234,8 @@ impl<'p, K: Knowledge + Drop> SeatBook<'p, K> {
         ensures pending_on_err { IfErr result (λ e. e.0 ≡ pending.entry) }
         ensures hand_on_err { OnErr result (hand.new ≡ hand.old) }
     {
-        let _idlers = self.bell.enter(rt);
+        let mut idlers = self.bell.enter(rt);
+        idlers.note_brought(&pending);
         let mut boxed = self.table.take(rt, &mut seat.pass);
         let book = &mut *boxed.book;
         // What holds of the book.
@@ -259,17 +265,19 @@ impl<'p, K: Knowledge + Drop> SeatBook<'p, K> {
         book.give_back(hand);
         let _after = book.system();
         self.table.put_back(&mut seat.pass, boxed, false);
+        idlers.note_given_back();
         self.bell.ring(&mut idlers);
     }
 
-    /// Wakes seats that wait for a change of the book, as the answer asks for; with Work only where the book offers more.
-    /// What `act` or a step of `next` has made to do is left to who made it: it asks at once again, and wakes another at Work or at an
-    /// end, or it gives its jobs back and wakes another then. So no seat sleeps while there is something for it to do.
+    /// Wakes seats that wait for a change of the book, as the answer asks for; with Work only where the book offers more and evaluations are
+    /// long. What `act` or a step of `next` has made to do is left to who made it: it asks at once again, and wakes another at Work or at an
+    /// end, or it gives its jobs back and wakes another then. So while a seat sleeps for which there is something to do, another evaluates.
     fn tell(&self, idlers: &mut Idlers, answer: &Result<Next<'p>, AllocError>, offers_more: bool) {
         match answer {
             Ok(Next::Complete | Next::Stopped) => self.bell.ring_all(),
             Ok(Next::Work(_)) => {
-                if offers_more {
+                idlers.note_handed();
+                if offers_more && idlers.are_long() {
                     self.bell.ring(idlers);
                 }
             }
