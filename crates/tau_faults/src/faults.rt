@@ -1,22 +1,22 @@
 //! The faults that can come at a place of a run.
-ghost use Rattle.std.specs.Prelude.{◌≡◌, ◌+◌, ◌<◌, ◌≤◌, ◌↔◌, ℕ, [], All, length, IsTrue, IsFalse, IfOk, OnOk};
+ghost use Rattle.std.specs.Prelude.{◌≡◌, ◌+◌, ◌<◌, ◌≤◌, ◌↔◌, ℕ, [], All, length, IsTrue, IfOk, OnOk};
 ghost use Rattle.tau_value.specs.declared.limits.TheConstants.{ENTRY_LIMIT};
 ghost use Rattle.tau_trace.specs.declared.step.Step.{Step};
 ghost use Rattle.tau_trace.specs.Run.{len, appended};
 ghost use Rattle.tau_trace.specs.Known.{WellFormed};
 ghost use Rattle.tau_trace.specs.Numbering.{InFlight};
 ghost use Rattle.tau_trace.specs.Nodes.{LivesAt};
-ghost use Rattle.tau_script.specs.Cursors.{CursorAt, IsCurrent, MovedFrom};
-ghost use Rattle.tau_script.specs.Scripts.{NoneDue};
+ghost use Rattle.tau_script.specs.Cursors.{CursorAt, MovedFrom};
+ghost use Rattle.tau_revival.specs.Revival.{LeadsOn};
 ghost use Rattle.tau_faults.specs.Inner.Here.{AreThoseBefore, AreEffective, AreFaultsHere, CanBePlaced};
 ghost use Rattle.tau_faults.specs.Inner.Walking.{first_steps};
 
 use crate::FaultCounts;
 use std::alloc::{AllocError, Global};
-use tau_script::laws::scripts_are_determined;
-use tau_script::{Cursor, due, passed};
+use tau_revival::pass_due;
+use tau_script::Cursor;
 use tau_trace::Trace;
-use tau_tree::{Failure, Program, Script};
+use tau_tree::{Failure, Program};
 
 /// The faults that can come after the steps so far, in their order, where so many are left; none before place `from`. The cursor
 /// comes to that place, and past what is due there. The error is want of memory.
@@ -31,14 +31,14 @@ pub(crate) fn come_to(
 ) -> Result<Vec<Failure>, AllocError>
     requires room { length program.now.script < ENTRY_LIMIT }
     requires every { 1 ≤ every }
-    ensures moved { OnOk result (IsCurrent program.now.script so_far.now.run (len so_far.now.run) cursor.old
+    ensures moved { OnOk result (LeadsOn program.now.script so_far.now.run cursor.old
         → MovedFrom (CursorAt program.now.script so_far.now.run (len so_far.now.run)) program.now.script so_far.now.run (len so_far.now.run) cursor.new) }
-    ensures faults { IfOk result (λ v. IsCurrent program.now.script so_far.now.run (len so_far.now.run) cursor.old → from ≤ len so_far.now.run
+    ensures faults { IfOk result (λ v. LeadsOn program.now.script so_far.now.run cursor.old → from ≤ len so_far.now.run
         → AreFaultsHere every left program.now so_far.now.run (len so_far.now.run) cursor.new v.items) }
     ensures early { IfOk result (λ v. len so_far.now.run < from → v.items ≡ []) }
     ensures placed { IfOk result (λ v. All (CanBePlaced left program.now) v.items) }
 {
-    if passes_due(&program.script, cursor, so_far) {
+    if pass_due(&program.script, cursor, so_far) {
         return Ok(Vec::new(alloc));
     }
     let place = so_far.len();
@@ -46,25 +46,6 @@ pub(crate) fn come_to(
         return Ok(Vec::new(alloc));
     }
     effective(alloc, program, left, so_far)
-}
-
-/// Whether the script makes a step due after the steps so far. The cursor comes to that place, and past what is due there.
-fn passes_due(script: &Script, cursor: &mut Cursor, so_far: &Trace) -> bool
-    requires { length script.now ≤ ENTRY_LIMIT }
-    ensures moved { IsCurrent script.now so_far.now.run (len so_far.now.run) cursor.old
-        → MovedFrom (CursorAt script.now so_far.now.run (len so_far.now.run)) script.now so_far.now.run (len so_far.now.run) cursor.new }
-    ensures due { IsCurrent script.now so_far.now.run (len so_far.now.run) cursor.old → IsTrue result → ¬ NoneDue script.now so_far.now.run (len so_far.now.run) }
-    ensures none { IsCurrent script.now so_far.now.run (len so_far.now.run) cursor.old → IsFalse result
-        → NoneDue script.now so_far.now.run (len so_far.now.run) × CursorAt script.now so_far.now.run (len so_far.now.run) cursor.new }
-{
-    scripts_are_determined();
-    match due(script, cursor, so_far) {
-        Some(step) => {
-            passed(script, cursor, &step);
-            true
-        }
-        None => false,
-    }
 }
 
 /// The faults that do something after the steps so far, in their order, where so many are left. The error is want of memory.

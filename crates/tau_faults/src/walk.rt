@@ -16,8 +16,9 @@ use crate::placing::{Spot, is_over, one_fewer, place_fault};
 use crate::{FaultCounts, Setting, Visit};
 use std::alloc::{AllocError, Global};
 use tau_book::run_serially;
+use tau_revival::laws::cursors_lead_on;
 use tau_script::Cursor;
-use tau_script::laws::{cursors_go_on, scripts_are_local};
+use tau_script::laws::scripts_are_local;
 use tau_trace::Trace;
 use tau_trace::laws::local_by_agreement;
 use tau_tree::{Failure, Program};
@@ -133,7 +134,7 @@ fn visit_further<V: Visit>(
 {
     local_by_agreement();
     scripts_are_local();
-    cursors_go_on();
+    cursors_lead_on();
     let mut so_far = Trace::begin(alloc, trace.opening().copy()?)?;
     let mut cursor = Cursor::first();
     for place in 0..trace.len() {

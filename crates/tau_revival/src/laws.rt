@@ -1,7 +1,7 @@
 //! Laws of revival, each the contract of a function that does nothing but call lower laws.
-ghost use Rattle.tau_revival.specs.Laws.{RevivalKeepsDue, RevivalKeepsSteps, RevivalKeepsLegality};
+ghost use Rattle.tau_revival.specs.Laws.{RevivalKeepsDue, RevivalKeepsSteps, RevivalKeepsLegality, CursorsLeadOn};
 
-use tau_script::laws::{scripts_are_determined, scripts_are_local};
+use tau_script::laws::{cursors_go_on, scripts_are_determined, scripts_are_local};
 
 /// The revived script makes the same due at each place before the end of the run, and its cursor goes on from the old one
 /// there (docs/journal.md, "Going on"). So it is for every run, legal or not.
@@ -26,4 +26,12 @@ pub fn revival_keeps_legality()
 {
     revival_keeps_due();
     scripts_are_local();
+}
+
+/// The first cursor of a script leads on before the first step, and so does one that was moved past what was due behind the next step
+/// (docs/rules.md, "Scripts").
+pub fn cursors_lead_on()
+    ensures { CursorsLeadOn }
+{
+    cursors_go_on();
 }

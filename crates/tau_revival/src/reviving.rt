@@ -1,9 +1,10 @@
 //! Reviving a program.
-ghost use Rattle.std.specs.Prelude.{◌≡◌, ◌+◌, ◌≤◌, ◌↔◌, ℕ, length, IfOk, IsErrOf, Err};
+ghost use Rattle.std.specs.Prelude.{◌≡◌, ◌+◌, ◌≤◌, ◌↔◌, ℕ, length, IsTrue, IsFalse, IfOk, IsErrOf, Err};
 ghost use Rattle.tau_value.specs.declared.limits.TheConstants.{ENTRY_LIMIT};
 ghost use Rattle.tau_tree.specs.Sound.{Sound};
 ghost use Rattle.tau_trace.specs.Run.{len};
 ghost use Rattle.tau_script.specs.Cursors.{CursorAt, MovedFrom};
+ghost use Rattle.tau_script.specs.Scripts.{NoneDue};
 ghost use Rattle.tau_legal.specs.Traces.{Legal};
 ghost use Rattle.tau_revival.specs.Revival.{IsRevival, IsScriptFull, LeadsOn};
 
@@ -11,6 +12,7 @@ use crate::errors::ReviveError;
 use crate::laws::{revival_keeps_due, revival_keeps_legality};
 use crate::scripts::revived_script;
 use std::alloc::{AllocError, Global};
+use tau_script::laws::scripts_are_determined;
 use tau_script::{Cursor, due, passed};
 use tau_trace::Trace;
 use tau_tree::{Program, Script};
@@ -100,13 +102,22 @@ fn with_script(program: &Program, script: Script) -> Result<Program, AllocError>
     })
 }
 
-/// Moves the cursor of a script past what is due after the steps so far, before one more step is appended (docs/rules.md, "Scripts").
-pub fn pass_due(script: &Script, cursor: &mut Cursor, so_far: &Trace)
+/// Whether the script makes a step due after the steps so far. The cursor comes to their end, and past what is due there, before one more
+/// step is appended (docs/rules.md, "Scripts").
+pub fn pass_due(script: &Script, cursor: &mut Cursor, so_far: &Trace) -> bool
     requires { length script.now ≤ ENTRY_LIMIT }
-    ensures { LeadsOn script.now so_far.now.run cursor.old
+    ensures moved { LeadsOn script.now so_far.now.run cursor.old
         → MovedFrom (CursorAt script.now so_far.now.run (len so_far.now.run)) script.now so_far.now.run (len so_far.now.run) cursor.new }
+    ensures due { LeadsOn script.now so_far.now.run cursor.old → IsTrue result → ¬ NoneDue script.now so_far.now.run (len so_far.now.run) }
+    ensures none { LeadsOn script.now so_far.now.run cursor.old → IsFalse result
+        → NoneDue script.now so_far.now.run (len so_far.now.run) × CursorAt script.now so_far.now.run (len so_far.now.run) cursor.new }
 {
-    if let Some(step) = due(script, cursor, so_far) {
-        passed(script, cursor, &step);
+    scripts_are_determined();
+    match due(script, cursor, so_far) {
+        Some(step) => {
+            passed(script, cursor, &step);
+            true
+        }
+        None => false,
     }
 }

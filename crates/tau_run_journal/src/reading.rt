@@ -17,8 +17,8 @@ use crate::items::{forms_of_items, steps_of_forms};
 use crate::texts::{is_mark, is_text_at, same_bytes};
 use std::alloc::{AllocError, Global};
 use tau_journal::{JournalError, Records};
+use tau_revival::laws::cursors_lead_on;
 use tau_revival::{ReviveError, pass_due, revive};
-use tau_script::laws::cursors_go_on;
 use tau_script::{Cursor, opening_of};
 use tau_text::{InputError, program_text, read_program};
 use tau_trace::Trace;
@@ -127,6 +127,7 @@ fn follow(
     ensures read { IfOk result (λ s. IsReadAs records.now s.program s.trace.run s.fault) }
     ensures cursor { IfOk result (λ s. LeadsOn s.program.script s.trace.run s.cursor) }
 {
+    cursors_lead_on();
     let opening = opening_of(alloc, &program)?;
     let mut read = Read {
         trace: Trace::begin(alloc, opening)?,
@@ -230,7 +231,7 @@ fn take_item(
     ensures taken { IfOk result (TakesItem steps.now.run trace.old.run bytes.now trace.new.run) }
     ensures cursor { IfOk result (λ _. LeadsOn script.now trace.new.run cursor.new) }
 {
-    cursors_go_on();
+    cursors_lead_on();
     let place = trace.len();
     let Some(step) = steps.step(place) else {
         return Ok(false);

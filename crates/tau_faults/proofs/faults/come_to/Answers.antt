@@ -11,7 +11,7 @@ returns-clause-faults c =
     let T = c.args.so_far.now.run in
     let multiple : len T % c.args.every ≡ 0 = search rules in
     MatchResult-weaker c.effective.result c.effective.ensures
-    (λ v e current from. listed left P T c.args.every c.passes_due.new.cursor v.items (c.if-passes_due.ensures.none current (search rules)) multiple c.requires.room e) (λ d h. h)
+    (λ v e leads from. listed left P T c.args.every c.pass_due.new.cursor v.items (c.pass_due.ensures.none leads (search rules)) multiple c.requires.room e) (λ d h. h)
 
 pub returns-clause-placed : goal.returns-clause-placed
 returns-clause-placed c = MatchResult-weaker c.effective.result c.effective.ensures (λ v e. can_be_placed c.args.left c.args.program.now c.args.so_far.now.run v.items e) (λ d h. h)

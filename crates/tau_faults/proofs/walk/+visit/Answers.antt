@@ -1,19 +1,19 @@
-use Rattle.std.proofs.Common.{◌≡◌, ℕ, ◌+◌, List, [], ◌∷◌, ◌++◌, length, take, refl, sym, ◌∙◌, subst, arith, rules, length-append}
+use Rattle.std.proofs.Common.{◌≡◌, ℕ, ◌+◌, List, [], ◌∷◌, ◌++◌, length, take, refl, sym, ap, ◌∙◌, subst, arith, rules, length-append}
 use Rattle.std.proofs.lemmas.List.{take_all}
 use Rattle.std.proofs.lemmas.Result.{on_ok_weaker}
 use Rattle.tau_tree.specs.declared.entries.Entry.{Entry}
 use Rattle.tau_tree.specs.declared.entries.Failure.{Failure}
 use Rattle.tau_tree.specs.declared.programs.Program.{Program}
 use Rattle.tau_tree.specs.declared.entries.Failure.TheVariants.{Fail}
-use Rattle.tau_trace.specs.Run.{len}
-use Rattle.tau_script.specs.Cursors.{IsCurrent}
+use Rattle.tau_trace.specs.Run.{Run, len}
+use Rattle.tau_script.specs.declared.cursor.Cursor.{Cursor}
+use Rattle.tau_revival.specs.Revival.{LeadsOn}
 use Rattle.tau_faults.specs.declared.setting.FaultCounts.{FaultCounts}
 use Rattle.tau_faults.specs.Faults.{fewer}
 use Rattle.tau_faults.specs.Ends.{EndsFrom, EndsBelow, none, EndsWith, no_fault}
 use Rattle.tau_faults.specs.Inner.Walking.{HasSeen}
 use Rattle.tau_faults.proofs.SeenLemmas.{seen_none}
 use Rattle.tau_faults.proofs.WalkLemmas.{none_below, never_over, AreListed, are_listed, seen_from, seen_place, seen_fault}
-use Rattle.tau_revival.proofs.Coming.{current_first, current_next}
 use Rattle.tau_faults.proofs.walk.+visit.Goals as goal
 
 pub visit_each-loop-fault-init : goal.visit_each-loop-fault-init
@@ -66,7 +66,7 @@ visit_further-loop-place-init g t c =
     record {
       program = refl;
       so_far = opens;
-      current = current_first c.args.program.now.script T c.in_ok-so_far.so_far.run c.first-cursor.result opens c.first-cursor.ensures;
+      leads = subst (λ (d : Cursor). LeadsOn c.args.program.now.script c.in_ok-so_far.so_far.run d) (sym c.first-cursor.ensures) (c.cursors_lead_on.ensures.first c.args.program.now.script c.in_ok-so_far.so_far.run (ap (λ (R : Run). R.steps) opens));
       ends = λ faults few. seen_none g.V.Visit.visits (EndsBelow c.args.storm.setting c.args.storm.seed c.args.progress.left c.args.progress.from faults c.args.program.now T 0) c.args.visitor.now none;
     }
 
@@ -81,17 +81,17 @@ visit_further-loop-place-preserved g t c =
     let U = c.loop-place.so_far.run in
     let k = c.loop-place.place in
     let at_place = c.come_to.new.cursor in
-    let current = c.loop-place.invariant.current in
+    let leads = c.loop-place.invariant.leads in
     let listed : AreListed S.every from left A T k at_place.entry c.deref.result.now =
     subst (λ (fs : List Failure). AreListed S.every from left A T k at_place.entry fs) (sym c.deref.ensures.value)
     (are_listed c.local_by_agreement.ensures c.scripts_are_local.ensures S.every from left A T U k at_place c.in_ok-faults.faults.items c.loop-place.invariant.so_far (search rules)
-    c.in_ok-faults.ensures.early (c.in_ok-faults.ensures.faults current)) in
+    c.in_ok-faults.ensures.early (c.in_ok-faults.ensures.faults leads)) in
     let one = c.in_ok-go_on.ensures.step in
     record {
       program = c.in_ok-visit_each.ensures.program ∙ c.loop-place.invariant.program;
       so_far = c.in_ok-go_on.ensures.more;
-      current = subst (λ (X : Program). IsCurrent X.script c.go_on.new.so_far.run (len c.go_on.new.so_far.run) at_place) (sym c.in_ok-visit_each.ensures.program)
-          (current_next c.cursors_go_on.ensures A.script U c.go_on.new.so_far.run one.0 at_place (c.in_ok-faults.ensures.moved current) one.1);
+      leads = subst (λ (X : Program). LeadsOn X.script c.go_on.new.so_far.run at_place) (sym c.in_ok-visit_each.ensures.program)
+          (subst (λ (R : Run). LeadsOn A.script R at_place) (sym one.1) (c.cursors_lead_on.ensures.next A.script U at_place one.0 (c.in_ok-faults.ensures.moved leads)));
       ends = λ faults few. seen_place g.V.Visit.visits S c.args.storm.seed left faults from P A T k at_place.entry c.deref.result.now c.args.visitor.now c.loop-place.visitor c.visit_each.new.visitor
           c.loop-place.invariant.program listed (c.loop-place.invariant.ends faults few) (c.in_ok-visit_each.ensures.ends T faults few listed.each);
     }

@@ -1,7 +1,7 @@
 use Rattle.std.proofs.Common.{◌≡◌, ◌+◌, ◌*◌, List, All, length, take}
 use Rattle.tau_tree.specs.declared.entries.Entry.{Entry}
 use Rattle.tau_trace.specs.Run.{Run, len}
-use Rattle.tau_script.specs.Cursors.{IsCurrent}
+use Rattle.tau_revival.specs.Revival.{LeadsOn}
 use Rattle.tau_faults.specs.Ends.{EndsBelow, EndsWith}
 use Rattle.tau_faults.specs.Inner.Walking.{sum_of, IsFaultAt, HasSeen, first_steps}
 use Rattle.tau_faults.proofs.walk.+visit.Given as goal
@@ -11,7 +11,7 @@ abbrev pub invariant-visit_further-loop-place : goal.invariant-visit_further-loo
 invariant-visit_further-loop-place g l = record {
   program : l.program ≡ l.initial.program;
   so_far : l.so_far.run ≡ first_steps l.trace.run l.place;
-  current : IsCurrent l.program.script l.so_far.run (len l.so_far.run) l.cursor;
+  leads : LeadsOn l.program.script l.so_far.run l.cursor;
   ends : (faults : List Entry) → length faults ≡ l.fn.progress.placed → HasSeen g.V.Visit.visits (EndsBelow l.fn.storm.setting l.fn.storm.seed l.fn.progress.left l.fn.progress.from faults l.initial.program l.trace.run l.place) l.initial.visitor l.visitor;
 }
 

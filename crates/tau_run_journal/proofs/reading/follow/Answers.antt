@@ -1,8 +1,10 @@
-use Rattle.std.proofs.Common.{◌≡◌, [], sym, ap, ◌∙◌, arith}
+use Rattle.std.proofs.Common.{◌≡◌, [], sym, ap, subst, ◌∙◌, arith}
 use Rattle.tau_trace.specs.declared.opening.Opening.{Opening}
+use Rattle.tau_trace.specs.Run.{Run}
 use Rattle.tau_trace.proofs.Prefix.{run_of}
 use Rattle.tau_script.specs.Openings.{program_opening}
-use Rattle.tau_revival.proofs.Coming.{leads_first}
+use Rattle.tau_script.specs.declared.cursor.Cursor.{Cursor}
+use Rattle.tau_revival.specs.Revival.{LeadsOn}
 use Rattle.tau_run_journal.specs.Standing.{opened}
 use Rattle.tau_run_journal.proofs.Standings.{read_first, read_end, own_opening, taken_some, taken_none, sound_first}
 use Rattle.tau_run_journal.proofs.reading.follow.Goals as goal
@@ -17,7 +19,7 @@ loop-place-init c =
     record {
       behind = omega arith;
       read = read_first c.args.records.now c.args.program c.args.steps.now.run U c.requires.some c.requires.first c.requires.steps begun;
-      leads = leads_first c.args.program.script (opened c.args.program) U c.first.result begun c.first.ensures;
+      leads = subst (λ (d : Cursor). LeadsOn c.args.program.script U d) (sym c.first.ensures) (c.cursors_lead_on.ensures.first c.args.program.script U (ap (λ (R : Run). R.steps) begun));
     }
 
 pub take_record-requires-clause-steps : goal.take_record-requires-clause-steps

@@ -1,8 +1,8 @@
-use Rattle.std.proofs.Common.{◌≡◌, sym, ap, ◌∙◌}
+use Rattle.std.proofs.Common.{◌≡◌, sym, ap, subst, ◌∙◌}
 use Rattle.std.proofs.lemmas.Bool.{false≢true}
 use Rattle.std.proofs.lemmas.Option.{slice_get_within}
 use Rattle.tau_trace.specs.Run.{Run, appended}
-use Rattle.tau_revival.proofs.Coming.{leads_next}
+use Rattle.tau_revival.specs.Revival.{LeadsOn}
 use Rattle.tau_run_journal.specs.Inner.Items.{IsTextAt}
 use Rattle.tau_run_journal.proofs.Standings.{item_none, item_text, item_differs, item_goes_on, may_copied}
 use Rattle.tau_run_journal.proofs.reading.take_item.Goals as goal
@@ -38,4 +38,5 @@ pub returns-clause-cursor : goal.returns-clause-cursor
 returns-clause-cursor c =
     let U : Run = c.args.trace.now.run in
     let pushed : c.push_spare.new.self.run ≡ appended U c.in_ok-copied.copied = c.push_spare.ensures ∙ ap (λ (R : Run). appended R c.in_ok-copied.copied) c.reserve.ensures.run in
-    leads_next c.cursors_go_on.ensures c.args.script.now U c.push_spare.new.self.run c.in_ok-copied.copied c.pass_due.new.cursor (c.pass_due.ensures c.requires.cursor) pushed
+    subst (λ (R : Run). LeadsOn c.args.script.now R c.pass_due.new.cursor) (sym pushed)
+    (c.cursors_lead_on.ensures.next c.args.script.now U c.pass_due.new.cursor c.in_ok-copied.copied (c.pass_due.ensures.moved c.requires.cursor))
