@@ -48,13 +48,6 @@ receipt_written P T plan k m s mid b bs source g p out new o bearers at middle f
 pub receipt_none : (P : Program) (T : Run) (plan : Plan) (k m : ℕ) (s : Step) (out : List ℕ) → IsMiddle T plan k None → Writes (IsReceiptLine P T plan k s m) out out
 receipt_none P T plan k m s out none = nothing (IsReceiptLine P T plan k s m) out (receipt_nowhere none refl)
 
--- the line of a message that is made
-pub met_written : (P : Program) (T : Run) (plan : Plan) (k m : ℕ) (s : Step) (marks : List Bool) (out : List ℕ) → AreMarks (IsMet T plan.window) (sent T (len T)) marks → IsMarked marks m → Writes (IsSentLine P T plan k s m) out out
-met_written P T plan k m s marks out a h = nothing (IsSentLine P T plan k s m) out (sent_met ((a.marked m).0 h).0 refl)
-
-pub sent_none : (P : Program) (T : Run) (plan : Plan) (k m : ℕ) (s : Step) (out : List ℕ) → IsReceiver T m None → Writes (IsSentLine P T plan k s m) out out
-sent_none P T plan k m s out none = nothing (IsSentLine P T plan k s m) out (sent_nowhere none refl)
-
 pub sent_written : (P : Program) (T : Run) (plan : Plan) (k m t : ℕ) (s : Step) (b : Bearer) (bs : List Bearer) (marks : List Bool) (flies : Bool) (p : Spot) (out new : List ℕ)
     → T.opening ≡ program_opening P → AreBearers T (len T) bs → slice_get bs m ≡ Some b → AreMarks (IsMet T plan.window) (sent T (len T)) marks → m < sent T (len T) → ¬ IsMarked marks m → Receives T m t
     → (IsTrue flies ↔ ((j : ℕ) → ¬ Removes T m j)) → IsSpot T plan k p → new ≡ with_line out (sent_line T.opening.names k s m t (borne P T b) flies p) → Writes (IsSentLine P T plan k s m) out new
@@ -63,30 +56,12 @@ sent_written P T plan k m t s b bs marks flies p out new o bearers at a lt none 
     (sent_leads (λ h. none ((a.marked m).1 (h, lt))) r (value_borne P T o m b (bearers.each m b at)) f spot refl)
     e
 
--- whether a message is taken out of flight
-removed_within : (T : Run) (m j : ℕ) → Removes T m j → j < len T
-removed_within T m j r = by (step_at T j) refl r where
-  by : (o : Option Step) → step_at T j ≡ o → option_and_then removed_by o ≡ Some m → j < len T
-  by None e h = absurd (cc)
-  by (Some s) e h = slice_get_within T.steps j s e
-
-pub flight_told : (T : Run) (m : ℕ) (o : Option ℕ) → IsFirst (Removes T m) (len T) o → IsTrue (is_none o) ↔ ((j : ℕ) → ¬ Removes T m j)
-flight_told T m None first = (λ h j r. first j (removed_within T m j r) r, λ h. refl)
-flight_told T m (Some k) first = (λ h. absurd (cc), λ h. absurd (h k first.1))
-
 -- the line of a New
 pub new_written : (T : Run) (plan : Plan) (k t u x : ℕ) (p : Spot) (out new : List ℕ) → IsNew T k t u → HasX plan u x → IsSpot T plan k p → new ≡ with_line out (new_line T.opening.names k t u p x) → Writes (IsNewLine T plan k t) out new
 new_written T plan k t u x p out new n h spot e = these (IsNewLine T plan k t) out new (new_line T.opening.names k t u p x ∷ []) (new_leads n h spot refl) e
 
 pub new_none : (T : Run) (plan : Plan) (k t u : ℕ) (out : List ℕ) → IsNew T k t u → IsX plan u None → Writes (IsNewLine T plan k t) out out
 new_none T plan k t u out n none = nothing (IsNewLine T plan k t) out (new_nowhere n none refl)
-
--- the line of a step at its place
-pub line_at : (P : Program) (T : Run) (plan : Plan) (k : ℕ) (s : Step) (out new : List ℕ) → step_at T k ≡ Some s → Writes (IsLineOf P T plan k s) out new → Writes (IsMessageLine P T plan k) out new
-line_at P T plan k s out new e w = told_as (IsLineOf P T plan k s) (IsMessageLine P T plan k) out new (λ ls h z f. subst (λ (x : Step). IsLineOf P T plan k x ls) (same_some (sym e ∙ f)) h) w
-
-pub no_line : (P : Program) (T : Run) (plan : Plan) (k : ℕ) (out : List ℕ) → None ≡ step_at T k → Writes (IsMessageLine P T plan k) out out
-no_line P T plan k out none = nothing (IsMessageLine P T plan k) out (λ s e. absurd (let f = none ∙ e in cc))
 
 -- the line of a step by its kind
 pub line_of_send : (P : Program) (T : Run) (plan : Plan) (k m t u : ℕ) (v : Value) (s : Step) (out new : List ℕ) → s ≡ Send t u v → step_at T k ≡ Some s → IsMadeAt T k m → Writes (IsSentLine P T plan k s m) out new → Writes (IsLineOf P T plan k s) out new
@@ -103,15 +78,6 @@ line_of_repeat P T plan k m n s out new e at made w =
 
 pub line_of_new : (P : Program) (T : Run) (plan : Plan) (k t b n : ℕ) (v : Value) (s : Step) (out new : List ℕ) → s ≡ New t b n v → Writes (IsNewLine T plan k t) out new → Writes (IsLineOf P T plan k s) out new
 line_of_new P T plan k t b n v s out new e w = told_as (IsNewLine T plan k t) (IsLineOf P T plan k s) out new (λ ls h. subst (λ (x : Step). IsLineOf P T plan k x ls) (sym e) h) w
-
-other_line : (P : Program) (T : Run) (plan : Plan) (k : ℕ) (s : Step) (ls : List Line) → ((t u : ℕ) (v : Value) → s ≡ Send t u v → ⊥) → ((m : ℕ) → s ≡ Repeat m → ⊥) → ((t b n : ℕ) (v : Value) → s ≡ New t b n v → ⊥) → IsLineTo P T plan k s (met_by s) ls → IsLineOf P T plan k s ls
-other_line P T plan k (Send t u v) ls a b c h = absurd (a t u v refl)
-other_line P T plan k (Repeat m) ls a b c h = absurd (b m refl)
-other_line P T plan k (New t u n v) ls a b c h = absurd (c t u n v refl)
-other_line P T plan k s ls a b c h = h
-
-pub line_of_other : (P : Program) (T : Run) (plan : Plan) (k : ℕ) (s : Step) (out new : List ℕ) → ((t u : ℕ) (v : Value) → s ≡ Send t u v → ⊥) → ((m : ℕ) → s ≡ Repeat m → ⊥) → ((t b n : ℕ) (v : Value) → s ≡ New t b n v → ⊥) → Writes (IsLineTo P T plan k s (met_by s)) out new → Writes (IsLineOf P T plan k s) out new
-line_of_other P T plan k s out new a b c w = told_as (IsLineTo P T plan k s (met_by s)) (IsLineOf P T plan k s) out new (λ ls h. other_line P T plan k s ls a b c h) w
 
 -- the message that a Send or a Repeat makes exists
 made_below : (T : Run) (k m : ℕ) (s : Step) → step_at T k ≡ Some s → makes_message s ≡ true → m ≡ sent T k → m < sent T (len T)

@@ -47,6 +47,3 @@ meetings_end T v k n marks l a = record {
 -- the truth of a mark
 pub mark_told : (marks : List Bool) (m : ℕ) (b : Bool) → slice_get marks m ≡ Some b → IsTrue b ↔ IsMarked marks m
 mark_told marks m b e = (λ h. e ∙ ap Some h, λ h. same_some (sym e ∙ h))
-
-pub mark_none : (marks : List Bool) (m : ℕ) → slice_get marks m ≡ None → IsTrue false ↔ IsMarked marks m
-mark_none marks m e = (λ h. absurd (cc), λ h. absurd (let f = sym e ∙ h in cc))

@@ -39,9 +39,6 @@ push_at [] x (suc k) y e = absurd (cc)
 push_at (z ∷ xs) x zero y e = inl e
 push_at (z ∷ xs) x (suc k) y e = ⊎_elim (λ o. inl o) (λ p. inr (ap suc p.0, p.1)) (push_at xs x k y e)
 
-pub columns_first : (g : Grid) (lanes : List Lane) (columns : List Column) → columns ≡ [] → AreColumns g lanes 0 columns
-columns_first g lanes columns e = subst (AreColumns g lanes 0) (sym e) (record { count_is = refl; each = λ rank c at. absurd (cc) })
-
 pub columns_next : (g : Grid) (lanes : List Lane) (k : ℕ) (old new : List Column) (c : Column) → AreColumns g lanes k old → new ≡ old ++ c ∷ [] → slice_get lanes k ≡ Some (lane_of c) → c.x ≡ x_of g k (nodes_below lanes c.node) → 386 ≤ c.x → c.x < 2 ^ 50 → AreColumns g lanes (k + 1) new
 columns_next g lanes k old new c a is at x left right = subst (AreColumns g lanes (k + 1)) (sym is) (record {
   count_is = omega (arith, a.count_is, length-append old (c ∷ []));

@@ -55,24 +55,6 @@ lane_none T k e = λ t h. let a = h.stands in cc
 
 -- marks
 
-pub marks_same : (P : ℕ → Type 0) (old : List Bool) → ((t : ℕ) → P t → t < length old → ⊥) → Marks P old old
-marks_same P old none = record {
-  count = refl;
-  marked = λ t. (λ m. inl m, λ h. ⊎_elim (λ m. m) (λ p. absurd (none t p.0 p.1)) h);
-}
-
-pub marks_one : (w : ℕ) (old : List Bool) → w < length old → Marks (λ t. t ≡ w) old (set old w true)
-marks_one w old lt = record {
-  count = length-set old w true;
-  marked = λ t. by t (cases_eq t w);
-} where
-  by : (t : ℕ) → (t ≡ w) ⊎ (t ≢ w) → IsMarked (set old w true) t ↔ (IsMarked old t ⊎ ((t ≡ w) × (t < length old)))
-  by t (inl e) = (λ m. inr (e, omega (arith, e)), λ h. ap (λ x. slice_get (set old w true) x) e ∙ slice_get-set_same old w true lt)
-  by t (inr ne) = (
-    λ m. inl (sym (slice_get-set_other old w t true ne) ∙ m),
-    λ h. slice_get-set_other old w t true ne ∙ ⊎_elim (λ m. m) (λ p. absurd (ne p.0)) h,
-  )
-
 pub marks_as : (P Q : ℕ → Type 0) (old new : List Bool) → ((t : ℕ) → P t → Q t) → ((t : ℕ) → Q t → P t) → Marks P old new → Marks Q old new
 marks_as P Q old new to from m = record {
   count = m.count;

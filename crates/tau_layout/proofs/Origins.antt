@@ -25,9 +25,6 @@ not_true P none = (λ h. absurd (cc), λ p. absurd (none p))
 pub right_none : (plan : Plan) (u t : ℕ) → IsRank plan u None → IsTrue false ↔ StandsRight plan u t
 right_none plan u t none = not_true (StandsRight plan u t) (λ s. none s.rank s.rank_is)
 
-pub other_none : (plan : Plan) (u t : ℕ) → IsRank plan t None → IsTrue false ↔ StandsRight plan u t
-other_none plan u t none = not_true (StandsRight plan u t) (λ s. none s.other s.other_is)
-
 pub right_told : (plan : Plan) (u t rank least : ℕ) → HasOneRank plan → HasRank plan u rank → HasRank plan t least → IsTrue (leb least rank) ↔ StandsRight plan u t
 right_told plan u t rank least one r l = (
   λ h. record { rank = rank; other = least; rank_is = r; other_is = l; least = leb-true least rank h },
@@ -35,9 +32,6 @@ right_told plan u t rank least one r l = (
 )
 
 -- the truth that a message comes from the right
-
-pub post_left : (T : Run) (plan : Plan) (m t : ℕ) → IsOriginOf T m None → IsTrue false ↔ ComesFromRight T plan m t
-post_left T plan m t none = not_true (ComesFromRight T plan m t) (λ c. none c.place c.sender c.origin)
 
 sender_drawn : (T : Run) (plan : Plan) (m t : ℕ) (o : Origin) (c : ComesFromRight T plan m t) → IsOrigin T o.place o.who m → IsDrawn plan.window o.place
 sender_drawn T plan m t o c at = subst (IsDrawn plan.window) (origin_is_one T c.place o.place c.sender o.who m c.origin at).0 c.drawn

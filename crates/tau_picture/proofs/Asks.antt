@@ -34,12 +34,6 @@ not_lost T cut k is none l (Out j chain) h e = none chain (inr (subst (λ i. Con
 pub none_asked : (T : Run) (cut : List Marked) (k : ℕ) → IsCut T cut → IsCauseAt T cut k None → ¬ IsDecision T k → ¬ IsAskable T k
 none_asked T cut k is none other m = ⊎_elim other (λ l. let marked = mark_at cut k ((is.all k).1 (l.point, l.checks)) in not_lost T cut k is none l marked.0 marked.1 marked.2) m
 
--- nor may what stands behind the last step
-pub beyond_asked : (T : Run) (k : ℕ) → len T ≤ k → ¬ IsAskable T k
-beyond_asked T k le m = ⊎_elim
-    (λ (d : IsDecision T k). let within = slice_get_within T.steps k d.0 d.1.stands in omega (arith, le))
-    (λ (l : IsLost T k). let within = slice_get_within T.steps k (Checkpoint l.checks.by) l.checks.closes in omega (arith, le)) m
-
 -- what is answered of a step without a cause
 pub asked_without : (T : Run) (cut : List Marked) (k : ℕ) (o : Option Asked) → IsCut T cut → k < len T → IsCauseAt T cut k None → IsAskedWithout T k o → IsAsked T cut (Some k) o
 asked_without T cut k None is lt none w = none_asked T cut k is none w

@@ -19,15 +19,6 @@ use Rattle.tau_cut.specs.declared.cut.Marked.TheVariants.{In, Out}
 use Rattle.tau_scene.specs.Causes.Causes.{IsCauseAt}
 use Rattle.tau_scene.specs.Causes.Inner.Cuts.{chain_for, IsChainAt}
 
--- a mark that has the chain for a place is Out there
-chain_out : (k : ℕ) (m : Marked) (chain : List Chained) → chain_for k m ≡ Some chain → m ≡ Out k chain
-chain_out k (In j) chain e = absurd (cc)
-chain_out k (Out j c) chain e =
-    let both = cond_some (eqb j k) c chain e in
-    let same : j ≡ k = eqb-true j k both.0 in
-    let alike : c ≡ chain = both.1 in
-    λ i. Out (same i) (alike i)
-
 out_chain : (k : ℕ) (m : Marked) (chain : List Chained) → m ≡ Out k chain → chain_for k m ≡ Some chain
 out_chain k m chain e = ap (chain_for k) e ∙ ap (λ b. cond b (Some chain) None) (eq-eqb k k refl)
 
@@ -46,9 +37,6 @@ none_more cut k n m lt is none before chain c = ⊎_elim
 
 pub none_all : (cut : List Marked) (k n : ℕ) → length cut ≤ n → NoneOut cut k n → IsChainAt cut k None
 none_all cut k n le none chain c = none chain (subst (λ (l : List Marked). Contains l (Out k chain)) (sym (take_all n cut le)) c)
-
-pub one_out : (cut : List Marked) (k n : ℕ) (m : Marked) (chain : List Chained) → n < length cut → m ≡ get_or cut n m → chain_for k m ≡ Some chain → Contains cut (Out k chain)
-one_out cut k n m chain lt is e = subst (Contains cut) (sym is ∙ chain_out k m chain e) (Contains-get_or cut n m lt)
 
 -- where there is no chain of `why`
 no_why : (T : Run) (k : ℕ) (chain : List Chained) → IsWhy T k answers.NoChain → ¬ IsWhy T k (answers.Chain chain)

@@ -45,23 +45,6 @@ same_items (x ∷ xs) (y ∷ ys) count same =
     let tail : xs ≡ ys = same_items xs ys (omega (arith, count)) (λ i a b e f. same (suc i) a b e f) in
     λ i. head i ∷ tail i
 
--- rolled-back points, place by place
-pub fallen_one : (T : Run) (j : ℕ) (m : Made) (into0 into : List Point) → TellsMade T j (Some m) → IsTrue m.falls → into ≡ into0 ++ m.point ∷ [] → AddsAll (λ q. RollsBackAt T q j) into0 into
-fallen_one T j m into0 into told falls e = adds_one (λ q. RollsBackAt T q j) m.point into0 into
-    (told.2.0 falls, told.1)
-    (λ q f. made_once T j m.point q (made_point T j m told) (record { acts = (falls_within T q.who j f.0).1; at_point = f.1 })) e
-
-falls_at_point : (T : Run) (j : ℕ) (m : Made) (q : Point) → TellsMade T j (Some m) → RollsBackAt T q j → IsTrue m.falls
-falls_at_point T j m q told f =
-    let same = made_once T j m.point q (made_point T j m told) (record { acts = (falls_within T q.who j f.0).1; at_point = f.1 }) in
-    told.2.1 (subst (λ u. Falls T u j) (sym (ap (λ (z : Point). z.who) same)) f.0)
-
-pub fallen_not : (T : Run) (j : ℕ) (m : Made) (into : List Point) → TellsMade T j (Some m) → ¬ IsTrue m.falls → AddsAll (λ q. RollsBackAt T q j) into into
-fallen_not T j m into told never = AddsAll-none (λ q. RollsBackAt T q j) into (λ q f. never (falls_at_point T j m q told f))
-
-pub fallen_nobody : (T : Run) (j : ℕ) (into : List Point) → TellsMade T j None → AddsAll (λ q. RollsBackAt T q j) into into
-fallen_nobody T j into none = AddsAll-none (λ q. RollsBackAt T q j) into (λ q f. none q.who (falls_within T q.who j f.0).1)
-
 pub fallen_all : (T : Run) (n : ℕ) (xs : List Point) → len T ≤ n → ((q : Point) → Contains xs q ↔ IsBelowAt (λ j q. RollsBackAt T q j) n q) → (q : Point) → Contains xs q ↔ RolledBack T q
 fallen_all T n xs le told q = (
   λ c. let b = (told q).0 c in record { place = b.0; held = tt; falls = b.2.0; at_point = b.2.1 },
@@ -79,12 +62,6 @@ one_below points chains n p q o at is h = ⊎_elim
     let here : h.at ≡ n = omega (arith, le, h.below) in
     inr (same_some (sym at ∙ ap (slice_get points) (sym here) ∙ h.point_is), (h.chain, same_some (sym is ∙ ap (slice_get chains) (sym here) ∙ h.chain_is))))
     (cases_lt h.at n)
-
-pub picks_none : (points : List Point) (chains : List (Option (List Chained))) (xs : List Point) → xs ≡ [] → (q : Point) → Contains xs q ↔ HasChainAt points chains 0 q
-picks_none points chains xs is q = (
-  λ c. absurd (Contains-none q (subst (λ (l : List Point). Contains l q) is c)),
-  λ h. absurd (omega (arith, h.below)),
-)
 
 pub picks_more : (points : List Point) (chains : List (Option (List Chained))) (n : ℕ) (p : Point) (o : Option (List Chained)) (xs ys : List Point) → slice_get points n ≡ Some p → slice_get chains n ≡ Some o → PushesIf o p xs ys → ((q : Point) → Contains xs q ↔ HasChainAt points chains n q) → (q : Point) → Contains ys q ↔ HasChainAt points chains (n + 1) q
 picks_more points chains n p None xs ys at is pushes told q = (
@@ -105,10 +82,6 @@ picks_more points chains n p (Some chain) xs ys at is pushes told q =
           (λ new. adds.1 (inr (sym new.0)))
           (one_below points chains n p q (Some chain) at is h),
     )
-
--- points that are asked for
-pub source_asked : (x : Point) (source : Source) (into0 into : List Point) → source ≡ sources.Point x → into ≡ into0 ++ x ∷ [] → AddsAll (λ q. source ≡ sources.Point q) into0 into
-source_asked x source into0 into is e = adds_one (λ q. source ≡ sources.Point q) x into0 into is (λ q f. let g : sources.Point x ≡ sources.Point q = sym is ∙ f in cc) e
 
 asks_back : (lane : List Sourced) (n : ℕ) (s : Sourced) (q : Point) → slice_get lane n ≡ Some s → AsksIn lane (n + 1) q → AsksIn lane n q ⊎ (s.source ≡ sources.Point q)
 asks_back lane n s q at a = ⊎_elim
@@ -151,9 +124,6 @@ lanes_more lanes n v q at = (
       c,
   lanes_back lanes n v q at,
 )
-
-pub lanes_none : (lanes : List (Vec Sourced Global)) (xs : List Point) → AddsAll (AsksInLanes lanes 0) xs xs
-lanes_none lanes xs = AddsAll-none (AsksInLanes lanes 0) xs (λ q a. absurd (omega (arith, a.below)))
 
 pub lanes_next : (lanes : List (Vec Sourced Global)) (n : ℕ) (v : Vec Sourced Global) (xs ys zs : List Point) → slice_get lanes n ≡ Some v → AddsAll (AsksInLanes lanes n) xs ys → AddsAll (AsksIn v.items (length v.items)) ys zs → AddsAll (AsksInLanes lanes (n + 1)) xs zs
 lanes_next lanes n v xs ys zs at a b = AddsAll-same (λ q. AsksInLanes lanes n q ⊎ AsksIn v.items (length v.items) q) (AsksInLanes lanes (n + 1)) xs zs (λ q. lanes_more lanes n v q at) (AddsAll-then (AsksInLanes lanes n) (AsksIn v.items (length v.items)) xs ys zs a b)

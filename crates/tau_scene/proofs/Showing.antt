@@ -92,16 +92,6 @@ module _ (T : Run) (s : State) (is : IsState T s) where
     pub lasting_state : s.end ≡ None → ¬ Contains fallen s.point → IsStateLook T cut s (unsaved_look rests)
     lasting_state end never = open_look rests refl end (λ f. never ((g.fallen_are s.point).1 f))
 
--- what is asked for
-pub told_nothing : (T : Run) (resting : List Point) → IsTold T resting sources.Nothing false
-told_nothing T resting p source asked = (λ f. absurd (cc), λ r. absurd (source r))
-
-pub told_point : (T : Run) (resting : List Point) (q : Point) (b : Bool) → IsTrue b ↔ Contains resting q → IsTold T resting (sources.Point q) b
-told_point T resting q b has p source asked = (λ f. source.1.1 (asked.0 (has.0 f)), λ r. has.1 (asked.1 (source.1.0 r)))
-
-pub told_birth : (T : Run) (resting : List Point) (j : ℕ) (b : Bool) → IsTrue b ↔ CarriesFallen T j → IsTold T resting (sources.Birth j) b
-told_birth T resting j b has p source asked = (λ f. source.1 (has.0 f), λ r. has.1 (source.0 r))
-
 -- the states of all lanes
 module _ (T : Run) (plan : Plan) (cut : List Marked) (points : List Point) (fallen : List Point) (kept : List Bool) (resting : List Point) (g : AreGrounds T cut points fallen kept resting) where
   asked_for : (source : Source) → ((q : Point) → source ≡ sources.Point q → Contains points q) → IsAsked T resting source

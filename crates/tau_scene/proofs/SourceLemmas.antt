@@ -38,13 +38,6 @@ use Rattle.tau_past.proofs.HeardLemmas.{carried_touched}
 use Rattle.tau_explain.proofs.ChainLemmas.{stood_touched}
 use Rattle.tau_scene.proofs.Pasts.{fallen_made, rest_cases, rest_on, opening_rests_not}
 
--- a point at which a step was made tells of itself
-pub made_source : (T : Run) (s : State) → IsState T s → IsTrue s.made → IsSource T s.point (sources.Point s.point)
-made_source T s is made = let m = is.made.0 made in (record { place = m.0; acts = m.1; at_point = m.2 }, (λ r. r, λ r. r))
-
-pub idle_not_made : (T : Run) (s : State) → IsState T s → ¬ IsTrue s.made → ¬ IsMade T s.point
-idle_not_made T s is idle m = idle (is.made.1 (m.place, m.acts, m.at_point))
-
 -- the transactor of a state exists
 pub state_born : (T : Run) (w : WellFormed T) (s : State) → IsState T s → s.point.who < born T (len T)
 state_born T w s is = within s.begin is.begins where

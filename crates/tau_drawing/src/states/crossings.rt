@@ -15,7 +15,7 @@ ghost use Rattle.tau_drawing.specs.States.Inner.Meetings.{IsMetIn};
 
 use crate::messages::flies;
 use itoa::Buffer;
-use tau_layout::paths::{comes_from_right, met};
+use tau_layout::paths::{comes_from_right, met, offset};
 use tau_layout::{Layout, lane_at};
 use tau_scene::timelines::State;
 use tau_trace::{Step, Trace};
@@ -113,30 +113,12 @@ pub(crate) fn point_end(state: State, off: u64) -> u64
     off + 5 * (digits(state.point.interval) + 1 + digits(state.point.incarnation))
 }
 
-/// How far beside the middle of a lane a line comes down, by a number, where the lanes are wide.
-fn track(number: u64) -> u64
-    ensures { result ≡ paths.track true number }
-{
-    28 + 5 * (number % 4)
-}
-
-/// How far beside the middle of the lane the line of a message comes down to a step, where the lanes are wide.
-fn offset(step: &Step, message: u32) -> u64
-    ensures { result ≡ paths.offset true step.now message }
-{
-    match step {
-        Step::Lose { .. } => 16,
-        Step::Fall { .. } => track(u64::from(message) + 2),
-        _ => track(u64::from(message)),
-    }
-}
-
 /// Whether the line of a message comes down to the step at a place no further beside the lane than this.
 fn is_near(trace: &Trace, place: u32, message: u32, reach: u64) -> bool
     ensures { (s : Step) → step_at trace.now.run place ≡ Some s → IsTrue result ↔ (paths.offset true s message ≤ reach) }
 {
     match trace.step(place) {
-        Some(step) => offset(step, message) <= reach,
+        Some(step) => offset(true, step, message) <= reach,
         None => false,
     }
 }

@@ -20,7 +20,7 @@ fn track(wide: bool, number: u64) -> u64
 }
 
 /// How far beside the middle of the lane the line of a message comes down to a step.
-fn offset(wide: bool, step: &Step, message: u32) -> u64
+pub fn offset(wide: bool, step: &Step, message: u32) -> u64
     ensures offset { result ≡ paths.offset wide step.now message }
     ensures most { result ≤ 43 }
 {
