@@ -260,8 +260,8 @@ def tiers():
     ]
     text = [found_at(file_of("tau_output", "Runs"), "RunsBy")]
     process = [
-        *cited_by("tau_kept", "calls.rt", ["kept_still", "tau_kept"]),
-        *cited_by("tau_kept", "process.rt", ["run_process", "run_words"]),
+        *cited_by("tau_cli", "calls.rt", ["tau_still", "tau"]),
+        *cited_by("tau_cli", "process.rt", ["run_process", "run_words"]),
     ]
     before = set()
     for name, starts in (("meaning", meaning), ("text", text), ("process", process)):

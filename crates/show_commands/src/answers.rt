@@ -1,8 +1,9 @@
 //! What commands write, and their statuses.
+use crate::calls::still;
 use crate::words::words_of;
 use std::alloc::{AllocError, Global};
+use tau_cli::{Status, number};
 use tau_io::{SteadySink, SteadySource};
-use tau_kept::{Status, number, tau_still};
 
 /// Adds how many lines a text has, and so many of the last ones.
 pub(crate) fn add_last_lines(
@@ -44,7 +45,7 @@ pub(crate) fn add_check(alloc: Global, text: &mut Vec<u8>, run: &[u8]) -> Result
     let words = words_of(alloc, "check")?;
     let mut input = SteadySource::new(Vec::from_slice(alloc, run)?);
     let mut output = SteadySink::new(alloc);
-    let status = tau_still(alloc, &words, &mut input, &mut output);
+    let status = still(alloc, &words, &mut input, &mut output);
     text.extend_from_slice(b"; check ")?;
     text.extend_from_slice(number(&status).to_string(alloc)?.as_bytes())?;
     text.push(b'\n')?;

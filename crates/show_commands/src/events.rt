@@ -4,8 +4,8 @@ ghost use Rattle.tau_io.specs.Faults.{HasRisen};
 
 use std::alloc::{AllocError, Global};
 use std::sync::atomic::{AtomicU32, Ordering};
+use tau_cli::Gate;
 use tau_journal::disk::{Disk, DiskError};
-use tau_kept::Gate;
 
 /// A gate that counts the evaluations that have begun.
 #[derive(Drop)]

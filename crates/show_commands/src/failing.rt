@@ -1,7 +1,8 @@
 //! Commands of which one read or one write fails.
+use crate::calls::still;
 use std::alloc::{AllocError, Global};
+use tau_cli::{Status, Words, number};
 use tau_io::{MemorySink, MemorySource, SteadySink, SteadySource};
-use tau_kept::{Status, Words, number, tau_still};
 
 /// The most reads and the most writes of a command that are tried.
 const CALLS: u32 = 1_000;
@@ -37,7 +38,7 @@ pub(crate) fn add_failures(
 fn whole_of(alloc: Global, tried: Tried<'_>) -> Result<Vec<u8>, AllocError> {
     let mut source = SteadySource::new(Vec::from_slice(alloc, tried.input)?);
     let mut sink = SteadySink::new(alloc);
-    let _ = tau_still(alloc, tried.words, &mut source, &mut sink);
+    let _ = still(alloc, tried.words, &mut source, &mut sink);
     Vec::from_slice(alloc, sink.bytes())
 }
 
@@ -86,7 +87,7 @@ fn add_read(
     let bytes = Vec::from_slice(alloc, tried.input)?;
     let mut source = MemorySource::new(bytes, 7, only(alloc, call)?);
     let mut sink = SteadySink::new(alloc);
-    let status = tau_still(alloc, tried.words, &mut source, &mut sink);
+    let status = still(alloc, tried.words, &mut source, &mut sink);
     let has_failed = status == Status::ReadFault;
     let count = if has_failed { 0 } else { whole.len() };
     add_end(alloc, text, status, is_front(sink.bytes(), whole, count))?;
@@ -103,7 +104,7 @@ fn add_write(
 ) -> Result<bool, AllocError> {
     let mut source = SteadySource::new(Vec::from_slice(alloc, tried.input)?);
     let mut sink = MemorySink::new(alloc, 16, only(alloc, call)?);
-    let status = tau_still(alloc, tried.words, &mut source, &mut sink);
+    let status = still(alloc, tried.words, &mut source, &mut sink);
     let has_failed = status == Status::WriteFault;
     let count = if has_failed {
         taken_before(call)
@@ -129,7 +130,7 @@ pub(crate) fn add_late_failure(
     // Reads 0 to 255 give 65,536 bytes each.
     let mut source = MemorySource::new(blanks, 65_536, only(alloc, 256)?);
     let mut sink = SteadySink::new(alloc);
-    let status = tau_still(alloc, words, &mut source, &mut sink);
+    let status = still(alloc, words, &mut source, &mut sink);
     text.extend_from_slice(sink.bytes())?;
     Ok(status)
 }

@@ -3,9 +3,9 @@ use crate::answers::add_status;
 use crate::events::{CountingGate, NotingDisk};
 use crate::words::words_of;
 use std::alloc::{AllocError, Global};
+use tau_cli::{OpenGate, Status, number, tau_still};
 use tau_io::{MemorySink, SteadySink, SteadySource};
 use tau_journal::disk::MemoryDisk;
-use tau_kept::{OpenGate, Status, kept_still, number};
 
 /// The most calls of a disk of which one fails in turn.
 const CALLS: u32 = 1_000;
@@ -76,7 +76,7 @@ fn add_command(
     let words = words_of(alloc, words)?;
     let mut source = SteadySource::new(Vec::from_slice(alloc, input)?);
     let mut sink = MemorySink::new(alloc, 65_536, fails);
-    let status = kept_still(alloc, &words, &mut source, &mut sink, disk, &OpenGate);
+    let status = tau_still(alloc, &words, &mut source, &mut sink, disk, &OpenGate);
     text.extend_from_slice(sink.bytes())?;
     add_status(alloc, text, status)?;
     let count = disk.bytes().len();
@@ -117,7 +117,7 @@ fn end_of(
     let words = words_of(alloc, words)?;
     let mut source = SteadySource::new(Vec::from_slice(alloc, input)?);
     let mut sink = SteadySink::new(alloc);
-    Ok(kept_still(alloc, &words, &mut source, &mut sink, disk, &OpenGate))
+    Ok(tau_still(alloc, &words, &mut source, &mut sink, disk, &OpenGate))
 }
 
 /// Adds the evaluations that began and the gates of records that were opened while a command was done, one after another.
@@ -132,7 +132,7 @@ pub(crate) fn add_events(
     let mut sink = SteadySink::new(alloc);
     let gate = CountingGate::new();
     let mut disk = NotingDisk::new(alloc, &gate);
-    let status = kept_still(alloc, &words, &mut source, &mut sink, &mut disk, &gate);
+    let status = tau_still(alloc, &words, &mut source, &mut sink, &mut disk, &gate);
     text.extend_from_slice(disk.events().as_bytes())?;
     add_status(alloc, text, status)
 }

@@ -18,6 +18,7 @@
 #![tactic(auto)]
 
 mod answers;
+mod calls;
 mod counted;
 mod events;
 mod failing;
@@ -26,6 +27,7 @@ mod kept;
 mod words;
 
 use crate::answers::{add_check, add_last_lines, add_last_steps, add_status};
+use crate::calls::{still, with_threads};
 use crate::counted::add_counts;
 use crate::failing::{Tried, add_failures, add_late_failure};
 use crate::inputs::{input_of, line_of};
@@ -35,8 +37,8 @@ use std::alloc::{AllocError, Global};
 use std::process::ExitCode;
 use std::sync::Wait;
 use std::thread::Threads;
+use tau_cli::{Status, Words};
 use tau_io::{StdSink, StdSource, SteadySink, SteadySource, read_all, write_all_of};
-use tau_kept::{OpenGate, Status, Words, tau, tau_still};
 
 fn main(rt: HostRuntime) -> ExitCode {
     let alloc = rt.alloc();
@@ -127,7 +129,7 @@ fn add_whole<R: Threads + Wait + Sync>(
 ) -> Result<(), AllocError> {
     let mut source = SteadySource::new(Vec::from_slice(alloc, input)?);
     let mut output = SteadySink::new(alloc);
-    let status = tau_still(alloc, words, &mut source, &mut output);
+    let status = still(alloc, words, &mut source, &mut output);
     let is_long = mark == "##";
     if is_long {
         add_last_steps(alloc, text, output.bytes())?;
@@ -159,7 +161,7 @@ fn is_same_with_threads<R: Threads + Wait + Sync>(
 ) -> Result<bool, AllocError> {
     let mut source = SteadySource::new(Vec::from_slice(alloc, input)?);
     let mut output = SteadySink::new(alloc);
-    let end = tau(rt, alloc, words, &mut source, &mut output, &OpenGate);
+    let end = with_threads(rt, alloc, words, &mut source, &mut output);
     Ok(end == status && output.bytes() == written)
 }
 
@@ -173,7 +175,7 @@ fn add_counted<R: Threads + Wait + Sync>(
 ) -> Result<(), AllocError> {
     let mut source = SteadySource::new(Vec::from_slice(alloc, input)?);
     let mut output = SteadySink::new(alloc);
-    let status = tau(rt, alloc, words, &mut source, &mut output, &OpenGate);
+    let status = with_threads(rt, alloc, words, &mut source, &mut output);
     add_counts(alloc, text, input, output.bytes())?;
     add_status(alloc, text, status)
 }
@@ -188,7 +190,7 @@ fn add_end(
 ) -> Result<(), AllocError> {
     let mut source = SteadySource::new(input);
     let mut output = SteadySink::new(alloc);
-    let status = tau_still(alloc, words, &mut source, &mut output);
+    let status = still(alloc, words, &mut source, &mut output);
     let last = mark
         .strip_prefix("#")
         .and_then(|number| number.parse().ok())

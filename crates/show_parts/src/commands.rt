@@ -1,7 +1,7 @@
 //! The words of command lines. A line has the words of one; an empty line has none.
 use crate::calls::{Call, Part};
 use std::alloc::{AllocError, Global};
-use tau_command::{Command, Line, Question, StormNumbers, Words, read_words};
+use tau_command::{Command, Line, Question, StormNumbers, TextCommand, Words, read_words};
 
 /// What reads command lines.
 #[derive(Clone, Copy)]
@@ -37,7 +37,31 @@ fn words_of(alloc: Global, line: &str) -> Result<Words, AllocError> {
 fn add_command(text: &mut String, call: Call<'_>, command: Command) -> Result<(), AllocError> {
     let line = call.line();
     match command {
-        Command::Run {
+        Command::Keep { jobs, seed, steps } => {
+            writeln!(
+                text,
+                "{line}: Keep, jobs {jobs}, seed {seed}, steps {steps}"
+            )
+        }
+        Command::Resume { jobs, seed, steps } => {
+            writeln!(
+                text,
+                "{line}: Resume, jobs {jobs}, seed {seed}, steps {steps}"
+            )
+        }
+        Command::Text(command) => add_text_command(text, call, command),
+    }
+}
+
+/// Adds a command that makes one text, with its numbers.
+fn add_text_command(
+    text: &mut String,
+    call: Call<'_>,
+    command: TextCommand,
+) -> Result<(), AllocError> {
+    let line = call.line();
+    match command {
+        TextCommand::Run {
             workers,
             jobs,
             seed,
@@ -46,26 +70,26 @@ fn add_command(text: &mut String, call: Call<'_>, command: Command) -> Result<()
             text,
             "{line}: Run, workers {workers}, jobs {jobs}, seed {seed}, steps {steps}"
         ),
-        Command::Check => call.answer(text, "Check"),
-        Command::Audit => call.answer(text, "Audit"),
-        Command::Report => call.answer(text, "Report"),
-        Command::Print => call.answer(text, "Print"),
-        Command::Gen { number } => writeln!(text, "{line}: Gen, number {number}"),
-        Command::Drill { number } => writeln!(text, "{line}: Drill, number {number}"),
-        Command::Migrate => call.answer(text, "Migrate"),
-        Command::Why { place } => writeln!(text, "{line}: Why, place {place}"),
-        Command::Cut => call.answer(text, "Cut"),
-        Command::Draw {
+        TextCommand::Check => call.answer(text, "Check"),
+        TextCommand::Audit => call.answer(text, "Audit"),
+        TextCommand::Report => call.answer(text, "Report"),
+        TextCommand::Print => call.answer(text, "Print"),
+        TextCommand::Gen { number } => writeln!(text, "{line}: Gen, number {number}"),
+        TextCommand::Drill { number } => writeln!(text, "{line}: Drill, number {number}"),
+        TextCommand::Migrate => call.answer(text, "Migrate"),
+        TextCommand::Why { place } => writeln!(text, "{line}: Why, place {place}"),
+        TextCommand::Cut => call.answer(text, "Cut"),
+        TextCommand::Draw {
             from,
             to,
             ask: Some(place),
         } => writeln!(text, "{line}: Draw, from {from}, to {to}, place {place}"),
-        Command::Draw {
+        TextCommand::Draw {
             from,
             to,
             ask: None,
         } => writeln!(text, "{line}: Draw, from {from}, to {to}"),
-        Command::Storm {
+        TextCommand::Storm {
             workers,
             numbers,
             question,

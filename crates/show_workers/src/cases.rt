@@ -11,6 +11,7 @@ use std::thread::Threads;
 use tau_book::Ran;
 use tau_cli::{Line, Status, Words, tau};
 use tau_io::{SteadySink, SteadySource};
+use tau_journal::disk::MemoryDisk;
 use tau_text::read_run_text;
 use tau_tree::Program;
 use tau_workers::{Settings, run_workers};
@@ -102,7 +103,8 @@ fn run_command<R: Threads + Wait + Sync>(
 ) -> Result<Status, AllocError> {
     let words = words_of(alloc, "run --workers 2")?;
     let mut input = SteadySource::new(Vec::from_slice(alloc, spelled.as_bytes())?);
-    Ok(tau(rt, alloc, &words, &mut input, output, gate))
+    let mut disk = MemoryDisk::new(alloc, Vec::new(alloc), Vec::new(alloc));
+    Ok(tau(rt, alloc, &words, &mut input, output, &mut disk, gate))
 }
 
 /// Adds what holds of a gate, and of how the command ended behind it and what it wrote.

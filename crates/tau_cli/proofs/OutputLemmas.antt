@@ -1,32 +1,30 @@
--- What the words of a command line come to.
-use Rattle.std.proofs.Common.{◌≡◌, ◌⊎◌, inl, inr, ℕ, List, Option, Some, None, Result, Ok, Err, IsTrue, refl, sym, ap, ◌∙◌, subst}
-use Rattle.tau_command.specs.declared.commands.Command.{Command}
-use Rattle.tau_command.specs.declared.commands.Command.TheVariants.{Why, Draw, Storm}
+-- What a command with one text comes to.
+use Rattle.std.proofs.Common.{◌≡◌, ◌⊎◌, inl, inr, ℕ, ◌<◌, ◌≤◌, List, length, Option, Some, None, Result, Ok, Err, IsTrue, refl, sym, ap, ◌∙◌, subst, arith}
+use Rattle.tau_command.specs.declared.commands.TextCommand.{TextCommand}
+use Rattle.tau_command.specs.declared.commands.TextCommand.TheVariants.{Why, Draw, Storm}
 use Rattle.tau_command.specs.declared.storms.Question.TheVariants.{Outcomes, Claim, Show}
-use Rattle.tau_command.specs.Commands.{command_of}
-use Rattle.tau_output.specs.declared.outputs.End.{End}
 use Rattle.tau_output.specs.declared.outputs.Output.{Output}
 use Rattle.tau_output.specs.declared.refusals.Refusal.{Refusal}
 use Rattle.tau_output.specs.declared.refusals.Refusal.TheVariants as refusals
-use Rattle.tau_output.specs.Faults.{reads_input, IsInputFault}
+use Rattle.tau_output.specs.Faults.{input_limit, reads_input, IsInputFault}
 use Rattle.tau_output.specs.declared.refusals.Wanted.{Wanted}
 use Rattle.tau_output.specs.declared.refusals.Wanted.TheVariants as wants
-use Rattle.tau_output.specs.Asking.{wanted_by, AsksInVain}
+use Rattle.tau_output.specs.Asking.{wanted_by}
 use Rattle.tau_cli.specs.declared.statuses.Status.{Status}
-use Rattle.tau_cli.specs.declared.statuses.Status.TheVariants.{Words, Input, ReadFault, NoMemory, Journal, DiskFault, Place, NoClaim, NoOutcome}
-use Rattle.tau_cli.specs.Status.{of_end, of_refusal, of_wanted, IsRefusal, IsResult, TellsOfDisk}
-use Rattle.tau_cli.specs.Output.{Writing, AreLeft, IsEndOf, IsOutput, IsUnasked, Stops, IsUnlessUnread}
+use Rattle.tau_cli.specs.declared.statuses.Status.TheVariants.{Input, ReadFault, NoMemory, Journal, DiskFault, Place, NoClaim, NoOutcome}
+use Rattle.tau_cli.specs.Status.{of_refusal, of_wanted, IsRefusal, IsResult, TellsOfDisk}
+use Rattle.tau_cli.specs.Output.{AreLeft, IsEndOf, IsTooLong, IsUnasked, Stops, IsUnlessUnread}
 
 -- what was left, where it is told
 pub left_told : (left : Option (List ℕ)) (bytes all : List ℕ) → AreLeft left bytes → left ≡ Some all → bytes ≡ all
 left_told None bytes all h e = cc
 left_told (Some xs) bytes all h e = let same : xs ≡ all = cc in h ∙ same
 
--- what is written for the bytes that were read is what is written for those that were left
-pub output_left : (Writes : Writing) (words : List (List ℕ)) (left : Option (List ℕ)) (command : Command) (bytes : List ℕ) (end : End) (text : List ℕ) → command_of words ≡ Some command
-    → (IsTrue (reads_input command) → AreLeft left bytes) → Writes command bytes end text → IsOutput Writes words left (of_end end) text
-output_left Writes words left command bytes end text c l w =
-    record { command = command; is_command = c; bytes = bytes; are_left = l; end = end; writes = w; is_status = refl }
+-- bytes that were left aren't too many where they are few
+pub not_too_long : (left : Option (List ℕ)) (bytes : List ℕ) → left ≡ Some bytes → length bytes ≤ input_limit → IsTooLong left → ⊥
+not_too_long left bytes told few long =
+    let longer : input_limit < length bytes = subst (λ b. input_limit < length b) (left_told left long.bytes bytes long.are_left told) long.many in
+    omega (arith, longer, few)
 
 -- that a call refuses to tell why, or wants memory
 abbrev pub Refuses : Result Output Refusal → Wanted → Type 0
@@ -61,13 +59,13 @@ pub wanted_other : (wanted : Wanted) (s : Status) → ¬ IsRefusal s → of_want
 wanted_other wanted s none e = none (subst IsRefusal e (wanted_refuses wanted))
 
 -- what stops a command with such a status is that it asks in vain
-pub stops_lacking : (s : Status) (words : List (List ℕ)) (left : Option (List ℕ)) (U R : Type 0) (wanted : Wanted) → Stops words left U R s → s ≡ of_wanted wanted → IsUnasked words left wanted
-stops_lacking s words left U R (wants.Step place) h e = subst (Stops words left U R) e h
-stops_lacking s words left U R wants.Behaviour h e = subst (Stops words left U R) e h
-stops_lacking s words left U R wants.Outcome h e = subst (Stops words left U R) e h
+pub stops_lacking : (s : Status) (command : TextCommand) (left : Option (List ℕ)) (R : Type 0) (wanted : Wanted) → Stops command left R s → s ≡ of_wanted wanted → IsUnasked command left wanted
+stops_lacking s command left R (wants.Step place) h e = subst (Stops command left R) e h
+stops_lacking s command left R wants.Behaviour h e = subst (Stops command left R) e h
+stops_lacking s command left R wants.Outcome h e = subst (Stops command left R) e h
 
 -- a command that wants something may end so, and reads an input
-step_end : (command : Command) (place : ℕ) → wanted_by command ≡ Some (wants.Step place) → IsEndOf command (Place place)
+step_end : (command : TextCommand) (place : ℕ) → wanted_by command ≡ Some (wants.Step place) → IsEndOf command (Place place)
 step_end (Why k) place e = let same : k ≡ place = cc in inr (ap Place (sym same))
 step_end (Draw from to None) place e = absurd (cc)
 step_end (Draw from to (Some k)) place e = let same : k ≡ place = cc in inr (place, ap Some same, refl)
@@ -76,7 +74,7 @@ step_end (Storm workers numbers (Claim name)) place e = absurd (cc)
 step_end (Storm workers numbers (Show outcome)) place e = absurd (cc)
 step_end command place e = absurd (cc)
 
-claim_end : (command : Command) → wanted_by command ≡ Some wants.Behaviour → IsEndOf command NoClaim
+claim_end : (command : TextCommand) → wanted_by command ≡ Some wants.Behaviour → IsEndOf command NoClaim
 claim_end (Why k) e = absurd (cc)
 claim_end (Draw from to None) e = absurd (cc)
 claim_end (Draw from to (Some k)) e = absurd (cc)
@@ -85,7 +83,7 @@ claim_end (Storm workers numbers (Claim name)) e = inr (inr refl)
 claim_end (Storm workers numbers (Show outcome)) e = absurd (cc)
 claim_end command e = absurd (cc)
 
-outcome_end : (command : Command) → wanted_by command ≡ Some wants.Outcome → IsEndOf command NoOutcome
+outcome_end : (command : TextCommand) → wanted_by command ≡ Some wants.Outcome → IsEndOf command NoOutcome
 outcome_end (Why k) e = absurd (cc)
 outcome_end (Draw from to None) e = absurd (cc)
 outcome_end (Draw from to (Some k)) e = absurd (cc)
@@ -94,39 +92,34 @@ outcome_end (Storm workers numbers (Claim name)) e = absurd (cc)
 outcome_end (Storm workers numbers (Show outcome)) e = inr refl
 outcome_end command e = absurd (cc)
 
-pub asked_reads : (command : Command) (wanted : Wanted) → wanted_by command ≡ Some wanted → IsTrue (reads_input command)
+pub asked_reads : (command : TextCommand) (wanted : Wanted) → wanted_by command ≡ Some wanted → IsTrue (reads_input command)
 asked_reads (Why k) wanted e = refl
 asked_reads (Draw from to ask) wanted e = refl
 asked_reads (Storm workers numbers question) wanted e = refl
 asked_reads command wanted e = absurd (cc)
 
 -- with no fault anywhere, only want of memory is left
-pub stops_without_fault : (s : Status) (words : List (List ℕ)) (left : Option (List ℕ)) (U R : Type 0) (command : Command) (bytes : List ℕ) → Stops words left U R s
-    → command_of words ≡ Some command → left ≡ Some bytes → ((a b : ℕ) → ¬ IsInputFault command bytes a b) → ¬ R → IsEndOf command s ⊎ (s ≡ NoMemory)
-stops_without_fault Words words left U R command bytes h e l f r = let n : None ≡ Some command = sym h.0 ∙ e in absurd (cc)
-stops_without_fault (Input a b) words left U R command bytes h e l f r =
-    let g : Some h.command ≡ Some command = sym h.is_command ∙ e in
-    let same : h.command ≡ command = cc in
-    let read : h.bytes ≡ bytes = left_told left h.bytes bytes h.are_left l in
-    absurd (f a b (subst (λ x. IsInputFault x bytes a b) same (subst (λ x. IsInputFault h.command x a b) read h.has_fault)))
-stops_without_fault ReadFault words left U R command bytes h e l f r = absurd (r h.1)
-stops_without_fault (Place place) words left U R command bytes h e l f r =
-    let g : Some h.command ≡ Some command = sym h.is_command ∙ e in
-    let same : h.command ≡ command = cc in
-    inl (subst (λ x. IsEndOf x (Place place)) same (step_end h.command place h.in_vain.wants))
-stops_without_fault NoClaim words left U R command bytes h e l f r =
-    let g : Some h.command ≡ Some command = sym h.is_command ∙ e in
-    let same : h.command ≡ command = cc in
-    inl (subst (λ x. IsEndOf x NoClaim) same (claim_end h.command h.in_vain.wants))
-stops_without_fault NoOutcome words left U R command bytes h e l f r =
-    let g : Some h.command ≡ Some command = sym h.is_command ∙ e in
-    let same : h.command ≡ command = cc in
-    inl (subst (λ x. IsEndOf x NoOutcome) same (outcome_end h.command h.in_vain.wants))
-stops_without_fault NoMemory words left U R command bytes h e l f r = inr refl
-stops_without_fault s words left U R command bytes h e l f r = absurd h
+pub stops_without_fault : (s : Status) (command : TextCommand) (left : Option (List ℕ)) (R : Type 0) (bytes : List ℕ) → Stops command left R s → left ≡ Some bytes
+    → ((a b : ℕ) → ¬ IsInputFault command bytes a b) → ¬ R → IsEndOf command s ⊎ (s ≡ NoMemory)
+stops_without_fault (Input a b) command left R bytes h l f r = absurd (f a b (subst (λ x. IsInputFault command x a b) (left_told left h.bytes bytes h.are_left l) h.has_fault))
+stops_without_fault ReadFault command left R bytes h l f r = absurd (r h.1)
+stops_without_fault (Place place) command left R bytes h l f r = inl (step_end command place h.in_vain.wants)
+stops_without_fault NoClaim command left R bytes h l f r = inl (claim_end command h.in_vain.wants)
+stops_without_fault NoOutcome command left R bytes h l f r = inl (outcome_end command h.in_vain.wants)
+stops_without_fault NoMemory command left R bytes h l f r = inr refl
+stops_without_fault s command left R bytes h l f r = absurd h
 
--- nothing that stops a command without a disk tells of one
-pub stops_no_disk : (s : Status) (words : List (List ℕ)) (left : Option (List ℕ)) (U R : Type 0) → Stops words left U R s → ¬ TellsOfDisk s
-stops_no_disk (Journal fault at) words left U R h t = h
-stops_no_disk DiskFault words left U R h t = h
-stops_no_disk s words left U R h t = absurd t
+-- nothing that stops a command with one text tells of a disk, or comes where the text was written
+pub stops_no_disk : (s : Status) (command : TextCommand) (left : Option (List ℕ)) (R : Type 0) → Stops command left R s → ¬ TellsOfDisk s
+stops_no_disk (Journal fault at) command left R h t = h
+stops_no_disk DiskFault command left R h t = h
+stops_no_disk s command left R h t = absurd t
+
+pub stops_no_result : (s : Status) (command : TextCommand) (left : Option (List ℕ)) (R : Type 0) → Stops command left R s → ¬ IsResult s
+stops_no_result (Input a b) command left R h t = t
+stops_no_result ReadFault command left R h t = t
+stops_no_result (Place place) command left R h t = t
+stops_no_result NoClaim command left R h t = t
+stops_no_result NoOutcome command left R h t = t
+stops_no_result NoMemory command left R h t = t
+stops_no_result s command left R h t = absurd h

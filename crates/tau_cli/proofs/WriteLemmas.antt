@@ -3,8 +3,8 @@ use Rattle.std.proofs.Common.{◌≡◌, ◌⊎◌, ℕ, List, inl, inr, refl, a
 use Rattle.tau_points.specs.declared.point.Point.{Point}
 use Rattle.tau_tree.specs.declared.programs.Program.{Program}
 use Rattle.tau_trace.specs.Run.{Run, second}
-use Rattle.tau_command.specs.declared.commands.Command.{Command}
-use Rattle.tau_command.specs.declared.commands.Command.TheVariants as commands
+use Rattle.tau_command.specs.declared.commands.TextCommand.{TextCommand}
+use Rattle.tau_command.specs.declared.commands.TextCommand.TheVariants as commands
 use Rattle.tau_command.specs.declared.storms.StormNumbers.{StormNumbers}
 use Rattle.tau_command.specs.declared.storms.Question.TheVariants as questions
 use Rattle.tau_output.specs.Storming.{TriesClaim}
@@ -57,7 +57,7 @@ claim_end numbers name bytes (ends.Broken checkpoint point fall) text h = absurd
 claim_end numbers name bytes ends.Claimed text h = inr (inl refl)
 
 -- each command, by any number of workers
-pub writes_end : (command : Command) (bytes : List ℕ) (end : End) (text : List ℕ) → Writes command bytes end text → IsEndOf command (of_end end)
+pub writes_end : (command : TextCommand) (bytes : List ℕ) (end : End) (text : List ℕ) → Writes command bytes end text → IsEndOf command (of_end end)
 writes_end (commands.Run workers jobs seed steps) bytes end text w = run_end steps w.answers.runs.program w.answers.runs.run end w.answers.runs.ends
 writes_end commands.Check bytes end text w = check_end w.answers.program w.answers.run end text w.answers.checked
 writes_end commands.Audit bytes end text w = audit_end w.answers.run end text w.answers.audited
@@ -74,7 +74,7 @@ writes_end (commands.Storm workers numbers (questions.Claim name)) bytes end tex
 writes_end (commands.Storm workers numbers (questions.Show outcome)) bytes end text w = inl (ap of_end w.answers.ends)
 
 -- and on one thread
-same_end : (command : Command) (end : End) → IsEndOf (by_one_worker command) (of_end end) → IsEndOf command (of_end end)
+same_end : (command : TextCommand) (end : End) → IsEndOf (by_one_worker command) (of_end end) → IsEndOf command (of_end end)
 same_end (commands.Run workers jobs seed steps) end h = h
 same_end commands.Check end h = h
 same_end commands.Audit end h = h
@@ -88,5 +88,5 @@ same_end commands.Cut end h = h
 same_end (commands.Draw from to ask) end h = h
 same_end (commands.Storm workers numbers question) end e = e
 
-pub serial_end : (command : Command) (bytes : List ℕ) (end : End) (text : List ℕ) → WritesSerially command bytes end text → IsEndOf command (of_end end)
+pub serial_end : (command : TextCommand) (bytes : List ℕ) (end : End) (text : List ℕ) → WritesSerially command bytes end text → IsEndOf command (of_end end)
 serial_end command bytes end text w = same_end command end (writes_end (by_one_worker command) bytes end text w)

@@ -1,4 +1,6 @@
 pub mod Status
+pub mod Effects
 pub mod Output
+pub mod Texts
 pub mod Ends
-pub mod Halves
+pub mod Inner

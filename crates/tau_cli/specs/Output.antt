@@ -1,9 +1,8 @@
--- What the words of a command line write, and why they end without writing.
+-- What a command with one text writes, and why it ends without writing.
 use Rattle.std.specs.Prelude.{◌≡◌, ◌⊎◌, ℕ, ◌<◌, IsTrue, List, length, Option, Some, None}
 use Rattle.tau_points.specs.declared.point.Point.{Point}
-use Rattle.tau_command.specs.declared.commands.Command.{Command}
-use Rattle.tau_command.specs.declared.commands.Command.TheVariants.{Run, Check, Audit, Report, Print, Gen, Drill, Migrate, Why, Cut, Draw, Storm}
-use Rattle.tau_command.specs.Commands.{command_of}
+use Rattle.tau_command.specs.declared.commands.TextCommand.{TextCommand}
+use Rattle.tau_command.specs.declared.commands.TextCommand.TheVariants.{Run, Check, Audit, Report, Print, Gen, Drill, Migrate, Why, Cut, Draw, Storm}
 use Rattle.tau_output.specs.declared.outputs.End.{End}
 use Rattle.tau_output.specs.Faults.{input_limit, reads_input, IsInputFault}
 use Rattle.tau_output.specs.Asking.{AsksInVain}
@@ -11,11 +10,11 @@ use Rattle.tau_output.specs.declared.refusals.Wanted.{Wanted}
 use Rattle.tau_output.specs.declared.refusals.Wanted.TheVariants.{Step, Behaviour, Outcome}
 use Rattle.tau_command.specs.declared.storms.Question.TheVariants.{Outcomes, Claim, Show}
 use Rattle.tau_cli.specs.declared.statuses.Status.{Status}
-use Rattle.tau_cli.specs.declared.statuses.Status.TheVariants.{Done, Stopped, Words, Input, Bad, ReadFault, NoMemory, Broken, Place, Claim as Broken_claim, NoClaim, NoOutcome}
+use Rattle.tau_cli.specs.declared.statuses.Status.TheVariants.{Done, Stopped, Input, Bad, ReadFault, NoMemory, Broken, Place, Claim as Broken_claim, NoClaim, NoOutcome}
 use Rattle.tau_cli.specs.Status.{of_end}
 
 -- how a command ends where its input has no fault and nothing fails; `why`, `draw` and `storm` may ask in vain
-abbrev pub IsEndOf : Command → Status → Type 0
+abbrev pub IsEndOf : TextCommand → Status → Type 0
 IsEndOf (Run workers jobs seed steps) status = (status ≡ Done) ⊎ (status ≡ Stopped)
 IsEndOf Check status = (status ≡ Done) ⊎ ((place : ℕ) × (status ≡ Bad place))
 IsEndOf Audit status = (status ≡ Done) ⊎ ((checkpoint : ℕ) × (point : Point) × (fall : ℕ) × (status ≡ Broken checkpoint point fall))
@@ -44,50 +43,37 @@ pub record IsTooLong (left : Option (List ℕ)) : Type 0 where
 
 -- that a command writes this text for bytes, and how it then ends
 abbrev pub Writing : Type 1
-Writing = Command → List ℕ → End → List ℕ → Type 0
+Writing = TextCommand → List ℕ → End → List ℕ → Type 0
 
--- the command of the words writes this text for the bytes that a source had left, where it reads them, and ends with this status
-pub record IsOutput (Writes : Writing) (words : List (List ℕ)) (left : Option (List ℕ)) (status : Status) (text : List ℕ) : Type 0 where
-  pub command : Command
-  pub is_command : command_of words ≡ Some command
+-- a command writes this text for the bytes that a source had left, where it reads them, and ends with this status
+pub record IsOutput (Writes : Writing) (command : TextCommand) (left : Option (List ℕ)) (status : Status) (text : List ℕ) : Type 0 where
   pub bytes : List ℕ
   pub are_left : IsTrue (reads_input command) → AreLeft left bytes
   pub end : End
   pub writes : Writes command bytes end text
   pub is_status : status ≡ of_end end
 
--- the bytes that a source had left are an input of the command of the words that has this fault at this place
-pub record IsFaulty (words : List (List ℕ)) (left : Option (List ℕ)) (fault at : ℕ) : Type 0 where
-  pub command : Command
-  pub is_command : command_of words ≡ Some command
+-- the bytes that a source had left are an input of a command that has this fault at this place
+pub record IsFaulty (command : TextCommand) (left : Option (List ℕ)) (fault at : ℕ) : Type 0 where
   pub bytes : List ℕ
   pub are_left : AreLeft left bytes
   pub has_fault : IsInputFault command bytes fault at
 
--- the command of the words wants this in vain of the bytes that the source had left
-pub record IsUnasked (words : List (List ℕ)) (left : Option (List ℕ)) (wanted : Wanted) : Type 0 where
-  pub command : Command
-  pub is_command : command_of words ≡ Some command
+-- a command wants this in vain of the bytes that the source had left
+pub record IsUnasked (command : TextCommand) (left : Option (List ℕ)) (wanted : Wanted) : Type 0 where
   pub bytes : List ℕ
   pub are_left : AreLeft left bytes
   pub in_vain : AsksInVain command bytes wanted
 
--- the words name a command that reads an input
-pub record NamesReader (words : List (List ℕ)) : Type 0 where
-  pub command : Command
-  pub is_command : command_of words ≡ Some command
-  pub reads : IsTrue (reads_input command)
-
--- why a command ends before it writes, by the status; that nothing was read, and that the source failed, are given
-abbrev pub Stops : List (List ℕ) → Option (List ℕ) → Type 0 → Type 0 → Status → Type 0
-Stops words left Unread Failed Words = (command_of words ≡ None) × Unread
-Stops words left Unread Failed (Input fault at) = IsFaulty words left fault at
-Stops words left Unread Failed ReadFault = NamesReader words × Failed
-Stops words left Unread Failed (Place place) = IsUnasked words left (Step place)
-Stops words left Unread Failed NoClaim = IsUnasked words left Behaviour
-Stops words left Unread Failed NoOutcome = IsUnasked words left Outcome
-Stops words left Unread Failed NoMemory = Unit {0}
-Stops words left Unread Failed status = ⊥
+-- why a command ends before it writes, by the status; that the source failed is given
+abbrev pub Stops : TextCommand → Option (List ℕ) → Type 0 → Status → Type 0
+Stops command left Failed (Input fault at) = IsFaulty command left fault at
+Stops command left Failed ReadFault = IsTrue (reads_input command) × Failed
+Stops command left Failed (Place place) = IsUnasked command left (Step place)
+Stops command left Failed NoClaim = IsUnasked command left Behaviour
+Stops command left Failed NoOutcome = IsUnasked command left Outcome
+Stops command left Failed NoMemory = Unit {0}
+Stops command left Failed status = ⊥
 
 -- this status, or a failed read or want of memory in its place
 abbrev pub IsUnlessUnread : Status → Status → Type 0

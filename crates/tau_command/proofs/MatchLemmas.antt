@@ -10,7 +10,8 @@ use Rattle.clap.specs.declared.parser.matches.MatchedArg.{MatchedArg}
 use Rattle.clap.proofs.OnLiterals.{clap_on_literals}
 use Rattle.clap.proofs.WalkLemmas.{find_row}
 use Rattle.tau_command.specs.Arguments.{tau_command}
-use Rattle.tau_command.specs.Commands.{command_matched, command_of, is_from_words, journal_command_of, journal_matched, stands, where_faultless}
+use Rattle.tau_command.specs.Commands.{command_matched, command_of, is_from_words, stands, where_faultless}
+use Rattle.tau_command.specs.declared.commands.Command.{Command}
 use Rattle.tau_command.specs.declared.commands.WordsError.{WordsError}
 use Rattle.tau_command.specs.declared.commands.WordsError.TheVariants.{Words}
 
@@ -24,7 +25,7 @@ unfolding clap_on_literals tau_command
 tau_is_free = refl
 
 -- words that `clap` refuses name no command
-refused_at : {A : Type 0} (kinds : Kinds) (o : Option A) → (kinds ≡ [] → ⊥) → where_faultless kinds o ≡ None
+refused_at : (kinds : Kinds) (o : Option Command) → (kinds ≡ [] → ⊥) → where_faultless kinds o ≡ None
 refused_at [] o faulty = absurd (faulty refl)
 refused_at (k ∷ kinds) o faulty = refl
 
@@ -36,15 +37,6 @@ refused words faulty = refused_at (fault_of tau_command words) _ faulty
 pub accepted : (words : List Text) → fault_of tau_command words ≡ [] → command_of words ≡ command_matched (matches_of tau_command words)
 unfolding command_of
 accepted words none = ap (λ (kinds : Kinds). where_faultless kinds (command_matched (matches_of tau_command words))) none
-
--- and so of a command over a journal
-pub journal_refused : (words : List Text) → (fault_of tau_command words ≡ [] → ⊥) → journal_command_of words ≡ None
-unfolding journal_command_of
-journal_refused words faulty = refused_at (fault_of tau_command words) _ faulty
-
-pub journal_accepted : (words : List Text) → fault_of tau_command words ≡ [] → journal_command_of words ≡ journal_matched (matches_of tau_command words)
-unfolding journal_command_of
-journal_accepted words none = ap (λ (kinds : Kinds). where_faultless kinds (journal_matched (matches_of tau_command words))) none
 
 -- an error that is handed on is the one that came
 pub same_error : (T : Type 0) (r : Result T WordsError) (x : WordsError) → IsErrAnd r (λ y. y ≡ x) → IsErrOf r Words → x ≡ Words

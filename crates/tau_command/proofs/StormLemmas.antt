@@ -6,9 +6,14 @@ use Rattle.tau_command.specs.Arguments.{tau_command}
 use Rattle.tau_command.specs.Numbers.{number_of}
 use Rattle.tau_command.specs.Commands.{AreStormNumbers, IsInRange}
 use Rattle.tau_command.specs.Storms.{question_of, storm_numbers, storm_of}
-use Rattle.tau_command.specs.declared.commands.Command.{Command}
+use Rattle.tau_command.specs.declared.commands.Command.TheVariants as commands
+use Rattle.tau_command.specs.declared.commands.TextCommand.{TextCommand}
 use Rattle.tau_command.specs.declared.storms.StormNumbers.{StormNumbers}
 use Rattle.tau_command.proofs.OptionLemmas.{workers_in_range, jobs_in_range, seeds_in_range, fails_in_range, losses_in_range, repeats_in_range, every_in_range, steps_in_range}
+
+-- the numbers of a command that makes one text lie in the ranges of their options
+abbrev pub IsTextInRange : TextCommand → Type 0
+IsTextInRange command = IsInRange (commands.Text command)
 
 -- what an answer that is there came from
 and_then_some : {A B : Type 0} (f : A → Option B) (o : Option A) (b : B) → option_and_then f o ≡ Some b → (a : A) × (o ≡ Some a) × (f a ≡ Some b)
@@ -46,11 +51,11 @@ numbers_in_range words n none e =
       few_steps = (steps_in_range words i.0 none i.1).1;
     })
 
-pub storm_in_range : (words : List Text) (c : Command) → fault_of tau_command words ≡ [] → storm_of (matches_of tau_command words) ≡ Some c → IsInRange c
+pub storm_in_range : (words : List Text) (c : TextCommand) → fault_of tau_command words ≡ [] → storm_of (matches_of tau_command words) ≡ Some c → IsTextInRange c
 storm_in_range words c none e =
     let rows = matches_of tau_command words in
     let w = and_then_some _ (number_of 32 (codes "workers") rows) c e in
     let n = and_then_some _ (storm_numbers rows) c w.2 in
     let q = map_some _ (question_of rows) c n.2 in
     let workers = workers_in_range words w.0 none w.1 in
-    subst IsInRange q.2 (workers.0, workers.1, numbers_in_range words n.0 none n.1)
+    subst IsTextInRange q.2 (workers.0, workers.1, numbers_in_range words n.0 none n.1)

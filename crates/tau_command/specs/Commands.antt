@@ -9,9 +9,9 @@ use Rattle.tau_command.specs.Arguments.{tau_command}
 use Rattle.tau_command.specs.Numbers.{number_of}
 use Rattle.tau_command.specs.Storms.{storm_of}
 use Rattle.tau_command.specs.declared.commands.Command.{Command}
-use Rattle.tau_command.specs.declared.commands.Command.TheVariants.{Run, Check, Audit, Report, Print, Gen, Drill, Migrate, Why, Cut, Draw, Storm}
-use Rattle.tau_command.specs.declared.commands.JournalCommand.{JournalCommand}
-use Rattle.tau_command.specs.declared.commands.JournalCommand.TheVariants.{Keep, Resume}
+use Rattle.tau_command.specs.declared.commands.Command.TheVariants as commands
+use Rattle.tau_command.specs.declared.commands.TextCommand.{TextCommand}
+use Rattle.tau_command.specs.declared.commands.TextCommand.TheVariants.{Run, Check, Audit, Report, Print, Gen, Drill, Migrate, Why, Cut, Draw, Storm}
 use Rattle.tau_command.specs.declared.matched.RunNumbers.{RunNumbers}
 use Rattle.tau_command.specs.declared.storms.StormNumbers.{StormNumbers}
 
@@ -25,7 +25,7 @@ is_from_words source = false
 abbrev pub stands : Text → List Row → Bool
 stands id rows = is_from_words (option_and_then (λ r. r.source) (find (λ r. bytes_eq r.id id) rows))
 
--- an option of both `run` and `storm` stands on the line
+-- an option of `run`, `keep`, `resume` and `storm` stands on the line
 abbrev pub has_choice_option : List Row → Bool
 has_choice_option rows = stands (codes "workers") rows || (stands (codes "jobs") rows || (stands (codes "seed") rows || stands (codes "steps") rows))
 
@@ -50,17 +50,17 @@ run_numbers rows =
     (number_of 32 (codes "jobs") rows)) (number_of 32 (codes "workers") rows)
 
 -- `run`, with its four numbers
-abbrev pub run_of : List Row → Option Command
+abbrev pub run_of : List Row → Option TextCommand
 run_of rows = option_map (λ n. Run n.workers n.jobs n.seed n.steps) (run_numbers rows)
 
 -- `draw`, with the two numbers of its window, and its place where a number stands on the line
-abbrev pub draw_of : List Row → Option Command
+abbrev pub draw_of : List Row → Option TextCommand
 draw_of rows =
     option_and_then (λ from. option_map (λ to. Draw from to (number_of 64 (codes "number") rows))
     (number_of 32 (codes "to") rows)) (number_of 32 (codes "from") rows)
 
 -- the command with a name that has at most numbers; `gen`, `drill` and `why` have theirs
-abbrev pub plain_named : Text → List Row → Option Command
+abbrev pub plain_named : Text → List Row → Option TextCommand
 plain_named name rows = if bytes_eq name (codes "run") then run_of rows
     else (if bytes_eq name (codes "check") then Some Check
     else (if bytes_eq name (codes "audit") then Some Audit
@@ -74,9 +74,20 @@ plain_named name rows = if bytes_eq name (codes "run") then run_of rows
     else (if bytes_eq name (codes "draw") then draw_of rows
     else None))))))))))
 
--- the command with a name
+-- the command with a name that makes one text
+abbrev pub text_named : Text → List Row → Option TextCommand
+text_named name rows = if bytes_eq name (codes "storm") then storm_of rows else plain_named name rows
+
+-- the command with a name; `keep` and `resume` have the numbers of `run`, and that of the workers is read and not used
 abbrev pub command_named : Text → List Row → Option Command
-command_named name rows = if bytes_eq name (codes "storm") then storm_of rows else plain_named name rows
+command_named name rows = if bytes_eq name (codes "keep") then option_map (λ n. commands.Keep n.jobs n.seed n.steps) (run_numbers rows)
+    else (if bytes_eq name (codes "resume") then option_map (λ n. commands.Resume n.jobs n.seed n.steps) (run_numbers rows)
+    else option_map (λ c. commands.Text c) (text_named name rows))
+
+-- a command with which the options of `run` may stand
+abbrev pub takes_choices : Text → Bool
+takes_choices name = bytes_eq name (codes "run")
+    || (bytes_eq name (codes "keep") || (bytes_eq name (codes "resume") || bytes_eq name (codes "storm")))
 
 -- a command with which a number may stand
 abbrev pub takes_number : Text → Bool
@@ -85,7 +96,7 @@ takes_number name = bytes_eq name (codes "gen")
 
 -- an option stands with a command that it doesn't go with, or a number with one that takes none
 abbrev pub stands_amiss : Text → List Row → Bool
-stands_amiss name rows = (has_choice_option rows && (not (bytes_eq name (codes "run")) && not (bytes_eq name (codes "storm"))))
+stands_amiss name rows = (has_choice_option rows && not (takes_choices name))
     || ((has_window_option rows && not (bytes_eq name (codes "draw")))
     || ((has_storm_option rows && not (bytes_eq name (codes "storm"))) || (stands (codes "number") rows && not (takes_number name))))
 
@@ -98,7 +109,7 @@ abbrev pub command_matched : List Row → Option Command
 command_matched rows = option_and_then (command_allowed rows) (first_of (codes "command") rows)
 
 -- a command, where the words have no fault
-abbrev pub where_faultless : {A : Type 0} → Kinds → Option A → Option A
+abbrev pub where_faultless : Kinds → Option Command → Option Command
 where_faultless [] command = command
 where_faultless (kind ∷ kinds) command = None
 
@@ -106,27 +117,6 @@ where_faultless (kind ∷ kinds) command = None
 unfoldable pub command_of : List Text → Option Command
 command_of words =
     where_faultless (fault_of tau_command words) (command_matched (matches_of tau_command words))
-
--- ---- the commands over a journal
-
--- `keep` and `resume`, with the numbers of the options of `run`; that of the workers is read and not used
-abbrev pub journal_named : Text → List Row → Option JournalCommand
-journal_named name rows = if bytes_eq name (codes "keep") then option_map (λ n. Keep n.jobs n.seed n.steps) (run_numbers rows)
-    else (if bytes_eq name (codes "resume") then option_map (λ n. Resume n.jobs n.seed n.steps) (run_numbers rows)
-    else None)
-
--- the command with a name, where no number and no option of `draw` or of `storm` alone stands on the line
-abbrev pub journal_allowed : List Row → Text → Option JournalCommand
-journal_allowed rows name = if has_window_option rows || (has_storm_option rows || stands (codes "number") rows) then None else journal_named name rows
-
--- the command of the matches
-abbrev pub journal_matched : List Row → Option JournalCommand
-journal_matched rows = option_and_then (journal_allowed rows) (first_of (codes "command") rows)
-
--- the command over a journal that the words name, by the same matches
-unfoldable pub journal_command_of : List Text → Option JournalCommand
-journal_command_of words =
-    where_faultless (fault_of tau_command words) (journal_matched (matches_of tau_command words))
 
 -- ---- the ranges
 
@@ -143,13 +133,10 @@ pub record AreStormNumbers (n : StormNumbers) : Type 0 where
   pub few_every : n.every ≤ 200000
   pub few_steps : n.steps ≤ 200000
 
--- the numbers of `run` and of `storm` lie in the ranges of their options
+-- the numbers of `keep`, `resume`, `run` and `storm` lie in the ranges of their options
 abbrev pub IsInRange : Command → Type 0
-IsInRange (Run workers jobs seed steps) = (1 ≤ workers) × (workers ≤ 32) × (1 ≤ jobs) × (jobs ≤ 16) × (steps ≤ 200000)
-IsInRange (Storm workers numbers question) = (1 ≤ workers) × (workers ≤ 32) × AreStormNumbers numbers
-IsInRange command = Unit {0}
-
--- and those of a command over a journal
-abbrev pub IsInJournalRange : JournalCommand → Type 0
-IsInJournalRange (Keep jobs seed steps) = (1 ≤ jobs) × (jobs ≤ 16) × (steps ≤ 200000)
-IsInJournalRange (Resume jobs seed steps) = (1 ≤ jobs) × (jobs ≤ 16) × (steps ≤ 200000)
+IsInRange (commands.Keep jobs seed steps) = (1 ≤ jobs) × (jobs ≤ 16) × (steps ≤ 200000)
+IsInRange (commands.Resume jobs seed steps) = (1 ≤ jobs) × (jobs ≤ 16) × (steps ≤ 200000)
+IsInRange (commands.Text (Run workers jobs seed steps)) = (1 ≤ workers) × (workers ≤ 32) × (1 ≤ jobs) × (jobs ≤ 16) × (steps ≤ 200000)
+IsInRange (commands.Text (Storm workers numbers question)) = (1 ≤ workers) × (workers ≤ 32) × AreStormNumbers numbers
+IsInRange (commands.Text command) = Unit {0}

@@ -2,8 +2,8 @@
 use Rattle.std.specs.Prelude.{ℕ, List, Option, Some, None, codes, option_map, option_and_then}
 use Rattle.clap.specs.Words.{Row, Text, first_of}
 use Rattle.tau_command.specs.Numbers.{number_of}
-use Rattle.tau_command.specs.declared.commands.Command.{Command}
-use Rattle.tau_command.specs.declared.commands.Command.TheVariants.{Storm}
+use Rattle.tau_command.specs.declared.commands.TextCommand.{TextCommand}
+use Rattle.tau_command.specs.declared.commands.TextCommand.TheVariants.{Storm}
 use Rattle.tau_command.specs.declared.storms.StormNumbers.{StormNumbers}
 use Rattle.tau_command.specs.declared.storms.Question.{Question}
 use Rattle.tau_command.specs.declared.storms.Question.TheVariants.{Outcomes, Claim, Show}
@@ -30,6 +30,6 @@ abbrev pub question_of : List Row → Option Question
 question_of rows = question_by (first_of (codes "claim") rows) (number_of 32 (codes "show") rows)
 
 -- `storm`, with the number of its workers, its numbers and what is asked
-abbrev pub storm_of : List Row → Option Command
+abbrev pub storm_of : List Row → Option TextCommand
 storm_of rows = option_and_then (λ w. option_and_then (λ n. option_map (λ q. Storm w n q) (question_of rows)) (storm_numbers rows))
     (number_of 32 (codes "workers") rows)

@@ -1,20 +1,20 @@
 //! The commands, and the words that name them.
-ghost use Rattle.std.specs.Prelude.{◌≡◌, ◌≢◌, None, Some, [], IfOk, IfSome, IsErrOf};
+ghost use Rattle.std.specs.Prelude.{◌≡◌, ◌≢◌, None, Some, [], IfOk, IsErrOf};
 ghost use Rattle.clap.specs.Words.{fault_of, found_of, matches_of, rows_of};
 ghost use Rattle.tau_command.specs.Arguments.{tau_command};
-ghost use Rattle.tau_command.specs.Commands.{command_of, journal_command_of, IsInRange, IsInJournalRange};
+ghost use Rattle.tau_command.specs.Commands.{command_of, IsInRange};
 
 use crate::arguments::tau_command;
-use crate::matched::{command_matched, journal_matched};
+use crate::matched::command_matched;
 use crate::{Question, StormNumbers, Words};
 use clap::ArgMatches;
 use clap::error::ErrorKind;
 use std::alloc::{AllocError, Global};
 use thiserror::Error;
 
-/// A command with its numbers (docs/formats.md, "Command line").
+/// A command that makes one text of one input, with its numbers (docs/formats.md, "Command line").
 #[derive(Debug, Drop)]
-pub enum Command {
+pub enum TextCommand {
     /// Runs a program, and writes its run text.
     Run {
         /// How many workers run the program.
@@ -73,9 +73,9 @@ pub enum Command {
     },
 }
 
-/// A command over a journal with its numbers (docs/formats.md, "Command line").
-#[derive(Clone, Copy, Debug, PartialEq, Eq)]
-pub enum JournalCommand {
+/// What the words of a command line ask for (docs/formats.md, "Command line").
+#[derive(Debug, Drop)]
+pub enum Command {
     /// Runs a program by one worker, keeps each step in a journal before the next is made, and writes the run text.
     Keep {
         /// How many jobs the worker holds at most.
@@ -94,6 +94,8 @@ pub enum JournalCommand {
         /// The most steps that the run does, those of the journal counted; no fewer than these.
         steps: u32,
     },
+    /// Makes one text of one input, or of none, and writes it.
+    Text(TextCommand),
 }
 
 /// Why words name no command (docs/formats.md, "Error types").
@@ -127,22 +129,6 @@ pub fn read_words(alloc: Global, words: &Words) -> Result<Command, WordsError>
     let matches = match_words(alloc, words)?;
     let command = command_matched(alloc, &matches)?;
     command.ok_or(WordsError::Words)
-}
-
-/// The command over a journal that the words of a command line name (docs/formats.md, "Command line"); `None` where they name none.
-/// The error is want of memory.
-pub fn read_journal_words(
-    alloc: Global,
-    words: &Words,
-) -> Result<Option<JournalCommand>, AllocError>
-    ensures command { IfOk result (λ c. c ≡ journal_command_of words.now) }
-    ensures ranges { IfOk result (λ c. IfSome c IsInJournalRange) }
-{
-    match match_words(alloc, words) {
-        Ok(matches) => Ok(journal_matched(&matches)),
-        Err(WordsError::Words) => Ok(None),
-        Err(WordsError::NoMemory) => Err(AllocError),
-    }
 }
 
 /// The matches that `clap` has for the words.

@@ -7,6 +7,6 @@ mod lines;
 mod matched;
 mod storms;
 
-pub use commands::{Command, JournalCommand, WordsError, read_journal_words, read_words};
+pub use commands::{Command, TextCommand, WordsError, read_words};
 pub use lines::{Line, Words};
 pub use storms::{Question, StormNumbers};

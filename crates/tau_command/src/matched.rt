@@ -2,10 +2,10 @@
 ghost use Rattle.std.specs.Prelude.{◌≡◌, IfOk};
 ghost use Rattle.clap.specs.Words.{found_of, rows_of};
 ghost use Rattle.tau_command.specs.Numbers.{number_of};
-ghost use Rattle.tau_command.specs.Commands.{command_allowed, command_matched, command_named, draw_of, has_choice_option, has_storm_option, has_window_option, is_from_words, journal_allowed, journal_matched, journal_named, plain_named, run_numbers, run_of, stands, stands_amiss, takes_number};
+ghost use Rattle.tau_command.specs.Commands.{command_allowed, command_matched, command_named, draw_of, has_choice_option, has_storm_option, has_window_option, is_from_words, plain_named, run_numbers, run_of, stands, stands_amiss, takes_choices, takes_number, text_named};
 
 use crate::storms::storm_of;
-use crate::{Command, JournalCommand};
+use crate::{Command, TextCommand};
 use clap::ArgMatches;
 use clap::parser::ValueSource;
 use std::alloc::{AllocError, Global};
@@ -51,10 +51,17 @@ fn command_allowed(
 fn stands_amiss(name: &str, matches: &ArgMatches<'_>) -> bool
     ensures { result ≡ stands_amiss name.now (rows_of (found_of matches.now)) }
 {
-    (has_choice_option(matches) && name != "run" && name != "storm")
+    (has_choice_option(matches) && !takes_choices(name))
         || (has_window_option(matches) && name != "draw")
         || (has_storm_option(matches) && name != "storm")
         || (stands(matches, "number") && !takes_number(name))
+}
+
+/// Whether the options of `run` may stand with a command.
+fn takes_choices(name: &str) -> bool
+    ensures { result ≡ takes_choices name.now }
+{
+    name == "run" || name == "keep" || name == "resume" || name == "storm"
 }
 
 /// Whether a number may stand with a command.
@@ -64,13 +71,37 @@ fn takes_number(name: &str) -> bool
     name == "gen" || name == "drill" || name == "why" || name == "draw"
 }
 
-/// The command with this name. The error is want of memory.
+/// The command with this name. With `keep` and `resume` the number of workers is read and not used, since one makes the run. The error is
+/// want of memory.
 fn command_named(
     alloc: Global,
     name: &str,
     matches: &ArgMatches<'_>,
 ) -> Result<Option<Command>, AllocError>
     ensures { IfOk result (λ c. c ≡ command_named name.now (rows_of (found_of matches.now))) }
+{
+    match name {
+        "keep" => Ok(run_numbers(matches).map(|numbers| Command::Keep {
+            jobs: numbers.jobs,
+            seed: numbers.seed,
+            steps: numbers.steps,
+        })),
+        "resume" => Ok(run_numbers(matches).map(|numbers| Command::Resume {
+            jobs: numbers.jobs,
+            seed: numbers.seed,
+            steps: numbers.steps,
+        })),
+        _ => Ok(text_named(alloc, name, matches)?.map(|command| Command::Text(command))),
+    }
+}
+
+/// The command with this name that makes one text. The error is want of memory.
+fn text_named(
+    alloc: Global,
+    name: &str,
+    matches: &ArgMatches<'_>,
+) -> Result<Option<TextCommand>, AllocError>
+    ensures { IfOk result (λ c. c ≡ text_named name.now (rows_of (found_of matches.now))) }
 {
     if name == "storm" {
         storm_of(alloc, matches)
@@ -80,30 +111,30 @@ fn command_named(
 }
 
 /// The command with this name, where it has at most numbers.
-fn plain_named(name: &str, matches: &ArgMatches<'_>) -> Option<Command>
+fn plain_named(name: &str, matches: &ArgMatches<'_>) -> Option<TextCommand>
     ensures { result ≡ plain_named name.now (rows_of (found_of matches.now)) }
 {
     match name {
         "run" => run_of(matches),
-        "check" => Some(Command::Check),
-        "audit" => Some(Command::Audit),
-        "report" => Some(Command::Report),
-        "print" => Some(Command::Print),
-        "gen" => long_number(matches, "number").map(|number| Command::Gen { number }),
-        "drill" => long_number(matches, "number").map(|number| Command::Drill { number }),
-        "migrate" => Some(Command::Migrate),
-        "why" => long_number(matches, "number").map(|place| Command::Why { place }),
-        "cut" => Some(Command::Cut),
+        "check" => Some(TextCommand::Check),
+        "audit" => Some(TextCommand::Audit),
+        "report" => Some(TextCommand::Report),
+        "print" => Some(TextCommand::Print),
+        "gen" => long_number(matches, "number").map(|number| TextCommand::Gen { number }),
+        "drill" => long_number(matches, "number").map(|number| TextCommand::Drill { number }),
+        "migrate" => Some(TextCommand::Migrate),
+        "why" => long_number(matches, "number").map(|place| TextCommand::Why { place }),
+        "cut" => Some(TextCommand::Cut),
         "draw" => draw_of(matches),
         _ => None,
     }
 }
 
 /// The command `run` with its four numbers.
-fn run_of(matches: &ArgMatches<'_>) -> Option<Command>
+fn run_of(matches: &ArgMatches<'_>) -> Option<TextCommand>
     ensures { result ≡ run_of (rows_of (found_of matches.now)) }
 {
-    run_numbers(matches).map(|numbers| Command::Run {
+    run_numbers(matches).map(|numbers| TextCommand::Run {
         workers: numbers.workers,
         jobs: numbers.jobs,
         seed: numbers.seed,
@@ -123,55 +154,18 @@ fn run_numbers(matches: &ArgMatches<'_>) -> Option<RunNumbers>
     })
 }
 
-/// The command over a journal of the matches.
-pub fn journal_matched(matches: &ArgMatches<'_>) -> Option<JournalCommand>
-    ensures { result ≡ journal_matched (rows_of (found_of matches.now)) }
-{
-    journal_allowed(matches.get_str("command")?, matches)
-}
-
-/// The command over a journal with this name, where no number and no option of `draw` or `storm` alone stands on the line.
-fn journal_allowed(name: &str, matches: &ArgMatches<'_>) -> Option<JournalCommand>
-    ensures { result ≡ journal_allowed (rows_of (found_of matches.now)) name.now }
-{
-    if has_window_option(matches) || has_storm_option(matches) || stands(matches, "number") {
-        None
-    } else {
-        journal_named(name, matches)
-    }
-}
-
-/// The command over a journal with this name. The number of workers is read and not used, since one makes the run.
-fn journal_named(name: &str, matches: &ArgMatches<'_>) -> Option<JournalCommand>
-    ensures { result ≡ journal_named name.now (rows_of (found_of matches.now)) }
-{
-    match name {
-        "keep" => run_numbers(matches).map(|numbers| JournalCommand::Keep {
-            jobs: numbers.jobs,
-            seed: numbers.seed,
-            steps: numbers.steps,
-        }),
-        "resume" => run_numbers(matches).map(|numbers| JournalCommand::Resume {
-            jobs: numbers.jobs,
-            seed: numbers.seed,
-            steps: numbers.steps,
-        }),
-        _ => None,
-    }
-}
-
 /// The command `draw` with its window, and the place of the step that is asked for, if one is.
-fn draw_of(matches: &ArgMatches<'_>) -> Option<Command>
+fn draw_of(matches: &ArgMatches<'_>) -> Option<TextCommand>
     ensures { result ≡ draw_of (rows_of (found_of matches.now)) }
 {
-    Some(Command::Draw {
+    Some(TextCommand::Draw {
         from: short_number(matches, "from")?,
         to: short_number(matches, "to")?,
         ask: long_number(matches, "number"),
     })
 }
 
-/// Whether an option of both `run` and `storm` stands on the line.
+/// Whether an option of `run`, `keep`, `resume` and `storm` stands on the line.
 fn has_choice_option(matches: &ArgMatches<'_>) -> bool
     ensures { result ≡ has_choice_option (rows_of (found_of matches.now)) }
 {

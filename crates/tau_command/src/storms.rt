@@ -4,7 +4,7 @@ ghost use Rattle.clap.specs.Words.{found_of, rows_of};
 ghost use Rattle.tau_command.specs.Storms.{question_of, storm_numbers, storm_of};
 
 use crate::matched::{long_number, short_number};
-use crate::{Command, Line};
+use crate::{Line, TextCommand};
 use clap::ArgMatches;
 use std::alloc::{AllocError, Global};
 
@@ -51,7 +51,7 @@ pub enum Question {
 pub(crate) fn storm_of(
     alloc: Global,
     matches: &ArgMatches<'_>,
-) -> Result<Option<Command>, AllocError>
+) -> Result<Option<TextCommand>, AllocError>
     ensures { IfOk result (λ c. c ≡ storm_of (rows_of (found_of matches.now))) }
 {
     let Some(workers) = short_number(matches, "workers") else {
@@ -60,7 +60,7 @@ pub(crate) fn storm_of(
     let Some(numbers) = storm_numbers(matches) else {
         return Ok(None);
     };
-    Ok(question_of(alloc, matches)?.map(|question| Command::Storm {
+    Ok(question_of(alloc, matches)?.map(|question| TextCommand::Storm {
         workers,
         numbers,
         question,

@@ -18,8 +18,8 @@ use Rattle.tau_cut.specs.Texts.{IsCutText}
 use Rattle.tau_cut.proofs.OneCut.{cut_text_once}
 use Rattle.tau_picture.specs.Pictures.{IsPictureText}
 use Rattle.tau_picture.proofs.OnePicture.{picture_text_once}
-use Rattle.tau_command.specs.declared.commands.Command.{Command}
-use Rattle.tau_command.specs.declared.commands.Command.TheVariants.{Run as RunCommand, Check, Audit, Report, Print, Gen, Drill, Migrate, Why, Cut, Draw, Storm}
+use Rattle.tau_command.specs.declared.commands.TextCommand.{TextCommand}
+use Rattle.tau_command.specs.declared.commands.TextCommand.TheVariants.{Run as RunCommand, Check, Audit, Report, Print, Gen, Drill, Migrate, Why, Cut, Draw, Storm}
 use Rattle.tau_text.specs.declared.errors.InputError.{InputError}
 use Rattle.tau_text.specs.declared.errors.InputError.TheVariants as inputs
 use Rattle.tau_text.specs.Errors.{TellsInputFault}
@@ -52,7 +52,7 @@ use Rattle.tau_output.proofs.SerialLemmas.{text_once, runs_once, drills_once}
 use Rattle.tau_output.specs.Laws.{WritesOnce, WritesWithoutFault, WritesWhereAsked, StormsAlike, FailsOnce}
 
 -- bytes have one fault as a command takes them
-one_fault_of : (command : Command) (bytes : List ℕ) (a b c d : ℕ) → IsFaultOf command bytes a b → IsFaultOf command bytes c d → (a ≡ c) × (b ≡ d)
+one_fault_of : (command : TextCommand) (bytes : List ℕ) (a b c d : ℕ) → IsFaultOf command bytes a b → IsFaultOf command bytes c d → (a ≡ c) × (b ≡ d)
 one_fault_of (RunCommand workers jobs seed steps) bytes a b c d f g = (program_unique bytes).one_fault a b c d f g
 one_fault_of Check bytes a b c d f g = (run_unique bytes).one_fault a b c d f g
 one_fault_of Audit bytes a b c d f g = (run_unique bytes).one_fault a b c d f g
@@ -73,7 +73,7 @@ fails_once bytes command a b c d (within m g) (too_long r l p q) = absurd (omega
 fails_once bytes command a b c d (within m g) (within n h) = one_fault_of command bytes a b c d g h
 
 -- nothing is answered for bytes with a fault
-clean : (command : Command) (bytes : List ℕ) (end : End) (text : List ℕ) (a b : ℕ) → Answers command bytes end text → IsFaultOf command bytes a b → ⊥
+clean : (command : TextCommand) (bytes : List ℕ) (end : End) (text : List ℕ) (a b : ℕ) → Answers command bytes end text → IsFaultOf command bytes a b → ⊥
 clean (RunCommand workers jobs seed steps) bytes end text a b w f = (program_unique bytes).not_both w.runs.program a b w.runs.spelled f
 clean Check bytes end text a b w f = (run_unique bytes).not_both (w.program, w.run) a b w.read f
 clean Audit bytes end text a b w f = (run_unique bytes).not_both (w.program, w.run) a b w.read f
@@ -99,7 +99,7 @@ not_without Allowed bytes P T read allowed n =
     let same = (run_unique bytes).one_meaning (P, T) (n.program, n.run) read n.read in
     n.in_vain (subst (λ (x : Program × Run). Allowed x.1) same allowed)
 
-answers_where_asked : (command : Command) (bytes : List ℕ) (end : End) (text : List ℕ) → Answers command bytes end text → Lacks command bytes → ⊥
+answers_where_asked : (command : TextCommand) (bytes : List ℕ) (end : End) (text : List ℕ) → Answers command bytes end text → Lacks command bytes → ⊥
 answers_where_asked (Why asked) bytes end text w n = not_without (λ T. IsDecision T asked) bytes w.0.program w.0.run w.0.read w.0.asked n
 answers_where_asked (Draw from to ask) bytes end text w n = not_without (λ T. Allows T ask) bytes w.0.program w.0.run w.0.read w.0.asked n
 answers_where_asked (Storm workers numbers Outcomes) bytes end text w n = absurd n
@@ -111,13 +111,13 @@ pub writes_where_asked : (bytes : List ℕ) → WritesWhereAsked bytes
 writes_where_asked bytes command end text wanted w n = answers_where_asked command bytes end text w.answers n.lacks
 
 -- and a command that wants nothing doesn't
-pub asks_none : (command kind : Command) (bytes : List ℕ) (wanted : Wanted) → command ≡ kind → wanted_by kind ≡ None → AsksInVain command bytes wanted → ⊥
+pub asks_none : (command kind : TextCommand) (bytes : List ℕ) (wanted : Wanted) → command ≡ kind → wanted_by kind ≡ None → AsksInVain command bytes wanted → ⊥
 asks_none command kind bytes wanted same none asked =
     let never : None ≡ Some wanted = sym none ∙ (ap wanted_by (sym same) ∙ asked.wants) in
     absurd (cc)
 
 -- and an input of which a command asks in vain has no fault
-lacks_without_fault : (command : Command) (bytes : List ℕ) (a b : ℕ) → Lacks command bytes → IsFaultOf command bytes a b → ⊥
+lacks_without_fault : (command : TextCommand) (bytes : List ℕ) (a b : ℕ) → Lacks command bytes → IsFaultOf command bytes a b → ⊥
 lacks_without_fault (Why asked) bytes a b n f = (run_unique bytes).not_both (n.program, n.run) a b n.read f
 lacks_without_fault (Draw from to ask) bytes a b n f = (run_unique bytes).not_both (n.program, n.run) a b n.read f
 lacks_without_fault (Storm workers numbers Outcomes) bytes a b n f = absurd n
@@ -125,19 +125,19 @@ lacks_without_fault (Storm workers numbers (Claim name)) bytes a b n f = (progra
 lacks_without_fault (Storm workers numbers (Show outcome)) bytes a b n f = (program_unique bytes).not_both n.has.storm.program a b n.has.storm.spelled f
 lacks_without_fault command bytes a b n f = absurd n
 
-asked_in_vain : (command : Command) (bytes : List ℕ) (wanted : Wanted) (a b : ℕ) → AsksInVain command bytes wanted → IsInputFault command bytes a b → ⊥
+asked_in_vain : (command : TextCommand) (bytes : List ℕ) (wanted : Wanted) (a b : ℕ) → AsksInVain command bytes wanted → IsInputFault command bytes a b → ⊥
 asked_in_vain command bytes wanted a b n (too_long r l p q) = let few : length bytes ≤ input_limit = n.few in omega arith
 asked_in_vain command bytes wanted a b n (within l f) = lacks_without_fault command bytes a b n.lacks f
 
 -- a refusal of an input with a fault tells the fault, or want of memory
-pub told_once : (command : Command) (bytes : List ℕ) (e : Refusal) (a b : ℕ) → TellsFault (IsInputFault command bytes) e → TellsLacking (AsksInVain command bytes) e → IsInputFault command bytes a b
+pub told_once : (command : TextCommand) (bytes : List ℕ) (e : Refusal) (a b : ℕ) → TellsFault (IsInputFault command bytes) e → TellsLacking (AsksInVain command bytes) e → IsInputFault command bytes a b
     → (e ≡ Fault a b) ⊎ (e ≡ NoMemory)
 told_once command bytes (Fault c d) a b t n f = let same = fails_once bytes command c d a b t f in inl (ap (λ x. Fault x d) same.0 ∙ ap (λ x. Fault a x) same.1)
 told_once command bytes (Lacking wanted) a b t n f = absurd (asked_in_vain command bytes wanted a b n f)
 told_once command bytes NoMemory a b t n f = inr refl
 
 -- and one of a command that asks in vain tells what is lacking, or want of memory
-told_wanted : (command : Command) (bytes : List ℕ) (e : Refusal) (wanted : Wanted) → TellsFault (IsInputFault command bytes) e → TellsLacking (AsksInVain command bytes) e → AsksInVain command bytes wanted
+told_wanted : (command : TextCommand) (bytes : List ℕ) (e : Refusal) (wanted : Wanted) → TellsFault (IsInputFault command bytes) e → TellsLacking (AsksInVain command bytes) e → AsksInVain command bytes wanted
     → (e ≡ Lacking wanted) ⊎ (e ≡ NoMemory)
 told_wanted command bytes (Fault c d) wanted t n asked = absurd (asked_in_vain command bytes wanted c d asked t)
 told_wanted command bytes (Lacking k) wanted t n asked =
@@ -147,13 +147,13 @@ told_wanted command bytes (Lacking k) wanted t n asked =
 told_wanted command bytes NoMemory wanted t n asked = inr refl
 
 -- what a command gives for bytes: its text and end, or a refusal that tells exactly what is wrong
-pub record Gives (command : Command) (bytes : List ℕ) (found : Result Output Refusal) : Type 0 where
+pub record Gives (command : TextCommand) (bytes : List ℕ) (found : Result Output Refusal) : Type 0 where
   pub fault : IfErr found (TellsFault (IsInputFault command bytes))
   pub faulty : (a b : ℕ) → IsInputFault command bytes a b → (found ≡ Err (Fault a b)) ⊎ (found ≡ Err NoMemory)
   pub lacking : IfErr found (TellsLacking (AsksInVain command bytes))
   pub in_vain : (wanted : Wanted) → AsksInVain command bytes wanted → (found ≡ Err (Lacking wanted)) ⊎ (found ≡ Err NoMemory)
 
-pub gives : (command : Command) (bytes : List ℕ) (found : Result Output Refusal) → IfOk found (λ o. Writes command bytes o.end o.text.items) → IfErr found (TellsFault (IsInputFault command bytes))
+pub gives : (command : TextCommand) (bytes : List ℕ) (found : Result Output Refusal) → IfOk found (λ o. Writes command bytes o.end o.text.items) → IfErr found (TellsFault (IsInputFault command bytes))
     → IfErr found (TellsLacking (AsksInVain command bytes)) → Gives command bytes found
 gives command bytes (Ok o) w t n = record {
   fault = tt;
@@ -169,7 +169,7 @@ gives command bytes (Err e) w t n = record {
 }
 
 -- the refusal for an error tells the fault that the error tells, and no place
-pub tells_within : (command : Command) (bytes : List ℕ) (e : InputError) → length bytes ≤ input_limit → TellsInputFault (IsFaultOf command bytes) e → TellsFault (IsInputFault command bytes) (of_input_error e)
+pub tells_within : (command : TextCommand) (bytes : List ℕ) (e : InputError) → length bytes ≤ input_limit → TellsInputFault (IsFaultOf command bytes) e → TellsFault (IsInputFault command bytes) (of_input_error e)
 tells_within command bytes (inputs.Fault a b) l t = within l t
 tells_within command bytes inputs.NoMemory l t = tt
 
@@ -177,7 +177,7 @@ pub tells_no_lack : (U : Wanted → Type 0) (e : InputError) → TellsLacking U 
 tells_no_lack U (inputs.Fault a b) = tt
 tells_no_lack U inputs.NoMemory = tt
 
-pub fault_within : (command : Command) (bytes : List ℕ) (r : Result Output InputError) → length bytes ≤ input_limit → IfErr r (TellsInputFault (IsFaultOf command bytes))
+pub fault_within : (command : TextCommand) (bytes : List ℕ) (r : Result Output InputError) → length bytes ≤ input_limit → IfErr r (TellsInputFault (IsFaultOf command bytes))
     → IfErr (refused_by r) (TellsFault (IsInputFault command bytes))
 fault_within command bytes (Ok o) l t = tt
 fault_within command bytes (Err e) l t = tells_within command bytes e l t
@@ -191,7 +191,7 @@ ok_refused P (Ok o) h = h
 ok_refused P (Err e) h = tt
 
 -- what one worker alone writes, or one of the other commands, is what the command writes with as many workers as it is told
-serially_answered : (command : Command) (bytes : List ℕ) (end : End) (text : List ℕ) → Answers (by_one_worker command) bytes end text → Answers command bytes end text
+serially_answered : (command : TextCommand) (bytes : List ℕ) (end : End) (text : List ℕ) → Answers (by_one_worker command) bytes end text → Answers command bytes end text
 serially_answered (RunCommand workers jobs seed steps) bytes end text w = record { runs = w.runs; serial = λ l. w.serial (omega arith) }
 serially_answered Check bytes end text w = w
 serially_answered Audit bytes end text w = w
@@ -206,7 +206,7 @@ serially_answered (Draw from to ask) bytes end text w = w
 serially_answered (Storm workers numbers question) bytes end text w = w
 
 -- a command on one thread reads an input where the command reads one
-same_reading : (command : Command) → IsTrue (reads_input command) → IsTrue (reads_input (by_one_worker command))
+same_reading : (command : TextCommand) → IsTrue (reads_input command) → IsTrue (reads_input (by_one_worker command))
 same_reading (RunCommand workers jobs seed steps) reads = reads
 same_reading Check reads = reads
 same_reading Audit reads = reads
@@ -220,21 +220,21 @@ same_reading Cut reads = reads
 same_reading (Draw from to ask) reads = reads
 same_reading (Storm workers numbers question) reads = reads
 
-pub serially_written : (command : Command) (bytes : List ℕ) (found : Result Output Refusal) → IfOk found (λ o. WritesSerially command bytes o.end o.text.items) → IfOk found (λ o. Writes command bytes o.end o.text.items)
+pub serially_written : (command : TextCommand) (bytes : List ℕ) (found : Result Output Refusal) → IfOk found (λ o. WritesSerially command bytes o.end o.text.items) → IfOk found (λ o. Writes command bytes o.end o.text.items)
 serially_written command bytes (Ok o) w =
     record { few = λ reads. w.few (same_reading command reads); answers = serially_answered command bytes o.end o.text.items w.answers }
 serially_written command bytes (Err e) w = tt
 
-answered : (kind : Command) (bytes : List ℕ) (found : Result Output Refusal) → length bytes ≤ input_limit → IfOk found (λ o. Answers kind bytes o.end o.text.items) → IfOk found (λ o. Writes kind bytes o.end o.text.items)
+answered : (kind : TextCommand) (bytes : List ℕ) (found : Result Output Refusal) → length bytes ≤ input_limit → IfOk found (λ o. Answers kind bytes o.end o.text.items) → IfOk found (λ o. Writes kind bytes o.end o.text.items)
 answered kind bytes (Ok o) l w = record { few = λ reads. l; answers = w }
 answered kind bytes (Err e) l w = tt
 
 -- and so of what a command answers on one thread for bytes that aren't too many
-pub record GivesSerially (command : Command) (bytes : List ℕ) (found : Result Output Refusal) : Type 0 where
+pub record GivesSerially (command : TextCommand) (bytes : List ℕ) (found : Result Output Refusal) : Type 0 where
   pub output : IfOk found (λ o. WritesSerially command bytes o.end o.text.items)
   pub gives : Gives command bytes found
 
-pub given : (command kind : Command) (bytes : List ℕ) (found : Result Output Refusal) → command ≡ kind → length bytes ≤ input_limit → IfOk found (λ o. Answers (by_one_worker kind) bytes o.end o.text.items)
+pub given : (command kind : TextCommand) (bytes : List ℕ) (found : Result Output Refusal) → command ≡ kind → length bytes ≤ input_limit → IfOk found (λ o. Answers (by_one_worker kind) bytes o.end o.text.items)
     → IfErr found (TellsFault (IsInputFault kind bytes)) → IfErr found (TellsLacking (AsksInVain kind bytes)) → GivesSerially command bytes found
 unfolding gives
 given command kind bytes found same l w t n =
@@ -242,20 +242,20 @@ given command kind bytes found same l w t n =
     subst (λ x. GivesSerially x bytes found) (sym same)
     (record { output = written; gives = gives kind bytes found (serially_written kind bytes found written) t n })
 
-pub answer_told : (command kind : Command) (bytes : List ℕ) (r : Result Output InputError) (found : Result Output Refusal) → command ≡ kind → found ≡ refused_by r → length bytes ≤ input_limit
+pub answer_told : (command kind : TextCommand) (bytes : List ℕ) (r : Result Output InputError) (found : Result Output Refusal) → command ≡ kind → found ≡ refused_by r → length bytes ≤ input_limit
     → IfOk r (λ o. Answers (by_one_worker kind) bytes o.end o.text.items) → IfErr r (TellsInputFault (IsFaultOf kind bytes)) → GivesSerially command bytes found
 unfolding given
 answer_told command kind bytes r found same is l w t = subst (GivesSerially command bytes) (sym is)
     (given command kind bytes (refused_by r) same l (ok_refused (λ o. Answers (by_one_worker kind) bytes o.end o.text.items) r w) (fault_within kind bytes r l t) (no_lack (AsksInVain kind bytes) r))
 
 -- what a command gives that tells itself which step it is asked for in vain
-refusal_within : (kind : Command) (bytes : List ℕ) (found : Result Output Refusal) → length bytes ≤ input_limit → IfErr found (TellsFault (IsFaultOf kind bytes)) → IfErr found (TellsFault (IsInputFault kind bytes))
+refusal_within : (kind : TextCommand) (bytes : List ℕ) (found : Result Output Refusal) → length bytes ≤ input_limit → IfErr found (TellsFault (IsFaultOf kind bytes)) → IfErr found (TellsFault (IsInputFault kind bytes))
 refusal_within kind bytes (Ok o) l t = tt
 refusal_within kind bytes (Err (Fault a b)) l t = within l t
 refusal_within kind bytes (Err (Lacking k)) l t = tt
 refusal_within kind bytes (Err NoMemory) l t = tt
 
-pub refusal_told : (command kind : Command) (bytes : List ℕ) (found : Result Output Refusal) → command ≡ kind → length bytes ≤ input_limit → IfOk found (λ o. Answers (by_one_worker kind) bytes o.end o.text.items)
+pub refusal_told : (command kind : TextCommand) (bytes : List ℕ) (found : Result Output Refusal) → command ≡ kind → length bytes ≤ input_limit → IfOk found (λ o. Answers (by_one_worker kind) bytes o.end o.text.items)
     → IfErr found (TellsFault (IsFaultOf kind bytes)) → IfErr found (TellsLacking (AsksInVain kind bytes)) → GivesSerially command bytes found
 unfolding given
 refusal_told command kind bytes found same l w t n = given command kind bytes found same l w (refusal_within kind bytes found l t) n
@@ -393,7 +393,7 @@ draw_once from to ask bytes text other v w =
     let there : IsPictureText v.program v.run from to ask other = subst (λ (x : Program × Run). IsPictureText x.0 x.1 from to ask other) (sym same) w.is_text in
     picture_text_once v.program v.run v.well_formed v.read.means.1.steps.opening from to ask text other v.is_text there
 
-answers_once : (command : Command) (bytes : List ℕ) (end another : End) (text other : List ℕ) → Answers (by_one_worker command) bytes end text → Answers (by_one_worker command) bytes another other → (end ≡ another) × (text ≡ other)
+answers_once : (command : TextCommand) (bytes : List ℕ) (end another : End) (text other : List ℕ) → Answers (by_one_worker command) bytes end text → Answers (by_one_worker command) bytes another other → (end ≡ another) × (text ≡ other)
 answers_once (RunCommand workers jobs seed steps) bytes end another text other v w = runs_once jobs seed steps bytes end another text other v w
 answers_once Check bytes end another text other v w = check_once bytes end another text other v w
 answers_once Audit bytes end another text other v w = audit_once bytes end another text other v w

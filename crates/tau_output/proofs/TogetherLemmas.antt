@@ -1,7 +1,7 @@
 -- What `run` writes where it starts several workers.
 use Rattle.std.proofs.Common.{◌≡◌, ◌⊎◌, inl, inr, ◌∙◌, ℕ, ◌≤◌, List, length, Result, Ok, Err, IfOk, IfErr, ap, subst, arith}
-use Rattle.tau_command.specs.declared.commands.Command.{Command}
-use Rattle.tau_command.specs.declared.commands.Command.TheVariants.{Run as RunCommand}
+use Rattle.tau_command.specs.declared.commands.TextCommand.{TextCommand}
+use Rattle.tau_command.specs.declared.commands.TextCommand.TheVariants.{Run as RunCommand}
 use Rattle.tau_text.specs.declared.errors.InputError.{InputError}
 use Rattle.tau_text.specs.Errors.{TellsInputFault}
 use Rattle.tau_text.specs.Faults.{IsProgramFault}
@@ -31,7 +31,7 @@ told_together workers jobs seed steps bytes (Err e) few runs t a b f =
     elim (told_once kind bytes (of_input_error e) a b (tells_within kind bytes e few t) (tells_no_lack (AsksInVain kind bytes) e) f) [ inl same ↦ inl (ap Err same) | inr same ↦ inr (ap Err same) ]
 
 -- and an answer for such an input tells the fault, or want of memory
-pub together_told : (command : Command) (workers jobs seed steps : ℕ) (bytes : List ℕ) (r : Result Output InputError) (found : Result Output Refusal) → command ≡ RunCommand workers jobs seed steps → found ≡ refused_by r
+pub together_told : (command : TextCommand) (workers jobs seed steps : ℕ) (bytes : List ℕ) (r : Result Output InputError) (found : Result Output Refusal) → command ≡ RunCommand workers jobs seed steps → found ≡ refused_by r
     → length bytes ≤ input_limit → IfOk r (λ o. RunsAs steps bytes o.end o.text.items) → IfErr r (TellsInputFault (IsProgramFault bytes)) → (a b : ℕ) → IsInputFault command bytes a b
     → (found ≡ Err (Fault a b)) ⊎ (found ≡ Err NoMemory)
 together_told command workers jobs seed steps bytes r found same is few runs t a b f =

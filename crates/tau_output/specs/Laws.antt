@@ -4,8 +4,8 @@
 use Rattle.std.specs.Prelude.{◌≡◌, ℕ, ◌≤◌, List, [], length, codes}
 use Rattle.tau_sexpr.specs.Printing.{printed}
 use Rattle.tau_forms.specs.Printed as forms
-use Rattle.tau_command.specs.declared.commands.Command.{Command}
-use Rattle.tau_command.specs.declared.commands.Command.TheVariants.{Check, Audit, Print, Migrate, Storm}
+use Rattle.tau_command.specs.declared.commands.TextCommand.{TextCommand}
+use Rattle.tau_command.specs.declared.commands.TextCommand.TheVariants.{Check, Audit, Print, Migrate, Storm}
 use Rattle.tau_command.specs.declared.storms.StormNumbers.{StormNumbers}
 use Rattle.tau_command.specs.declared.storms.Question.{Question}
 use Rattle.tau_tree.specs.declared.programs.Program.{Program}
@@ -25,15 +25,15 @@ use Rattle.tau_output.specs.Writing.{Writes, WritesSerially}
 
 -- on one thread a command writes no other text for the same bytes, and ends in no other way
 abbrev pub WritesOnce : List ℕ → Type 0
-WritesOnce bytes = (command : Command) (end another : End) (text other : List ℕ) → WritesSerially command bytes end text → WritesSerially command bytes another other → (end ≡ another) × (text ≡ other)
+WritesOnce bytes = (command : TextCommand) (end another : End) (text other : List ℕ) → WritesSerially command bytes end text → WritesSerially command bytes another other → (end ≡ another) × (text ≡ other)
 
 -- a command writes nothing for bytes with a fault
 abbrev pub WritesWithoutFault : List ℕ → Type 0
-WritesWithoutFault bytes = (command : Command) (end : End) (text : List ℕ) (fault at : ℕ) → Writes command bytes end text → ¬ IsInputFault command bytes fault at
+WritesWithoutFault bytes = (command : TextCommand) (end : End) (text : List ℕ) (fault at : ℕ) → Writes command bytes end text → ¬ IsInputFault command bytes fault at
 
 -- a command writes nothing for bytes of which it asks in vain
 abbrev pub WritesWhereAsked : List ℕ → Type 0
-WritesWhereAsked bytes = (command : Command) (end : End) (text : List ℕ) (wanted : Wanted) → Writes command bytes end text → ¬ AsksInVain command bytes wanted
+WritesWhereAsked bytes = (command : TextCommand) (end : End) (text : List ℕ) (wanted : Wanted) → Writes command bytes end text → ¬ AsksInVain command bytes wanted
 
 -- a storm by so many workers writes no other text than by so many others, byte for byte, and ends in no other way
 abbrev pub StormsAlike : List ℕ → Type 0
@@ -42,7 +42,7 @@ StormsAlike bytes = (workers others : ℕ) (numbers : StormNumbers) (question : 
 
 -- the bytes of an input have one fault at most
 abbrev pub FailsOnce : List ℕ → Type 0
-FailsOnce bytes = (command : Command) (a b c d : ℕ) → IsInputFault command bytes a b → IsInputFault command bytes c d → (a ≡ c) × (b ≡ d)
+FailsOnce bytes = (command : TextCommand) (a b c d : ℕ) → IsInputFault command bytes a b → IsInputFault command bytes c d → (a ≡ c) × (b ≡ d)
 
 -- a text that `run` writes, whatever the input, the limit and the end, determines the program, the run and the end
 pub record IsSameRun {limit other : ℕ} {bytes others : List ℕ} {end another : End} {text : List ℕ} (one : RunsAs limit bytes end text) (two : RunsAs other others another text) : Type 0 where

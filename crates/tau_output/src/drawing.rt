@@ -1,6 +1,6 @@
 //! The command `draw`.
 ghost use Rattle.std.specs.Prelude.{◌≡◌, ◌≤◌, length, IfOk, IfErr};
-ghost use Rattle.tau_command.specs.declared.commands.Command.TheVariants.{Draw};
+ghost use Rattle.tau_command.specs.declared.commands.TextCommand.TheVariants.{Draw};
 ghost use Rattle.tau_text.specs.Faults.{IsRunFault};
 ghost use Rattle.tau_output.specs.Faults.{input_limit};
 ghost use Rattle.tau_output.specs.Refusals.{TellsFault, TellsLacking};

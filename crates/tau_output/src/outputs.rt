@@ -21,7 +21,7 @@ use crate::reporting::report_run;
 use crate::running::write_serial_run;
 use crate::storming::storm_program;
 use std::alloc::{AllocError, Global};
-use tau_command::Command;
+use tau_command::TextCommand;
 use tau_points::Point;
 use tau_text::InputError;
 
@@ -58,22 +58,22 @@ pub struct Output {
 }
 
 /// Whether a command reads an input (docs/formats.md, "Command line").
-pub fn reads_input(command: &Command) -> bool
+pub fn reads_input(command: &TextCommand) -> bool
     ensures { result ≡ reads command.now }
 {
     match command {
-        Command::Run { .. } => true,
-        Command::Check => true,
-        Command::Audit => true,
-        Command::Report => true,
-        Command::Print => true,
-        Command::Gen { .. } => false,
-        Command::Drill { .. } => false,
-        Command::Migrate => true,
-        Command::Why { .. } => true,
-        Command::Cut => true,
-        Command::Draw { .. } => true,
-        Command::Storm { .. } => true,
+        TextCommand::Run { .. } => true,
+        TextCommand::Check => true,
+        TextCommand::Audit => true,
+        TextCommand::Report => true,
+        TextCommand::Print => true,
+        TextCommand::Gen { .. } => false,
+        TextCommand::Drill { .. } => false,
+        TextCommand::Migrate => true,
+        TextCommand::Why { .. } => true,
+        TextCommand::Cut => true,
+        TextCommand::Draw { .. } => true,
+        TextCommand::Storm { .. } => true,
     }
 }
 
@@ -82,7 +82,7 @@ pub fn reads_input(command: &Command) -> bool
 /// `Fault` comes exactly where the input has a fault, with the first one (docs/formats.md, "Input faults"), and `Lacking` exactly
 /// where the input has none and the command asks in vain: `why` for a place at which no Hold, Drop or Fall stands, `draw` for one at
 /// which no Checkpoint stands either that can't be kept, `storm` for a behaviour that the program hasn't or an outcome that there isn't.
-pub fn output_of(alloc: Global, command: Command, bytes: &[u8]) -> Result<Output, Refusal>
+pub fn output_of(alloc: Global, command: TextCommand, bytes: &[u8]) -> Result<Output, Refusal>
     requires bytes { length bytes.now ≤ input_limit }
     requires limit { HasLimit command }
     ensures output { IfOk result (λ o. WritesSerially command bytes.now o.end o.text.items) }
@@ -96,23 +96,23 @@ pub fn output_of(alloc: Global, command: Command, bytes: &[u8]) -> Result<Output
         → (result ≡ Err (Refusal.Lacking wanted)) ⊎ (result ≡ Err Refusal.NoMemory) }
 {
     match command {
-        Command::Run {
+        TextCommand::Run {
             jobs,
             seed,
             steps,
             ..
         } => refused_by(write_serial_run(alloc, bytes, jobs, seed, steps)),
-        Command::Check => refused_by(check_run(alloc, bytes)),
-        Command::Audit => refused_by(audit_run(alloc, bytes)),
-        Command::Report => refused_by(report_run(alloc, bytes)),
-        Command::Print => refused_by(print_program(alloc, bytes)),
-        Command::Gen { number } => Ok(generate_program(alloc, number)?),
-        Command::Drill { number } => Ok(drill_program(alloc, number)?),
-        Command::Migrate => refused_by(migrate_run(alloc, bytes)),
-        Command::Why { place } => explain_run(alloc, bytes, place),
-        Command::Cut => refused_by(cut_run(alloc, bytes)),
-        Command::Draw { from, to, ask } => draw_run(alloc, bytes, from, to, ask),
-        Command::Storm {
+        TextCommand::Check => refused_by(check_run(alloc, bytes)),
+        TextCommand::Audit => refused_by(audit_run(alloc, bytes)),
+        TextCommand::Report => refused_by(report_run(alloc, bytes)),
+        TextCommand::Print => refused_by(print_program(alloc, bytes)),
+        TextCommand::Gen { number } => Ok(generate_program(alloc, number)?),
+        TextCommand::Drill { number } => Ok(drill_program(alloc, number)?),
+        TextCommand::Migrate => refused_by(migrate_run(alloc, bytes)),
+        TextCommand::Why { place } => explain_run(alloc, bytes, place),
+        TextCommand::Cut => refused_by(cut_run(alloc, bytes)),
+        TextCommand::Draw { from, to, ask } => draw_run(alloc, bytes, from, to, ask),
+        TextCommand::Storm {
             numbers,
             question,
             ..

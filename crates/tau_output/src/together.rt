@@ -20,7 +20,7 @@ use crate::{Output, Refusal, output_of};
 use std::alloc::{AllocError, Global};
 use std::sync::Wait;
 use std::thread::Threads;
-use tau_command::Command;
+use tau_command::TextCommand;
 use tau_storm::Watch;
 use tau_text::{InputError, read_program};
 use tau_tree::Program;
@@ -32,7 +32,7 @@ use tau_workers::{Gate, Settings, run_workers};
 pub fn output_by_workers<R: Threads + Wait + Sync, G: Gate + Watch + Sync>(
     rt: &R,
     alloc: Global,
-    command: Command,
+    command: TextCommand,
     bytes: &[u8],
     gate: &G,
 ) -> Result<Output, Refusal>
@@ -49,7 +49,7 @@ pub fn output_by_workers<R: Threads + Wait + Sync, G: Gate + Watch + Sync>(
         → (result ≡ Err (Refusal.Lacking wanted)) ⊎ (result ≡ Err Refusal.NoMemory) }
 {
     match command {
-        Command::Run {
+        TextCommand::Run {
             workers,
             jobs,
             seed,
@@ -63,7 +63,7 @@ pub fn output_by_workers<R: Threads + Wait + Sync, G: Gate + Watch + Sync>(
             };
             refused_by(write_workers_run(rt, alloc, bytes, settings, gate))
         }
-        Command::Storm {
+        TextCommand::Storm {
             workers,
             numbers,
             question,

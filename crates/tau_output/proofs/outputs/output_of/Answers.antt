@@ -1,8 +1,8 @@
 use Rattle.std.proofs.Common.{sym, subst, IfErr}
-use Rattle.tau_command.specs.declared.commands.Command.{Command}
+use Rattle.tau_command.specs.declared.commands.TextCommand.{TextCommand}
 use Rattle.tau_output.specs.Refusals.{TellsLacking}
 use Rattle.tau_output.specs.Asking.{AsksInVain}
-use Rattle.tau_command.specs.declared.commands.Command.TheVariants.{Run, Check, Audit, Report, Print, Migrate, Why, Cut, Draw, Storm}
+use Rattle.tau_command.specs.declared.commands.TextCommand.TheVariants.{Run, Check, Audit, Report, Print, Migrate, Why, Cut, Draw, Storm}
 use Rattle.tau_output.proofs.LawLemmas.{answer_told, refusal_told}
 use Rattle.tau_output.proofs.outputs.output_of.Goals as goal
 
@@ -61,4 +61,4 @@ returns-in-Storm-clause-in_vain c =
 
 pub returns-in-Storm-clause-lacking : goal.returns-in-Storm-clause-lacking
 returns-in-Storm-clause-lacking c =
-    subst (λ (k : Command). IfErr c.storm_program.result (TellsLacking (AsksInVain k c.args.bytes.now))) (sym c.in-Storm.is) (c.storm_program.ensures.lacking c.in-Storm.workers)
+    subst (λ (k : TextCommand). IfErr c.storm_program.result (TellsLacking (AsksInVain k c.args.bytes.now))) (sym c.in-Storm.is) (c.storm_program.ensures.lacking c.in-Storm.workers)

@@ -1,6 +1,6 @@
 use Rattle.std.proofs.Common.{◌≡◌, ◌⊎◌, ◌∙◌, Err, sym, IfOk, IfErr, subst}
-use Rattle.tau_command.specs.declared.commands.Command.{Command}
-use Rattle.tau_command.specs.declared.commands.Command.TheVariants.{Storm}
+use Rattle.tau_command.specs.declared.commands.TextCommand.{TextCommand}
+use Rattle.tau_command.specs.declared.commands.TextCommand.TheVariants.{Storm}
 use Rattle.tau_output.specs.declared.refusals.Refusal.TheVariants.{Lacking, NoMemory}
 use Rattle.tau_output.specs.declared.refusals.Wanted.{Wanted}
 use Rattle.tau_output.specs.Refusals.{TellsLacking}
@@ -18,7 +18,7 @@ returns-in-Run-clause-faulty g c =
 
 pub returns-in_default-clause-output : goal.returns-in_default-clause-output
 returns-in_default-clause-output g c =
-    let Told : Command → Type 0 = λ x. IfOk c.output_of.result (λ o. WritesSerially x c.args.bytes.now o.end o.text.items) in
+    let Told : TextCommand → Type 0 = λ x. IfOk c.output_of.result (λ o. WritesSerially x c.args.bytes.now o.end o.text.items) in
     serially_written c.args.command c.args.bytes.now c.output_of.result (elim c.in_default.branch [
       | in_default-via-in-Run+else-workers-gt1 w ↦ subst Told (w.command-is ∙ sym w.in-Run.is) c.output_of.ensures.output
       | in_default-via-in-Storm+else-workers-gt0 w ↦ subst Told (w.command-is ∙ sym w.in-Storm.is) c.output_of.ensures.output
@@ -27,7 +27,7 @@ returns-in_default-clause-output g c =
 
 pub returns-in_default-clause-in_vain : goal.returns-in_default-clause-in_vain
 returns-in_default-clause-in_vain g c =
-    let Told : Command → Type 0 = λ x. (wanted : Wanted) → AsksInVain x c.args.bytes.now wanted → (c.output_of.result ≡ Err (Lacking wanted)) ⊎ (c.output_of.result ≡ Err NoMemory) in
+    let Told : TextCommand → Type 0 = λ x. (wanted : Wanted) → AsksInVain x c.args.bytes.now wanted → (c.output_of.result ≡ Err (Lacking wanted)) ⊎ (c.output_of.result ≡ Err NoMemory) in
     elim c.in_default.branch [
       | in_default-via-in-Run+else-workers-gt1 w ↦ subst Told (w.command-is ∙ sym w.in-Run.is) c.output_of.ensures.in_vain
       | in_default-via-in-Storm+else-workers-gt0 w ↦ subst Told (w.command-is ∙ sym w.in-Storm.is) c.output_of.ensures.in_vain
@@ -44,4 +44,4 @@ returns-in-Storm-clause-in_vain g c =
 
 pub returns-in-Storm-clause-lacking : goal.returns-in-Storm-clause-lacking
 returns-in-Storm-clause-lacking g c =
-    subst (λ (k : Command). IfErr c.storm_by_workers-output.result (TellsLacking (AsksInVain k c.args.bytes.now))) (sym c.in-Storm.is) (c.storm_by_workers-output.ensures.lacking c.in-Storm.workers)
+    subst (λ (k : TextCommand). IfErr c.storm_by_workers-output.result (TellsLacking (AsksInVain k c.args.bytes.now))) (sym c.in-Storm.is) (c.storm_by_workers-output.ensures.lacking c.in-Storm.workers)

@@ -1,4 +1,0 @@
-pub mod StatusLemmas
-pub mod KeepLemmas
-pub mod ResumeLemmas
-pub mod EndLemmas

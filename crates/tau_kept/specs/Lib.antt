@@ -1,4 +1,0 @@
-pub mod Disks
-pub mod Texts
-pub mod Ends
-pub mod Inner
