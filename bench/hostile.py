@@ -42,7 +42,7 @@ ROOM = 65_536
 
 # How many of the cases are printed, and the marks of those that are left out.
 LONGEST = 8
-LEFT_OUT = ["!", "?", "@", "*", "&"]
+LEFT_OUT = ["!", "?", "@", "*", "&", "+"]
 
 NOBODY = 65534
 
@@ -239,7 +239,7 @@ def shown(shows, section, found):
 
 def found_of_cases(rows, crate):
     """The name of each case of a crate, what was found, and what is wrong. With `run` there is one worker. Cases whose reads or writes
-    fail, and those over a disk in memory, are left out.
+    fail, and those over a disk in memory or with gates, are left out.
     """
     for (line, section), (_, wanted) in zip(sections_of(crate, "stdin"), sections_of(crate, "stdout"), strict=True):
         command, _, title = line.decode().partition(" ; ")

@@ -1,7 +1,7 @@
 #!/usr/bin/env python3
 """Measures what is asked of long traces: reading them, copying, auditing, checking and reporting them.
 
-It makes each trace itself and asks one question of it by the program of crates/show_traces, which it has built behind
+It makes each trace itself and asks one question of it by the program of crates/show_system, which it has built behind
 `bin/tau prove`. Each row has the steps, the bytes of the text, the question, processor time in ms, that without the
 reading of the text, and the peak of the memory. Each trace is made in two lengths, so that the growth is seen. Nothing
 is compared. The program has 2.5 GB; where it wants more it ends with status 7.
@@ -17,7 +17,7 @@ import tempfile
 
 import programs
 
-PROGRAM = programs.place("show_traces")
+PROGRAM = programs.place("show_system")
 LENGTHS = (100_000, 200_000)
 CHAIN = 2_000
 MEMORY = 2_500_000_000
@@ -142,7 +142,7 @@ def measured(path):
 def asked(folder, program, forms, question, runs):
     """The text's bytes, the median of the times, the peak in MB and the answer, of one question."""
     path = os.path.join(folder, "facts")
-    parts = ["# trace", *program, "(trace)", *forms, "(facts)", question]
+    parts = ["# facts", *program, "(trace)", *forms, "(facts)", question]
     text = "\n".join(parts) + "\n"
     with open(path, "w", encoding="utf-8") as file:
         file.write(text)
@@ -155,7 +155,7 @@ def main():
     words.add_argument("--only", default="", help="only traces whose name has this text")
     words.add_argument("--runs", type=int, default=3, help="how often each question is asked")
     chosen = words.parse_args()
-    programs.prove("show_traces")
+    programs.prove("show_system")
     print(f"{'trace':40} {'steps':>7} {'bytes':>9} {'question':12} {'ms':>7} {'alone':>7} {'MB':>6}  answer")
     with tempfile.TemporaryDirectory() as folder:
         for steps in LENGTHS:

@@ -5,7 +5,7 @@ It has `bin/tau prove` build the program, and prints a table. Each run is repeat
 the least time is shown, since other work on the machine only adds to it. The aims, on four processors: with heavy turns, of 90,000
 evaluations each, at most 0.55 of the time of one worker by two and 0.35 by four; with small turns at most 1.2 of it by two and four,
 and twice by 32.
-Then, with the program show_workers, the same programs by workers on seats and by workers on a book under a lock, the two in turn, with
+Then, with the program show_runs, the same programs by workers on seats and by workers on a book under a lock, the two in turn, with
 the aim that seats take at most a tenth more; what a turn of one seat takes, where nobody else waits, with the aim of a microsecond;
 and 1,000 runs by 32 workers on seats, each of which must end.
 
@@ -21,7 +21,7 @@ import time
 import programs
 
 PROGRAM = programs.place("tau")
-SHOWN = programs.place("show_workers")
+SHOWN = programs.place("show_runs")
 RUNS = 15
 TURNS = 1_000_000
 ENDING = 1_000
@@ -57,12 +57,12 @@ PROGRAMS = [
 
 
 def shown_of(text):
-    """Seconds by the clock of show_workers on this input, and the lines that it writes."""
+    """Seconds by the clock of show_runs on this input, and the lines that it writes."""
     began = time.monotonic()
     done = subprocess.run([SHOWN], input=text.encode(), stdout=subprocess.PIPE, check=False)
     spent = time.monotonic() - began
     if done.returncode != 0:
-        sys.exit(f"show_workers ended with status {done.returncode}")
+        sys.exit(f"show_runs ended with status {done.returncode}")
     return spent, done.stdout.decode().splitlines()
 
 
@@ -107,7 +107,7 @@ def seconds_of(command, path, workers):
 def main():
     command = sys.argv[1:] or [PROGRAM, "run", "--steps", "4000"]
     if not sys.argv[1:]:
-        programs.prove("show_workers")
+        programs.prove("show_runs")
     print(f"{'program':44} {'workers':>7} {'seconds':>8} {'of one':>7} {'aim':>5}")
     with tempfile.TemporaryDirectory() as folder:
         for name, text, aims in PROGRAMS:

@@ -3,11 +3,16 @@
 //! from the options of `run`. Text, statuses and lines are those of `tau run`.
 #![tactic(auto)]
 
+ghost use Rattle.std.specs.Prelude.{◌≤◌};
+ghost use Rattle.tau_book.specs.declared.limits.TheConstants.{JOB_LIMIT};
+ghost use Rattle.tau_value.specs.declared.limits.TheConstants.{STEP_LIMIT};
+ghost use Rattle.tau_tree.specs.Sound.{Sound};
+
 mod ended;
 mod numbers;
 
 use ended::Ended;
-use numbers::read_numbers;
+use numbers::{Numbers, read_numbers};
 use std::alloc::Global;
 use std::process::ExitCode;
 use std::rt::Env;
@@ -16,6 +21,7 @@ use std::thread::Threads;
 use tau_book::{OpenGate, run_serially};
 use tau_io::{Sink, Source, StdSink, StdSource, read_all, write_all_of};
 use tau_text::{read_program, run_text};
+use tau_tree::Program;
 use tau_workers::{Settings, run_workers};
 
 /// The most bytes of an input, 16 MiB (docs/limits.md).
@@ -45,7 +51,28 @@ fn run<R: Env + Alloc + Threads + Wait + Sync, I: Source, O: Sink>(
 ) -> Result<bool, Ended> {
     let numbers = read_numbers(rt)?;
     let bytes = read_all(alloc, input, INPUT_LIMIT)?;
-    let program = read_program(alloc, &bytes)?;
+    let read = read_program(alloc, &bytes);
+    drop(bytes);
+    let program = read?;
+    let ended = run_program(rt, alloc, &program, numbers, output);
+    drop(program);
+    ended
+}
+
+/// Runs a program, writes its run text, and tells whether the run is complete.
+fn run_program<R: Threads + Wait + Sync, O: Sink>(
+    rt: &R,
+    alloc: Global,
+    program: &Program,
+    numbers: Numbers,
+    output: &mut O,
+) -> Result<bool, Ended>
+    requires sound { Sound program.now }
+    requires workers { 1 ≤ numbers.workers }
+    requires jobs { 1 ≤ numbers.jobs }
+    requires few { numbers.jobs ≤ JOB_LIMIT }
+    requires steps { numbers.steps ≤ STEP_LIMIT }
+{
     let made = if numbers.workers > 1 {
         let settings = Settings {
             workers: numbers.workers,
@@ -53,11 +80,13 @@ fn run<R: Env + Alloc + Threads + Wait + Sync, I: Source, O: Sink>(
             seed: numbers.seed,
             limit: numbers.steps,
         };
-        run_workers(rt, alloc, &program, settings, &OpenGate)?
+        run_workers(rt, alloc, program, settings, &OpenGate)?
     } else {
-        run_serially(alloc, &program, numbers.jobs, numbers.seed, numbers.steps)?
+        run_serially(alloc, program, numbers.jobs, numbers.seed, numbers.steps)?
     };
-    let text = run_text(alloc, &program, &made.trace)?;
-    write_all_of(output, &text)?;
-    Ok(made.is_complete)
+    let text = run_text(alloc, program, &made.trace);
+    let is_complete = made.is_complete;
+    drop(made);
+    write_all_of(output, &text?)?;
+    Ok(is_complete)
 }

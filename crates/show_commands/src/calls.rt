@@ -2,7 +2,7 @@
 use std::alloc::Global;
 use std::sync::Wait;
 use std::thread::Threads;
-use tau_cli::{OpenGate, Status, Words, tau, tau_still};
+use tau_cli::{Gate, OpenGate, Status, Watch, Words, tau, tau_still};
 use tau_io::{Sink, Source};
 use tau_journal::disk::MemoryDisk;
 
@@ -25,6 +25,18 @@ pub(crate) fn with_threads<R: Threads + Wait + Sync, I: Source, O: Sink>(
     input: &mut I,
     output: &mut O,
 ) -> Status {
+    with_gate(rt, alloc, words, input, output, &OpenGate)
+}
+
+/// Does what words ask for, by the call that starts threads, each evaluation between the calls of a gate.
+pub(crate) fn with_gate<R: Threads + Wait + Sync, I: Source, O: Sink, G: Gate + Watch + Sync>(
+    rt: &R,
+    alloc: Global,
+    words: &Words,
+    input: &mut I,
+    output: &mut O,
+    gate: &G,
+) -> Status {
     let mut disk = MemoryDisk::new(alloc, Vec::new(alloc), Vec::new(alloc));
-    tau(rt, alloc, words, input, output, &mut disk, &OpenGate)
+    tau(rt, alloc, words, input, output, &mut disk, gate)
 }

@@ -3,6 +3,7 @@ use crate::answers::add_status;
 use crate::events::{CountingGate, NotingDisk};
 use crate::words::words_of;
 use std::alloc::{AllocError, Global};
+use std::mem;
 use tau_cli::{OpenGate, Status, number, tau_still};
 use tau_io::{MemorySink, SteadySink, SteadySource};
 use tau_journal::disk::MemoryDisk;
@@ -20,16 +21,35 @@ pub(crate) fn add_kept(
     input: &[u8],
 ) -> Result<(), AllocError> {
     let mut disk = disk_of(alloc, &[])?;
+    let added = add_all(alloc, text, line, input, &mut disk);
+    drop(disk);
+    added
+}
+
+/// Adds what the commands of a line do one after another with a disk.
+fn add_all(
+    alloc: Global,
+    text: &mut Vec<u8>,
+    line: &str,
+    input: &[u8],
+    disk: &mut MemoryDisk,
+) -> Result<(), AllocError> {
     for command in line.split(" | ") {
         let (verb, rest) = command.split_once(" ").unwrap_or((command, ""));
         match verb {
-            "byte" => disk = with_byte(alloc, &disk, rest)?,
-            "cut" => disk = cut(alloc, &disk, rest)?,
+            "byte" => {
+                let changed = with_byte(alloc, &*disk, rest)?;
+                drop(mem::replace(disk, changed));
+            }
+            "cut" => {
+                let shorter = cut(alloc, &*disk, rest)?;
+                drop(mem::replace(disk, shorter));
+            }
             "lost" => {
                 let fails = vec![in alloc; 0u32; 1]?;
-                add_command(alloc, text, rest, input, &mut disk, fails)?;
+                add_command(alloc, text, rest, input, disk, fails)?;
             }
-            _ => add_command(alloc, text, command, input, &mut disk, Vec::new(alloc))?,
+            _ => add_command(alloc, text, command, input, disk, Vec::new(alloc))?,
         }
     }
     Ok(())
@@ -93,18 +113,33 @@ pub(crate) fn add_failing_disk(
 ) -> Result<(), AllocError> {
     text.extend_from_slice(b"calls of the disk:")?;
     for call in 0..CALLS {
-        let mut disk = MemoryDisk::new(alloc, Vec::new(alloc), vec![in alloc; call; 1]?);
-        let status = end_of(alloc, words, input, &mut disk)?;
-        let mut left = disk_of(alloc, disk.bytes())?;
-        let again = end_of(alloc, "resume", &[], &mut left)?;
-        let (first, second) = (number(&status), number(&again));
-        text.extend_from_slice(format!(in alloc; " {first}/{second}")?.as_bytes())?;
-        if status != Status::DiskFault {
+        if !add_failing_call(alloc, text, words, input, call)? {
             break;
         }
     }
     text.push(b'\n')?;
     Ok(())
+}
+
+/// Adds both numbers where this call of the disk fails, and tells whether the command made it.
+fn add_failing_call(
+    alloc: Global,
+    text: &mut Vec<u8>,
+    words: &str,
+    input: &[u8],
+    call: u32,
+) -> Result<bool, AllocError> {
+    let mut disk = MemoryDisk::new(alloc, Vec::new(alloc), vec![in alloc; call; 1]?);
+    let status = end_of(alloc, words, input, &mut disk);
+    let found = disk_of(alloc, disk.bytes());
+    drop(disk);
+    let mut left = found?;
+    let again = end_of(alloc, "resume", &[], &mut left);
+    drop(left);
+    let status = status?;
+    let (first, second) = (number(&status), number(&again?));
+    text.extend_from_slice(format!(in alloc; " {first}/{second}")?.as_bytes())?;
+    Ok(status == Status::DiskFault)
 }
 
 /// How a command ends with this disk.
@@ -133,6 +168,8 @@ pub(crate) fn add_events(
     let gate = CountingGate::new();
     let mut disk = NotingDisk::new(alloc, &gate);
     let status = tau_still(alloc, &words, &mut source, &mut sink, &mut disk, &gate);
-    text.extend_from_slice(disk.events().as_bytes())?;
+    let noted = text.extend_from_slice(disk.events().as_bytes());
+    drop(disk);
+    noted?;
     add_status(alloc, text, status)
 }

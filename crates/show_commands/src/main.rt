@@ -12,6 +12,8 @@
 //! - `?`: what comes where the read behind the last byte that an input may have fails;
 //! - `@`: several commands with ` | ` between them, over one disk in memory (`kept.rt`);
 //! - `*`: what comes where a call of the disk fails, and of `resume` then;
+//! - `+`: what holds of the traces where two workers are held by gates, so that one input gives two traces, by `run_workers` and by the
+//!   command (`cases.rt`);
 //! - `&`: which evaluations began and which records were kept, one after another (`events.rt`), in place of what the command writes.
 //!
 //! The last line is that of a want of memory.
@@ -19,15 +21,19 @@
 
 mod answers;
 mod calls;
+mod cases;
 mod counted;
 mod events;
+mod facts;
 mod failing;
+mod holding;
 mod inputs;
 mod kept;
 mod words;
 
 use crate::answers::{add_check, add_last_lines, add_last_steps, add_status};
 use crate::calls::{still, with_threads};
+use crate::cases::add_cases;
 use crate::counted::add_counts;
 use crate::failing::{Tried, add_failures, add_late_failure};
 use crate::inputs::{input_of, line_of};
@@ -114,6 +120,7 @@ fn add_section<R: Threads + Wait + Sync>(
         }
         "#" | "##" => add_whole(rt, alloc, text, mark, &words, &input),
         "#=" => add_counted(rt, alloc, text, &words, &input),
+        "#+" => add_cases(rt, alloc, text, &words, &input),
         _ => add_end(alloc, text, mark, &words, input),
     }
 }

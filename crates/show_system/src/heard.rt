@@ -22,7 +22,9 @@ pub(crate) fn show_heard<V: Shown>(
     match verb {
         "history" | "view" | "message" | "free" | "verdict" => {
             let views: Views<V> = views_of(alloc, system)?;
-            show_views(alloc, text, system, &views, verb, number)
+            let added = show_views(alloc, text, system, &views, verb, number);
+            drop(views);
+            added
         }
         _ => add_standing_or_state(text, system, verb, number),
     }

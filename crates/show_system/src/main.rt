@@ -1,5 +1,9 @@
-//! Calls of the system, one after another. Standard input has sections: a line `# WHAT NAME`, then a program, a line `(calls)`, and
-//! calls, one a line. For each section the line is written, and what the calls answer: a step that was made, or why none was, or what
+//! Calls of the system, one after another, and facts of traces. Standard input has sections, each with a line `# WHAT NAME`, which is
+//! written, and a program. With `facts` there follow a line `(trace)`, the forms of steps, a line `(facts)`, and questions, one a line.
+//! Each is written with its answer (`questions.rt`). A question is a word with numbers, and may end with ` at K`: then it is asked of
+//! the first K steps alone.
+//!
+//! Else there follow a line `(calls)`, and calls, one a line. What they answer is written: a step that was made, or why none was, or what
 //! was asked for. With `full` the system keeps full views. With `hearing` it keeps numbers of versions, and full views are made anew for
 //! each question. With `both` it keeps full views, and a line tells whether a system that keeps numbers of versions answers the same;
 //! then that one answers by pruned views.
@@ -11,11 +15,15 @@ ghost use Rattle.std.specs.Prelude.{IfSome};
 ghost use Rattle.tau_tree.specs.Sound.{Sound};
 
 mod answers;
+mod facts;
 mod heard;
+mod questions;
 mod run;
 mod showing;
+mod told;
 mod viewed;
 
+use crate::facts::add_facts;
 use crate::heard::show_heard;
 use crate::run::Run;
 use crate::showing::Shown;
@@ -60,10 +68,17 @@ fn text_of(alloc: Global, input: &str) -> Result<String, AllocError> {
 /// Adds the line of a section, and what its calls answer.
 fn add_section(alloc: Global, text: &mut String, section: &str) -> Result<(), AllocError> {
     let (line, rest) = section.split_once("\n").unwrap_or((section, ""));
-    let (spelled, calls) = rest.split_once("(calls)\n").unwrap_or((rest, ""));
     writeln!(text, "# {line}")?;
+    if line.split_whitespace().next() == Some("facts") {
+        return add_facts(alloc, text, rest);
+    }
+    let (spelled, calls) = rest.split_once("(calls)\n").unwrap_or((rest, ""));
     match program_from(alloc, spelled.as_bytes()) {
-        Some(program) => add_answers(alloc, text, line, &program, calls),
+        Some(program) => {
+            let added = add_answers(alloc, text, line, &program, calls);
+            drop(program);
+            added
+        }
         None => text.push_str("(no program)\n"),
     }
 }
@@ -97,13 +112,15 @@ fn add_answers(
 }
 
 /// The program that bytes spell.
-fn program_from(alloc: Global, bytes: &[u8]) -> Option<Program>
+pub(crate) fn program_from(alloc: Global, bytes: &[u8]) -> Option<Program>
     ensures { IfSome result Sound }
 {
     let Ok(forms) = read_forms(alloc, bytes) else {
         return None;
     };
-    match program_of(alloc, forms.items()) {
+    let read = program_of(alloc, forms.items());
+    drop(forms);
+    match read {
         Ok(program) => Some(program),
         Err(_) => None,
     }
@@ -147,7 +164,9 @@ fn add_viewed(
     requires { Sound program.now }
 {
     let mut run: Run<Views<FullView>> = Run::open(alloc, program)?;
-    view_calls(alloc, text, &mut run, calls)
+    let added = view_calls(alloc, text, &mut run, calls);
+    drop(run);
+    added
 }
 
 /// Makes calls on a run over full views, and adds what they answer.
@@ -158,7 +177,7 @@ fn view_calls(
     calls: &str,
 ) -> Result<(), AllocError> {
     for line in calls.lines() {
-        let (verb, number, value) = words_of(line);
+        let (verb, number, value, _) = words_of(line);
         if !run.make(text, verb, number, value)? {
             show_viewed(alloc, text, &run.system, verb, number)?;
         }
@@ -176,7 +195,9 @@ fn add_heard<V: Shown>(
     requires { Sound program.now }
 {
     let mut run: Run<MarkedHearing> = Run::open(alloc, program)?;
-    hear_calls::<V>(alloc, text, &mut run, calls)
+    let added = hear_calls::<V>(alloc, text, &mut run, calls);
+    drop(run);
+    added
 }
 
 /// Makes calls on a run over numbers of versions, and adds what they answer.
@@ -187,7 +208,7 @@ fn hear_calls<V: Shown>(
     calls: &str,
 ) -> Result<(), AllocError> {
     for line in calls.lines() {
-        let (verb, number, value) = words_of(line);
+        let (verb, number, value, _) = words_of(line);
         if !run.make(text, verb, number, value)? {
             show_heard::<V>(alloc, text, &run.system, verb, number)?;
         }
@@ -195,16 +216,17 @@ fn hear_calls<V: Shown>(
     Ok(())
 }
 
-/// The verb of a call and its two numbers, 0 where none stands.
-fn words_of(line: &str) -> (&str, u32, u32) {
+/// The verb of a call, or the kind of a question, and its numbers, 0 where none stands.
+pub(crate) fn words_of(line: &str) -> (&str, u32, u32, u32) {
     let mut words = line.split_whitespace();
     let verb = words.next().unwrap_or("");
-    let number = number_of(words.next().unwrap_or(""));
-    let value = number_of(words.next().unwrap_or(""));
-    (verb, number, value)
+    let first = number_of(words.next().unwrap_or(""));
+    let second = number_of(words.next().unwrap_or(""));
+    let third = number_of(words.next().unwrap_or(""));
+    (verb, first, second, third)
 }
 
 /// The number that a word spells; 0 where it spells none.
-fn number_of(word: &str) -> u32 {
+pub(crate) fn number_of(word: &str) -> u32 {
     word.parse().unwrap_or(0)
 }

@@ -106,7 +106,10 @@ impl<'p, K: Knowledge + Drop> Run<'p, K> {
         let pending = pending_of(job)?;
         match self.bring(&pending) {
             Ok((answer, reply)) => self.go_on(pending, reply, answer),
-            Err(failed) => Err(failed),
+            Err(failed) => {
+                drop(pending);
+                Err(failed)
+            }
         }
     }
 
@@ -133,7 +136,10 @@ impl<'p, K: Knowledge + Drop> Run<'p, K> {
     ) -> Result<Answer, AllocError> {
         match reply {
             Some(reply) => self.keep(pending.resume(reply), answer),
-            None => Ok(answer),
+            None => {
+                drop(pending);
+                Ok(answer)
+            }
         }
     }
 
@@ -238,6 +244,9 @@ impl<'p, K: Knowledge + Drop> Run<'p, K> {
 fn pending_of(job: Job<'_>) -> Result<Pending<'_>, AllocError> {
     match job.advance() {
         Ok(pending) => Ok(pending),
-        Err((_job, failed)) => Err(failed),
+        Err((job, failed)) => {
+            drop(job);
+            Err(failed)
+        }
     }
 }

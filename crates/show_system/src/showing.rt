@@ -59,13 +59,17 @@ pub(crate) fn add_step(alloc: Global, text: &mut String, trace: &Trace) -> Resul
 }
 
 /// The line of a step.
-fn step_text(alloc: Global, trace: &Trace, place: u32) -> Result<Vec<u8>, AllocError>
+pub(crate) fn step_text(alloc: Global, trace: &Trace, place: u32) -> Result<Vec<u8>, AllocError>
     requires { place < len trace.now.run }
 {
     let form = form_of_step(alloc, trace, place)?;
     let mut forms = Forms::new(alloc);
-    forms.add(form)?;
-    print_forms(alloc, &forms)
+    let printed = match forms.add(form) {
+        Ok(()) => print_forms(alloc, &forms),
+        Err(failed) => Err(failed),
+    };
+    drop(forms);
+    printed
 }
 
 /// Adds what a transactor is doing.
@@ -116,7 +120,8 @@ fn add_history(text: &mut String, who: u32, history: Option<&History>) -> Result
     text.push(')')
 }
 
-fn add_point(text: &mut String, point: &Point) -> Result<(), AllocError> {
+/// Adds a point after a blank.
+pub(crate) fn add_point(text: &mut String, point: &Point) -> Result<(), AllocError> {
     let (who, interval, incarnation) = (point.who, point.interval, point.incarnation);
     write!(text, " ({who} {interval} {incarnation})")
 }

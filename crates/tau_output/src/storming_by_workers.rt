@@ -1,7 +1,6 @@
 //! The command `storm` by several workers.
-ghost use Rattle.std.specs.Prelude.{◌≡◌, ◌≤◌, ◌<◌, ℕ, List, None, Some, Contains, length, slice_get, IfOk, IfErr, IfSome, IsTrue, ◌↔◌};
+ghost use Rattle.std.specs.Prelude.{◌≡◌, ◌≤◌, ◌<◌, ℕ, List, None, Some, Contains, length, IfOk, IfErr, IfSome};
 ghost use Rattle.tau_command.specs.declared.commands.TextCommand.TheVariants.{Storm};
-ghost use Rattle.tau_value.specs.declared.limits.TheConstants.{BEHAVIOUR_LIMIT};
 ghost use Rattle.tau_tree.specs.declared.programs.Program.{Program};
 ghost use Rattle.tau_tree.specs.Sound.{Sound, behaviour_names};
 ghost use Rattle.tau_text.specs.Faults.{IsProgramFault};

@@ -1,5 +1,0 @@
-use Rattle.show_workers.specs.Seats.{IsAt}
-use Rattle.show_workers.proofs.turns.take_turns.Given as goal
-
-abbrev pub invariant-loop : goal.invariant-loop
-invariant-loop g l = record { at : IsAt l.fn.table l.side.seat }
