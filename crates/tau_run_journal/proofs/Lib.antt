@@ -1,8 +1,7 @@
 pub mod Answered
 pub mod Finds
-pub mod ItemForms
+pub mod ItemSteps
 pub mod Kept
-pub mod Longest
 pub mod Once
 pub mod Runs
 pub mod Standings

@@ -27,7 +27,7 @@ none_by_mark P T n full Q U (by_step s text p u) = no_step_going_on T s text
 none_by_mark P T n full Q U (by_mark is revival u) = omega (arith, full.1, revival.few)
 
 -- the first of records that stand for something
-some_front : (rs : List (List ℕ)) (k : ℕ) (P : Program) (T : Run) → StandsFor (take k rs) P T → 1 ≤ k
+pub some_front : (rs : List (List ℕ)) (k : ℕ) (P : Program) (T : Run) → StandsFor (take k rs) P T → 1 ≤ k
 some_front rs k P T stand = omega (arith, length-take k rs, some_stand (take k rs) P T stand)
 
 -- no records that stand for something go past such a record

@@ -25,7 +25,8 @@ use Rattle.tau_text.proofs.FaultLemmas.{program_unique}
 use Rattle.tau_journal.specs.Records.{going_on}
 use Rattle.tau_revival.specs.Revival.{IsRevival, revived}
 use Rattle.tau_run_journal.specs.Standing.{form_behind, IsProgramText, IsStepText, opened, StandsFor, begins, stepped, resumed}
-use Rattle.tau_run_journal.proofs.Steps.{MeansNext, Formed, means_more, one_step}
+use Rattle.tau_run_journal.specs.Inner.Items.{IsFormed, MeansNext}
+use Rattle.tau_run_journal.proofs.Steps.{means_more, one_step}
 
 -- lists with one more at the end
 push_same : {A : Type 0} (xs ys : List A) (x y : A) → xs ++ x ∷ [] ≡ ys ++ y ∷ [] → (xs ≡ ys) × (x ≡ y)
@@ -35,7 +36,7 @@ push_same xs ys x y e =
     let ends : x ≡ y = same_some (sym (slice_get-last xs x) ∙ ap (λ zs. slice_get zs (length xs)) e ∙ ap (slice_get (ys ++ y ∷ [])) long ∙ slice_get-last ys y) in
     (fronts, ends)
 
-first_same : {A : Type 0} (x y : A) → x ∷ [] ≡ y ∷ [] → x ≡ y
+pub first_same : {A : Type 0} (x y : A) → x ∷ [] ≡ y ∷ [] → x ≡ y
 first_same x y e = cc
 
 -- a text is one program's
@@ -52,7 +53,7 @@ text_isnt P r text read is differs Q other =
     differs (is ∙ ap (λ (X : Program). printed (forms.printed X)) same ∙ sym other.is)
 
 -- and one step's
-one_step_text : (T : Run) → Formed T → (r : List ℕ) (s u : Step) → IsStepText T s r → IsStepText T u r → s ≡ u
+one_step_text : (T : Run) → IsFormed T → (r : List ℕ) (s u : Step) → IsStepText T s r → IsStepText T u r → s ≡ u
 one_step_text T formed r s u one two =
     let same : form_behind T s ≡ form_behind T u = first_same (form_behind T s) (form_behind T u) (once r (form_behind T s ∷ []) (form_behind T u ∷ []) one.spelled two.spelled) in
     one_step T formed one.may.few_steps (form_behind T u) s u (subst (λ (f : Tree). MeansNext T f s) same one.means) two.means
@@ -86,7 +87,7 @@ pub data Follows (P : Program) (T : Run) (r : List ℕ) (Q : Program) (U : Run) 
   by_step : (s : Step) → IsStepText T s r → Q ≡ P → U ≡ appended T s → Follows P T r Q U
   by_mark : r ≡ going_on → IsRevival P T Q → U ≡ T → Follows P T r Q U
 
-one_follows : (P : Program) (T : Run) → Formed T → (r : List ℕ) (Q R : Program) (U V : Run) → Follows P T r Q U → Follows P T r R V → (Q ≡ R) × (U ≡ V)
+one_follows : (P : Program) (T : Run) → IsFormed T → (r : List ℕ) (Q R : Program) (U V : Run) → Follows P T r Q U → Follows P T r R V → (Q ≡ R) × (U ≡ V)
 one_follows P T formed r Q R U V (by_step s text p u) (by_step t other q v) = (p ∙ sym q, u ∙ ap (appended T) (one_step_text T formed r s t text other) ∙ sym v)
 one_follows P T formed r Q R U V (by_step s text p u) (by_mark is revival v) = absurd (no_step_going_on T s (subst (IsStepText T s) is text))
 one_follows P T formed r Q R U V (by_mark is revival u) (by_step t other q v) = absurd (no_step_going_on T t (subst (IsStepText T t) is other))
@@ -98,14 +99,14 @@ some_stand all P T (begins text) = omega arith
 some_stand all P T (stepped {rs = rs} {r = r} before text) = omega (arith, length_push rs r)
 some_stand all P T (resumed {rs = rs} {r = r} before is revival) = omega (arith, length_push rs r)
 
-pub formed_of : (rs : List (List ℕ)) (P : Program) (T : Run) → StandsFor rs P T → Formed T
+pub formed_of : (rs : List (List ℕ)) (P : Program) (T : Run) → StandsFor rs P T → IsFormed T
 formed_of all P T (begins text) = ([], record { opening = refl; count = refl; few = omega arith; each = λ k f s at is. absurd (cc) })
 formed_of all P T (stepped {rs = rs} {T = U} {s = s} before text) =
     let formed = formed_of rs P U before in
     (formed.0 ++ form_behind U s ∷ [], means_more U formed.0 formed.1 text.may.few_steps (form_behind U s) s text.means)
 formed_of all P T (resumed {rs = rs} {P = Q} before is revival) = formed_of rs Q T before
 
-later_once : (rs qs : List (List ℕ)) (P Q : Program) (T U : Run) (r q : List ℕ) (R S : Program) (V W : Run) → (rs ≡ qs → (P ≡ Q) × (T ≡ U)) → Formed T → Follows P T r R V → Follows Q U q S W
+later_once : (rs qs : List (List ℕ)) (P Q : Program) (T U : Run) (r q : List ℕ) (R S : Program) (V W : Run) → (rs ≡ qs → (P ≡ Q) × (T ≡ U)) → IsFormed T → Follows P T r R V → Follows Q U q S W
     → rs ++ r ∷ [] ≡ qs ++ q ∷ [] → (R ≡ S) × (V ≡ W)
 later_once rs qs P Q T U r q R S V W before formed one two e =
     let ends = push_same rs qs r q e in

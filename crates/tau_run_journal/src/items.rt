@@ -1,72 +1,51 @@
-//! The records of a journal behind its first, as forms and as steps.
-ghost use Rattle.std.specs.Prelude.{◌≡◌, ◌≢◌, ◌<◌, ◌≤◌, [], ◌∷◌, ◌++◌, true, Some, None, IfOk, length, slice_get};
-ghost use Rattle.tau_sexpr.specs.Form.{tree_of};
-ghost use Rattle.tau_tree.specs.Sound.{Sound};
-ghost use Rattle.tau_script.specs.Openings.{program_opening};
-ghost use Rattle.tau_run_journal.specs.Inner.Items.{TellsForm, AreFormsTo, AreForms, AddsItem, IsFaulty, IsLongest};
+//! The records of a journal behind its first, each of which may go on with the run.
+ghost use Rattle.std.specs.Prelude.{◌≡◌, ◌≢◌, ◌≤◌, [], ◌∷◌, None, IfOk, IsTrue, length};
+ghost use Rattle.tau_value.specs.declared.limits.TheConstants.{ENTRY_LIMIT};
+ghost use Rattle.tau_sexpr.specs.Tree.{Tree};
+ghost use Rattle.tau_revival.specs.Revival.{LeadsOn};
+ghost use Rattle.tau_run_journal.specs.Inner.Items.{TellsForm, IsFormed, AddsForm, TakesItem};
 
-use crate::texts::is_mark;
+use crate::texts::is_last_text;
 use std::alloc::{AllocError, Global};
-use tau_journal::Records;
-use tau_script::opening_of;
-use tau_sexpr::{Form, FormError, Forms, read_forms};
-use tau_steps::{StepError, steps_of};
+use tau_revival::laws::cursors_lead_on;
+use tau_revival::pass_due;
+use tau_script::Cursor;
+use tau_sexpr::{FormError, Forms, read_forms};
+use tau_steps::{StepError, add_steps};
 use tau_trace::Trace;
-use tau_tree::Program;
+use tau_tree::Script;
 
-/// The forms of the records behind the first, but for those that say that the run went on; up to the first that isn't one
-/// form.
-pub(crate) fn forms_of_items(alloc: Global, records: &Records) -> Result<Forms, AllocError>
-    requires { 1 ≤ length records.now }
-    ensures { IfOk result (AreForms records.now) }
-{
-    let mut forms = Forms::new(alloc);
-    for place in 1..records.len() {
-        let Some(record) = records.item(place) else {
-            unreachable!()
-        };
-        let added = add_item(alloc, &mut forms, records, place, record)?;
-        if !added {
-            return Ok(forms);
-        }
-    }
-    Ok(forms)
-}
-
-/// Adds the form of the record at a place, unless it says that the run went on; false where it isn't one form.
-fn add_item(
+/// Whether a record is the text of a step that may stand behind those of the trace, which then gets it; the cursor of the script comes
+/// along. Where it isn't, nothing is promised of the trace and the cursor. The text is a buffer.
+pub(crate) fn take_item(
     alloc: Global,
-    forms: &mut Forms,
-    records: &Records,
-    place: usize,
+    script: &Script,
+    cursor: &mut Cursor,
+    trace: &mut Trace,
+    text: &mut Vec<u8>,
     bytes: &[u8],
 ) -> Result<bool, AllocError>
-    requires behind { 0 < place }
-    requires stands { slice_get records.now place ≡ Some bytes.now }
-    requires so_far { AreFormsTo records.now place forms.old }
-    ensures { IfOk result (AddsItem records.now place forms.new) }
+    requires few { length script.now ≤ ENTRY_LIMIT }
+    requires formed { IsFormed trace.old.run }
+    requires cursor { LeadsOn script.now trace.old.run cursor.old }
+    ensures taken { IfOk result (TakesItem trace.old.run bytes.now trace.new.run) }
+    ensures cursor { IfOk result (λ b. IsTrue b → LeadsOn script.now trace.new.run cursor.new) }
 {
-    let is_mark = is_mark(bytes);
-    if is_mark {
-        return Ok(true);
+    cursors_lead_on();
+    let read = one_form(alloc, bytes)?;
+    let Some(forms) = read else {
+        return Ok(false);
+    };
+    pass_due(script, cursor, trace);
+    let added = add_form(alloc, trace, &forms)?;
+    if !added {
+        return Ok(false);
     }
-    let form = form_of(alloc, bytes)?;
-    match form {
-        Some(form) => add_form(forms, form),
-        None => Ok(false),
-    }
+    is_last_text(alloc, text, trace, bytes)
 }
 
-/// Adds a form, and answers true.
-fn add_form(forms: &mut Forms, form: Form) -> Result<bool, AllocError>
-    ensures { IfOk result (λ b. (b ≡ true) × (forms.new ≡ forms.old ++ tree_of form ∷ [])) }
-{
-    forms.add(form)?;
-    Ok(true)
-}
-
-/// The one form of a record; `None` where it has none or several.
-fn form_of(alloc: Global, bytes: &[u8]) -> Result<Option<Form>, AllocError>
+/// The form of a record that has one; `None` where it has none or several.
+fn one_form(alloc: Global, bytes: &[u8]) -> Result<Option<Forms>, AllocError>
     ensures { IfOk result (TellsForm bytes.now) }
 {
     match read_forms(alloc, bytes) {
@@ -74,17 +53,14 @@ fn form_of(alloc: Global, bytes: &[u8]) -> Result<Option<Form>, AllocError>
             if forms.len() != 1 {
                 return Ok(None);
             }
-            match forms.item(0) {
-                Some(form) => Ok(Some(form.copy()?)),
-                None => unreachable!(),
-            }
+            Ok(Some(forms))
         }
         Err(error) => no_form(error),
     }
 }
 
 /// No form, where reading failed for another reason than want of memory.
-fn no_form(error: FormError) -> Result<Option<Form>, AllocError>
+fn no_form(error: FormError) -> Result<Option<Forms>, AllocError>
     ensures { IfOk result (λ o. (o ≡ None) × (error ≢ FormError.NoMemory)) }
 {
     match error {
@@ -93,40 +69,15 @@ fn no_form(error: FormError) -> Result<Option<Form>, AllocError>
     }
 }
 
-/// The trace of a program whose steps the forms mean, up to the first that means none there.
-pub(crate) fn steps_of_forms(
-    alloc: Global,
-    program: &Program,
-    forms: &Forms,
-) -> Result<Trace, AllocError>
-    requires { Sound program.now }
-    ensures { IfOk result (λ t. IsLongest (program_opening program.now) forms.now t.run) }
+/// Whether the form means a step behind those of the trace, which then gets it.
+fn add_form(alloc: Global, trace: &mut Trace, forms: &Forms) -> Result<bool, AllocError>
+    requires { IsFormed trace.old.run }
+    ensures { IfOk result (λ b. (f : Tree) → forms.now ≡ f ∷ [] → AddsForm trace.old.run f trace.new.run b) }
 {
-    let opening = opening_of(alloc, program)?;
-    match steps_of(alloc, forms, 0, forms.len(), opening) {
-        Ok(trace) => Ok(trace),
-        Err(StepError::Shape { step }) => steps_before(alloc, program, forms, step as usize),
-        Err(StepError::Unknown { step }) => steps_before(alloc, program, forms, step as usize),
-        Err(StepError::NoMemory) => Err(AllocError),
-    }
-}
-
-/// The trace of the forms before the first that means no step.
-fn steps_before(
-    alloc: Global,
-    program: &Program,
-    forms: &Forms,
-    first: usize,
-) -> Result<Trace, AllocError>
-    requires sound { Sound program.now }
-    requires first { IsFaulty (program_opening program.now) forms.now first }
-    ensures { IfOk result (λ t. IsLongest (program_opening program.now) forms.now t.run) }
-{
-    let opening = opening_of(alloc, program)?;
-    match steps_of(alloc, forms, 0, first, opening) {
-        Ok(trace) => Ok(trace),
-        Err(StepError::Shape { .. }) => unreachable!(),
-        Err(StepError::Unknown { .. }) => unreachable!(),
+    match add_steps(alloc, trace, forms.items()) {
+        Ok(()) => Ok(true),
+        Err(StepError::Shape { .. }) => Ok(false),
+        Err(StepError::Unknown { .. }) => Ok(false),
         Err(StepError::NoMemory) => Err(AllocError),
     }
 }

@@ -11,7 +11,7 @@ ghost use Rattle.tau_journal.specs.Gates.{gate_of};
 ghost use Rattle.tau_revival.specs.Revival.{IsRevival};
 ghost use Rattle.tau_run_journal.specs.Standing.{IsStepText, HasStepText, StandsAt, StandsForEither};
 
-use crate::texts::text_at;
+use crate::texts::put_last_text;
 use std::alloc::{AllocError, Global};
 use tau_journal::disk::Disk;
 use tau_journal::{Journal, JournalError};
@@ -92,5 +92,7 @@ fn last_text(alloc: Global, trace: &Trace) -> Result<Vec<u8>, AllocError>
     requires { 0 < len trace.now.run }
     ensures { IfOk result (λ v. (T : Run) (s : Step) → trace.now.run ≡ appended T s → IsStepText T s v.items) }
 {
-    text_at(alloc, trace, trace.len() - 1)
+    let mut text = Vec::new(alloc);
+    put_last_text(alloc, &mut text, trace)?;
+    Ok(text)
 }

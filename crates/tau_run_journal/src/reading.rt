@@ -1,28 +1,24 @@
 //! Reading what the records of a journal stand for.
-ghost use Rattle.std.specs.Prelude.{◌≡◌, ◌+◌, ◌<◌, ◌≤◌, ◌≢◌, ℕ, List, Err, IfOk, IfErr, IsErrOf, length, slice_get};
-ghost use Rattle.tau_value.specs.declared.limits.TheConstants.{ENTRY_LIMIT};
+ghost use Rattle.std.specs.Prelude.{◌≡◌, ◌+◌, ◌<◌, ◌≤◌, ℕ, List, IfOk, IsErrOf, length, take, slice_get};
 ghost use Rattle.tau_tree.specs.Sound.{Sound};
-ghost use Rattle.tau_trace.specs.Run.{len};
-ghost use Rattle.tau_script.specs.Openings.{program_opening};
-ghost use Rattle.tau_journal.specs.Records.{going_on};
 ghost use Rattle.tau_journal.specs.Room.{IsFaultOrFailure};
 ghost use Rattle.tau_revival.specs.Revival.{LeadsOn};
 ghost use Rattle.tau_run_journal.specs.Laws.{IsRunOf};
-ghost use Rattle.tau_run_journal.specs.Standing.{IsProgramText};
+ghost use Rattle.tau_run_journal.specs.Standing.{IsProgramText, StandsFor};
 ghost use Rattle.tau_run_journal.specs.Reading.{HasNoProgram, IsReadAs};
-ghost use Rattle.tau_run_journal.specs.Inner.Items.{TellsProgram, AreSteps, front, IsReadTo, TakesRecord, TakesMark, TakesItem};
+ghost use Rattle.tau_run_journal.specs.Inner.Items.{TellsProgram, TakesMark, IsFaultyAt, IsPassed};
 
 use crate::RecordFault;
-use crate::items::{forms_of_items, steps_of_forms};
-use crate::texts::{is_mark, is_text_at, same_bytes};
+use crate::items::take_item;
+use crate::texts::{is_mark, same_bytes};
 use std::alloc::{AllocError, Global};
 use tau_journal::{JournalError, Records};
 use tau_revival::laws::cursors_lead_on;
-use tau_revival::{ReviveError, pass_due, revive};
+use tau_revival::{ReviveError, revive};
 use tau_script::{Cursor, opening_of};
 use tau_text::{InputError, program_text, read_program};
 use tau_trace::Trace;
-use tau_tree::{Program, Script};
+use tau_tree::Program;
 
 /// The number of the fault of a first record that is no program's text.
 const NO_PROGRAM: u8 = 3;
@@ -71,9 +67,37 @@ fn read_later(alloc: Global, records: &Records, program: Program) -> Result<Stan
     ensures read { IfOk result (λ s. IsReadAs records.now s.program s.trace.run s.fault) }
     ensures cursor { IfOk result (λ s. LeadsOn s.program.script s.trace.run s.cursor) }
 {
-    let forms = forms_of_items(alloc, records)?;
-    let steps = steps_of_forms(alloc, &program, &forms)?;
-    follow(alloc, records, program, &steps)
+    let passed = pass(alloc, records, program, records.len())?;
+    match passed.fault {
+        Some(fault) => match fault {
+            RecordFault::Item { record: place } => read_before(alloc, records, place),
+            RecordFault::ScriptFull { .. } => Ok(passed),
+        },
+        None => Ok(passed),
+    }
+}
+
+/// What those records stand for that come before the first that can't stand where it does. They are read a second time, since nothing is
+/// promised of the trace of a pass that met it.
+fn read_before(alloc: Global, records: &Records, place: u64) -> Result<Standing, AllocError>
+    requires some { 1 ≤ length records.now }
+    requires faulty { IsFaultyAt records.now place }
+    ensures read { IfOk result (λ s. IsReadAs records.now s.program s.trace.run s.fault) }
+    ensures cursor { IfOk result (λ s. LeadsOn s.program.script s.trace.run s.cursor) }
+{
+    let first = first_program(alloc, records)?;
+    match first {
+        Some(program) => {
+            let before = pass(alloc, records, program, place as usize)?;
+            Ok(Standing {
+                program: before.program,
+                trace: before.trace,
+                cursor: before.cursor,
+                fault: Some(RecordFault::Item { record: place }),
+            })
+        }
+        None => unreachable!(),
+    }
 }
 
 /// The program of the first record; `None` where it is no program's text.
@@ -105,69 +129,52 @@ fn program_of_text(alloc: Global, bytes: &[u8]) -> Result<Option<Program>, Alloc
     }
 }
 
-/// What was read so far: the program, as it was revived, its run, and the cursor of the script at the end of the run, which may have entries
-/// to pass over there.
-#[derive(Drop)]
-struct Read {
-    program: Program,
-    trace: Trace,
-    cursor: Cursor,
-}
-
-/// What records stand for, whose steps are those of a trace.
-fn follow(
+/// One pass over the first records, up to the first that has a fault. The program is that of the first record. Where a record is no text
+/// of a step, only its place is told.
+fn pass(
     alloc: Global,
     records: &Records,
     program: Program,
-    steps: &Trace,
+    end: usize,
 ) -> Result<Standing, AllocError>
-    requires some { 1 ≤ length records.now }
+    requires some { 1 ≤ end }
+    requires within { end ≤ length records.now }
     requires first { (r : List ℕ) → slice_get records.now 0 ≡ Some r → IsProgramText program r }
-    requires steps { AreSteps records.now (program_opening program) steps.now.run }
-    ensures read { IfOk result (λ s. IsReadAs records.now s.program s.trace.run s.fault) }
-    ensures cursor { IfOk result (λ s. LeadsOn s.program.script s.trace.run s.cursor) }
+    ensures { IfOk result (λ s. IsPassed records.now end s.program s.trace.run s.cursor s.fault) }
 {
     cursors_lead_on();
     let opening = opening_of(alloc, &program)?;
-    let mut read = Read {
+    let mut read = Standing {
         trace: Trace::begin(alloc, opening)?,
         program,
         cursor: Cursor::first(),
+        fault: None,
     };
-    for place in 1..records.len() {
-        let fault = take_record(alloc, &mut read, records, place, steps)?;
+    let mut text = Vec::new(alloc);
+    for place in 1..end {
+        let fault = take_record(alloc, &mut read, &mut text, records, place)?;
         if fault.is_some() {
-            return Ok(Standing {
-                program: read.program,
-                trace: read.trace,
-                cursor: read.cursor,
-                fault,
-            });
+            read.fault = fault;
+            return Ok(read);
         }
     }
-    Ok(Standing {
-        program: read.program,
-        trace: read.trace,
-        cursor: read.cursor,
-        fault: None,
-    })
+    Ok(read)
 }
 
-/// Takes the record at a place behind those that were taken, or tells its fault.
+/// Takes the record at a place behind those that were taken, or tells its fault. The text is a buffer.
 fn take_record(
     alloc: Global,
-    read: &mut Read,
+    read: &mut Standing,
+    text: &mut Vec<u8>,
     records: &Records,
     place: usize,
-    steps: &Trace,
 ) -> Result<Option<RecordFault>, AllocError>
     requires behind { 0 < place }
     requires within { place < length records.now }
-    requires steps { AreSteps records.now steps.now.run.opening steps.now.run }
-    requires so_far { IsReadTo records.now steps.now.run place read.old.program read.old.trace.run }
+    requires stand { StandsFor (take place records.now) read.old.program read.old.trace.run }
     requires cursor { LeadsOn read.old.program.script read.old.trace.run read.old.cursor }
-    ensures taken { IfOk result (TakesRecord records.now steps.now.run place read.new.program read.new.trace.run) }
-    ensures cursor { IfOk result (λ _. LeadsOn read.new.program.script read.new.trace.run read.new.cursor) }
+    ensures taken { IfOk result (IsPassed records.now (place + 1) read.new.program read.new.trace.run read.new.cursor) }
+    ensures fault { read.new.fault ≡ read.old.fault }
 {
     let Some(record) = records.item(place) else {
         unreachable!()
@@ -181,7 +188,7 @@ fn take_record(
         script,
         &mut read.cursor,
         &mut read.trace,
-        steps,
+        text,
         record,
     )?;
     if taken {
@@ -213,36 +220,4 @@ fn take_mark(
         Err(ReviveError::ScriptFull { entries }) => Ok(Some(RecordFault::ScriptFull { entries })),
         Err(ReviveError::NoMemory) => Err(AllocError),
     }
-}
-
-/// Whether a record is the text of the step that `steps` has behind those of the trace, which then gets it. The cursor of the script comes
-/// along.
-fn take_item(
-    alloc: Global,
-    script: &Script,
-    cursor: &mut Cursor,
-    trace: &mut Trace,
-    steps: &Trace,
-    bytes: &[u8],
-) -> Result<bool, AllocError>
-    requires few { length script.now ≤ ENTRY_LIMIT }
-    requires so_far { trace.old.run ≡ front steps.now.run (len trace.old.run) }
-    requires cursor { LeadsOn script.now trace.old.run cursor.old }
-    ensures taken { IfOk result (TakesItem steps.now.run trace.old.run bytes.now trace.new.run) }
-    ensures cursor { IfOk result (λ _. LeadsOn script.now trace.new.run cursor.new) }
-{
-    cursors_lead_on();
-    let place = trace.len();
-    let Some(step) = steps.step(place) else {
-        return Ok(false);
-    };
-    let is_text = is_text_at(alloc, steps, place, bytes)?;
-    if !is_text {
-        return Ok(false);
-    }
-    let copied = step.copy()?;
-    pass_due(script, cursor, trace);
-    trace.reserve()?;
-    trace.push_spare(copied);
-    Ok(true)
 }

@@ -1,41 +1,45 @@
-//! The texts of the steps of a trace, each as it stands in a record.
-ghost use Rattle.std.specs.Prelude.{◌≡◌, ◌<◌, ◌↔◌, IfOk, IsTrue};
-ghost use Rattle.tau_trace.specs.Run.{len};
+//! The text of the last step of a trace, as it stands in a record.
+ghost use Rattle.std.specs.Prelude.{◌≡◌, ◌<◌, ◌↔◌, IfOk, OnOk, IsTrue};
+ghost use Rattle.tau_trace.specs.declared.step.Step.{Step};
+ghost use Rattle.tau_trace.specs.Run.{Run, len, appended};
 ghost use Rattle.tau_journal.specs.Records.{going_on};
-ghost use Rattle.tau_run_journal.specs.Inner.Items.{IsTextAt};
+ghost use Rattle.tau_run_journal.specs.Standing.{IsStepText};
 
 use std::alloc::{AllocError, Global};
-use tau_sexpr::{Forms, print_forms};
+use tau_sexpr::put_form_line;
 use tau_steps::form_of_step;
 use tau_steps::laws::printed_steps_mean_themselves;
 use tau_trace::Trace;
 
-/// The text of the step at a place: its form, with a line feed.
-pub(crate) fn text_at(alloc: Global, trace: &Trace, place: u32) -> Result<Vec<u8>, AllocError>
-    requires { place < len trace.now.run }
-    ensures { IfOk result (λ v. IsTextAt trace.now.run place v.items) }
+/// Puts the text of the last step, its form with a line feed, into a buffer, in place of what it had.
+pub(crate) fn put_last_text(
+    alloc: Global,
+    text: &mut Vec<u8>,
+    trace: &Trace,
+) -> Result<(), AllocError>
+    requires { 0 < len trace.now.run }
+    ensures { OnOk result ((T : Run) (s : Step) → trace.now.run ≡ appended T s → IsStepText T s text.new.items) }
 {
     let steps = trace.len();
-    prove!(place < steps);
+    prove!(0 < steps);
     printed_steps_mean_themselves();
-    let form = form_of_step(alloc, trace, place)?;
-    let mut forms = Forms::new(alloc);
-    forms.add(form)?;
-    print_forms(alloc, &forms)
+    let form = form_of_step(alloc, trace, steps - 1)?;
+    text.clear();
+    put_form_line(text, &form)
 }
 
-/// Whether a record is the text of the step at a place.
-pub(crate) fn is_text_at(
+/// Whether a record is the text of the last step; the text is a buffer.
+pub(crate) fn is_last_text(
     alloc: Global,
+    text: &mut Vec<u8>,
     trace: &Trace,
-    place: u32,
     bytes: &[u8],
 ) -> Result<bool, AllocError>
-    requires { place < len trace.now.run }
-    ensures { IfOk result (λ b. IsTrue b ↔ IsTextAt trace.now.run place bytes.now) }
+    requires { 0 < len trace.now.run }
+    ensures { IfOk result (λ b. (T : Run) (s : Step) → trace.now.run ≡ appended T s → IsTrue b ↔ IsStepText T s bytes.now) }
 {
-    let text = text_at(alloc, trace, place)?;
-    Ok(same_bytes(&text, bytes))
+    put_last_text(alloc, text, trace)?;
+    Ok(same_bytes(text, bytes))
 }
 
 /// Whether a record says that the run went on after a stop.
