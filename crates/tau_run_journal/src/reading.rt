@@ -88,13 +88,9 @@ fn read_before(alloc: Global, records: &Records, place: u64) -> Result<Standing,
     let first = first_program(alloc, records)?;
     match first {
         Some(program) => {
-            let before = pass(alloc, records, program, place as usize)?;
-            Ok(Standing {
-                program: before.program,
-                trace: before.trace,
-                cursor: before.cursor,
-                fault: Some(RecordFault::Item { record: place }),
-            })
+            let mut before = pass(alloc, records, program, place as usize)?;
+            before.fault = Some(RecordFault::Item { record: place });
+            Ok(before)
         }
         None => unreachable!(),
     }
