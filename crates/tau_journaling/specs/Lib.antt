@@ -2,3 +2,4 @@ pub mod Going
 pub mod Kept
 pub mod Resumed
 pub mod Found
+pub mod Inner
