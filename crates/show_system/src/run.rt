@@ -9,7 +9,9 @@ use crate::showing::add_step;
 use std::alloc::{AllocError, Global};
 use tau_eval::{Job, Pending, begin};
 use tau_knowledge::Knowledge;
-use tau_rules::{ActError, DeliverError, Delivered, FailError, LoseError, RepeatError, System};
+use tau_rules::{
+    ActError, Acted, DeliverError, Delivered, FailError, LoseError, RepeatError, System,
+};
 use tau_tree::Program;
 use tau_value::{STEP_LIMIT, Value};
 
@@ -116,9 +118,10 @@ impl<'p, K: Knowledge + Drop> Run<'p, K> {
         if self.is_full() {
             return Ok((Answer::Nothing, None));
         }
-        match self.system.redo_of(pending) {
-            Ok(None) => Ok((Answer::Made, self.system.act(pending)?)),
-            Ok(Some(job)) => Ok((self.keep(job, Answer::Redone)?, None)),
+        match self.system.act(pending) {
+            Ok(Acted::Reply(reply)) => Ok((Answer::Made, Some(reply))),
+            Ok(Acted::TurnOver) => Ok((Answer::Made, None)),
+            Ok(Acted::Redo(job)) => Ok((self.keep(job, Answer::Redone)?, None)),
             Err(ActError::Stale { ended_by }) => Ok((Answer::Stale { ended_by }, None)),
             Err(ActError::NoMemory) => Err(AllocError),
         }

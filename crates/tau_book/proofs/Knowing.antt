@@ -112,7 +112,7 @@ act_hands_on old new h k pending tolds.Stopped is all = all_same_hand old new h 
 act_hands_on old new h k pending (tolds.Later back) is all = due_made old new h k is.0 all
 act_hands_on old new h k pending (tolds.Stale ended_by) is all = all_same_hand old new h k is.book_is is.hand_is all
 act_hands_on old new h k pending tolds.Redone is all =
-    let known : IsKnown old is.job = open_known old.system.program old.system.run is.job is.redone.is_open in
+    let known : IsKnown old is.job = open_known old.system.program old.system.run is.job is.redone.acted.is_open in
     let same : new.system ≡ old.system = ap (λ (x : Booked). x.system) is.book_is in
     All-same (IsKnown new) k.jobs (h.jobs ++ is.job ∷ []) (ap (λ (x : Held). x.jobs) is.hand_is) (all_still old new (h.jobs ++ is.job ∷ []) same (All-push (IsKnown old) h.jobs is.job all known))
 act_hands_on old new h k pending tolds.Stepped (goes_on {r = r} tried hand_is) all =

@@ -4,7 +4,9 @@ use Rattle.tau_value.specs.declared.shared.Value.{Value}
 use Rattle.tau_value.specs.Value.{val_of}
 use Rattle.tau_trace.specs.Run.{len}
 use Rattle.tau_eval.specs.Turn.{TurnSoFar, with_reply}
-use Rattle.tau_rules.specs.Answers.{IsActed, IsRedone, NoTurnFrom, IsTurnEnd}
+use Rattle.tau_rules.specs.Answers.{IsActed, NoTurnFrom, IsTurnEnd}
+use Rattle.tau_rules.specs.declared.answers.Acted.{Acted}
+use Rattle.tau_rules.specs.declared.answers.Acted.TheVariants.{Reply, TurnOver, Redo}
 use Rattle.tau_queue.specs.OpenTurns.{AreOpenTurns}
 use Rattle.tau_book.specs.declared.answers.Told.{Told}
 use Rattle.tau_book.specs.declared.answers.Told.TheVariants as tolds
@@ -13,23 +15,27 @@ use Rattle.tau_book.specs.Books.{Booked, IsAtLimit, GoesOn, IsComplete}
 use Rattle.tau_book.specs.Offers.{given_back}
 use Rattle.tau_book.specs.Nexts.{IsDueMade}
 
--- the step of the effect was appended, and the turn goes on with this reply; or it is over
-pub record IsTried (old new : Booked) (pending : TurnSoFar) (reply : Option Value) : Type 0 where
+-- the effect was tried, and this came of it
+pub record IsTried (old new : Booked) (pending : TurnSoFar) (a : Acted) : Type 0 where
   pub goes_on : GoesOn old
-  pub acted : IsActed old.system new.system pending reply
+  pub acted : IsActed old.system new.system pending a
   pub limit_is : new.limit ≡ old.limit
   pub store_is : new.store ≡ old.store
 
+-- where another job is the record of the turn, the book is as it was
+abbrev pub StaysAtRedo : Booked → Booked → Acted → Type 0
+StaysAtRedo old new (Redo job) = new ≡ old
+StaysAtRedo old new a = Unit {0}
+
 -- its step was appended: the turn goes on, and the job with the reply joins the hand; or the turn is over
 pub data IsTurnStep (old new : Booked) (h k : Held) (pending : TurnSoFar) : Type 0 where
-  goes_on : {r : Value} → IsTried old new pending (Some r) → k ≡ joined h (with_reply pending (val_of r)) → IsTurnStep old new h k pending
-  is_over : IsTried old new pending None → k ≡ h → IsTurnStep old new h k pending
+  goes_on : {r : Value} → IsTried old new pending (Reply r) → k ≡ joined h (with_reply pending (val_of r)) → IsTurnStep old new h k pending
+  is_over : IsTried old new pending TurnOver → k ≡ h → IsTurnStep old new h k pending
 
 -- another job is the record of the turn, and joins the hand
 pub record IsRedoneWith (old new : Booked) (h k : Held) (pending : TurnSoFar) : Type 0 where
   pub job : TurnSoFar
-  pub goes_on : GoesOn old
-  pub redone : IsRedone old.system pending job
+  pub redone : IsTried old new pending (Redo job)
   pub book_is : new ≡ old
   pub hand_is : k ≡ joined h job
 

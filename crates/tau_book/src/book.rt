@@ -1,19 +1,18 @@
 //! The book.
-ghost use Rattle.std.specs.Prelude.{◌≡◌, ◌≢◌, ◌<◌, ◌≤◌, ◌↔◌, ℕ, [], IsTrue, IsFalse, IfOk, IfErr, IfNone, IfSome, OnOk, OnErr, length};
+ghost use Rattle.std.specs.Prelude.{◌≡◌, ◌≢◌, ◌<◌, ◌≤◌, ◌↔◌, ℕ, [], IsTrue, IsFalse, IfOk, IfErr, OnOk, OnErr, length};
 ghost use Rattle.tau_value.specs.declared.limits.TheConstants.{STEP_LIMIT};
 ghost use Rattle.tau_tree.specs.Sound.{Sound};
 ghost use Rattle.tau_script.specs.Openings.{program_opening};
 ghost use Rattle.tau_trace.specs.Run.{len};
 ghost use Rattle.tau_trace.specs.Known.{WellFormed};
 ghost use Rattle.tau_legal.specs.Traces.{Legal};
-ghost use Rattle.tau_rules.specs.Answers.{IsOpenJob, IsRedone, IsUnacted};
+ghost use Rattle.tau_rules.specs.Answers.{IsOpenJob, IsUnacted, acted_by};
 ghost use Rattle.tau_rules.specs.KnownJobs.{WasOpenJob};
-ghost use Rattle.tau_failures.specs.LegalRun.{NothingLeft};
 ghost use Rattle.tau_book.specs.Books.{IsBook, IsComplete, IsAtLimit, GoesOn};
 ghost use Rattle.tau_queue.specs.Flight.{IsDeliverable};
 ghost use Rattle.tau_book.specs.Offers.{OffersMore};
 ghost use Rattle.tau_book.specs.Nexts.{IsNext, IsDueTried};
-ghost use Rattle.tau_book.specs.Tolds.{IsTold, IsTurnStep, IsGivenBack, IsFinished};
+ghost use Rattle.tau_book.specs.Tolds.{IsTold, IsTried, IsTurnStep, StaysAtRedo, IsGivenBack, IsFinished};
 ghost use Rattle.tau_book.specs.Places.{LeavesRoom, ComesBack};
 
 use crate::choosing::choose;
@@ -24,7 +23,7 @@ use std::marker::Model;
 use tau_eval::{Job, Pending};
 use tau_knowledge::Knowledge;
 use tau_queue::Scripted;
-use tau_rules::{ActError, System};
+use tau_rules::{ActError, Acted, System};
 use tau_trace::Trace;
 use tau_tree::Program;
 use tau_value::Value;
@@ -145,14 +144,6 @@ impl<'p, K: Knowledge + Drop> Book<'p, K> {
         self.scripted.len() == self.limit
     }
 
-    /// Whether no turn is open and no message is in flight. Where nothing is due besides, the trace is complete (docs/definitions.md,
-    /// "Complete").
-    pub fn has_nothing_left(&self) -> bool
-        ensures { IsTrue result ↔ NothingLeft self.now.system.run }
-    {
-        self.scripted.has_nothing_left()
-    }
-
     /// Appends the step of the script that is due, if one is.
     fn make_due(&mut self) -> Result<bool, AllocError>
         requires { len self.old.system.run < self.old.limit }
@@ -257,21 +248,25 @@ impl<'p, K: Knowledge + Drop> Book<'p, K> {
         }
         match self.make_due() {
             Ok(true) => Ok(Told::Later(pending)),
-            Ok(false) => self.make(hand, pending, was_open),
+            Ok(false) => {
+                if was_open {
+                    self.make_known(hand, pending)
+                } else {
+                    self.make(hand, pending)
+                }
+            }
             Err(failed) => Err((pending, failed)),
         }
     }
 
-    /// Makes the step of an effect, where its job is the record of an open turn; none of the script is due.
+    /// Makes the step of an effect whose job is compared with the record; none of the script is due.
     fn make(
         &mut self,
         hand: &mut Hand<'p>,
         pending: Pending<'p>,
-        was_open: bool,
     ) -> Result<Told<'p>, (Pending<'p>, AllocError)>
         requires room { length hand.old.jobs < hand.old.size }
         requires goes_on { GoesOn self.old }
-        requires known { IsTrue was_open → WasOpenJob self.old.system.program self.old.system.run pending }
         ensures ok { IfOk result (IsTold self.old self.new hand.old hand.new pending.entry) }
         ensures later { IfOk result (ComesBack hand.old hand.new pending.entry) }
         ensures size { hand.new.size ≡ hand.old.size }
@@ -279,12 +274,13 @@ impl<'p, K: Knowledge + Drop> Book<'p, K> {
         ensures book_on_err { OnErr result (self.new ≡ self.old) }
         ensures hand_on_err { OnErr result (hand.new ≡ hand.old) }
     {
-        match self.redo_of(&pending, was_open) {
-            Ok(None) => {
-                self.bring_open(hand, pending)?;
+        match self.try_effect(&pending) {
+            Ok(Acted::Reply(reply)) => {
+                hand.keep(pending.resume(reply));
                 Ok(Told::Stepped)
             }
-            Ok(Some(job)) => {
+            Ok(Acted::TurnOver) => Ok(Told::Stepped),
+            Ok(Acted::Redo(job)) => {
                 hand.keep(job);
                 Ok(Told::Redone)
             }
@@ -293,18 +289,39 @@ impl<'p, K: Knowledge + Drop> Book<'p, K> {
         }
     }
 
-    /// Whether a job is the record of an open turn: `None` where it is, and otherwise the job of the record. One that was it at some
-    /// moment is compared only where it isn't it still.
-    fn redo_of(&self, pending: &Pending<'p>, was_open: bool) -> Result<Option<Job<'p>>, ActError>
-        requires { IsTrue was_open → WasOpenJob self.now.system.program self.now.system.run pending.now }
-        ensures open { IfOk result (λ o. IfNone o (IsOpenJob self.now.system.program self.now.system.run pending.now)) }
-        ensures redo { IfOk result (λ o. IfSome o (IsRedone self.now.system pending.now)) }
-        ensures err { IfErr result (IsUnacted self.now.system.run pending.now.place) }
+    /// Tries the effect; no step of the script is due.
+    fn try_effect(&mut self, pending: &Pending<'p>) -> Result<Acted<'p>, ActError>
+        requires { GoesOn self.old }
+        ensures ok { IfOk result (IsTried self.old self.new pending.now) }
+        ensures redone { IfOk result (StaysAtRedo self.old self.new) }
+        ensures unchanged { IfErr result (λ e. self.new ≡ self.old) }
+        ensures err { IfErr result (IsUnacted self.old.system.run pending.now.place) }
     {
-        if was_open && self.is_open_still(pending) {
-            return Ok(None);
+        self.scripted.act(pending)
+    }
+
+    /// Makes the step of an effect of a job that was the record of an open turn; none of the script is due.
+    fn make_known(
+        &mut self,
+        hand: &mut Hand<'p>,
+        pending: Pending<'p>,
+    ) -> Result<Told<'p>, (Pending<'p>, AllocError)>
+        requires room { length hand.old.jobs < hand.old.size }
+        requires goes_on { GoesOn self.old }
+        requires known { WasOpenJob self.old.system.program self.old.system.run pending }
+        ensures ok { IfOk result (IsTold self.old self.new hand.old hand.new pending.entry) }
+        ensures later { IfOk result (ComesBack hand.old hand.new pending.entry) }
+        ensures size { hand.new.size ≡ hand.old.size }
+        ensures pending_on_err { IfErr result (λ e. e.0 ≡ pending.entry) }
+        ensures book_on_err { OnErr result (self.new ≡ self.old) }
+        ensures hand_on_err { OnErr result (hand.new ≡ hand.old) }
+    {
+        if self.is_open_still(&pending) {
+            self.bring_open(hand, pending)?;
+            Ok(Told::Stepped)
+        } else {
+            self.make(hand, pending)
         }
-        self.system().redo_of(pending)
     }
 
     /// Whether a job that was the record of an open turn is it still.
@@ -361,7 +378,7 @@ impl<'p, K: Knowledge + Drop> Book<'p, K> {
         ensures book_on_err { OnErr result (self.new ≡ self.old) }
         ensures hand_on_err { OnErr result (hand.new ≡ hand.old) }
     {
-        match self.scripted.act(&pending) {
+        match self.try_open(&pending) {
             Ok(Some(reply)) => {
                 hand.keep(pending.resume(reply));
                 Ok(())
@@ -369,6 +386,17 @@ impl<'p, K: Knowledge + Drop> Book<'p, K> {
             Ok(None) => Ok(()),
             Err(failed) => Err((pending, failed)),
         }
+    }
+
+    /// Tries the effect of a job that is the record of its turn; no step of the script is due.
+    fn try_open(&mut self, pending: &Pending<'p>) -> Result<Option<Value>, AllocError>
+        requires goes_on { GoesOn self.old }
+        requires is_open { IsOpenJob self.old.system.program self.old.system.run pending.now }
+        ensures ok { IfOk result (λ r. IsTried self.old self.new pending.now (acted_by r)) }
+        ensures limit { self.new.limit ≡ self.old.limit }
+        ensures unchanged { OnErr result (self.new ≡ self.old) }
+    {
+        self.scripted.act_open(pending)
     }
 
     /// Takes back the jobs of a hand, which is empty then. Those whose turn isn't open are given up, and so is a second job of one

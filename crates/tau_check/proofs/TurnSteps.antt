@@ -15,7 +15,7 @@ use Rattle.tau_legal.specs.Fits.{is_of_turn}
 use Rattle.tau_legal.specs.Traces.{Legal, IsLegal}
 use Rattle.tau_eval.specs.Turn as jobs
 use Rattle.tau_rules.specs.System.{Core, with_step}
-use Rattle.tau_rules.specs.Answers.{IsOpenJob, IsStepped, IsActed}
+use Rattle.tau_rules.specs.Answers.{IsOpenJob, IsStepped, IsActed, acted_by}
 use Rattle.tau_check.specs.Families.{turn_of}
 use Rattle.tau_check.specs.Inner.Jobs.{HasJobOf, HasJobs, HasOtherJobs, KeepsOthers, IsKeptAfter}
 use Rattle.tau_check.specs.Inner.Checkers.{HasAsked, GoesOn}
@@ -47,12 +47,12 @@ idle_illegal P T s who idle by l =
     idle h.has.place h.has.message h.has.turn
 
 -- the step that was made
-abbrev pub made : (old new : Core) (job : jobs.TurnSoFar) (reply : Option Value) → IsActed old new job reply → (s : Step) × IsStepped old new job s
+abbrev pub made : (old new : Core) (job : jobs.TurnSoFar) (reply : Option Value) → IsActed old new job (acted_by reply) → (s : Step) × IsStepped old new job s
 made old new job None h = (h.0, h.1)
 made old new job (Some x) h = (h.0, h.1)
 
 module _ (old new : Core) (job : jobs.TurnSoFar) (s : Step) (reply : Option Value) (asked : HasAsked old.program old.run None)
-    (by : turn_of s ≡ Some job.who) (h : IsActed old new job reply) where
+    (by : turn_of s ≡ Some job.who) (h : IsActed old new job (acted_by reply)) where
   -- where another step than the one that was made stands there, it isn't legal
   pub turn_illegal : ¬ (step_at new.run (len old.run) ≡ Some s) → ¬ IsLegal old.program old.run (len old.run) s
   turn_illegal other l =
@@ -71,7 +71,7 @@ module _ (old new : Core) (job : jobs.TurnSoFar) (s : Step) (reply : Option Valu
 module _ (old new : Core) (job : jobs.TurnSoFar) (s : Step) (js ks : List (Option jobs.TurnSoFar)) (v : WellFormed old.run) (w : WellFormed (appended old.run s)) (is : new ≡ with_step old s)
     (by : actor s ≡ Some job.who) (others : HasOtherJobs old.program old.run job.who js) where
   -- the jobs after the step
-  pub jobs_made : (reply : Option Value) (h : IsActed old new job reply) → (made old new job reply h).0 ≡ s → IsKeptAfter js ks job reply → HasJobs old.program (appended old.run s) ks
+  pub jobs_made : (reply : Option Value) (h : IsActed old new job (acted_by reply)) → (made old new job reply h).0 ≡ s → IsKeptAfter js ks job reply → HasJobs old.program (appended old.run s) ks
   jobs_made (Some x) h same kept =
       let next : jobs.TurnSoFar = jobs.with_reply job (val_of x) in
       let open_after : IsOpenJob old.program (appended old.run s) next = subst (λ (k : Core). IsOpenJob k.program k.run next) is h.4 in
@@ -84,7 +84,7 @@ module _ (old new : Core) (job : jobs.TurnSoFar) (s : Step) (js ks : List (Optio
 
 -- the step that was made is legal, and the checker goes on
 pub turn_goes_on : (old new : Core) (job : jobs.TurnSoFar) (s : Step) (reply : Option Value) (js ks : List (Option jobs.TurnSoFar)) → HasAsked old.program old.run None → WellFormed new.run → Legal new.program new.run
-    → turn_of s ≡ Some job.who → HasOtherJobs old.program old.run job.who js → IsActed old new job reply → step_at new.run (len old.run) ≡ Some s → IsKeptAfter js ks job reply → GoesOn old new ks s
+    → turn_of s ≡ Some job.who → HasOtherJobs old.program old.run job.who js → IsActed old new job (acted_by reply) → step_at new.run (len old.run) ≡ Some s → IsKeptAfter js ks job reply → GoesOn old new ks s
 turn_goes_on old new job s reply js ks asked whole legal turn others h here kept =
     let stepped = (made old new job reply h).1 in
     let same = same_made old new job s reply asked turn h here in

@@ -158,7 +158,7 @@ impl<'p> Checker<'p> {
         ensures { IfOk result (IsChecked self.old.legal.system self.new.legal.system self.new.jobs.items step.now) }
     {
         let place = length(&self.legal);
-        let reply = self.legal.act(&pending)?;
+        let reply = self.legal.act_open(&pending)?;
         if !has_made(&self.legal, place, step) {
             return Ok(false);
         }

@@ -1,40 +1,35 @@
-//! The system behind the steps of a trace.
-ghost use Rattle.std.specs.Prelude.{◌≡◌, ℕ, IfOk, IsErrOf};
+//! The system behind the steps of a legal trace.
+ghost use Rattle.std.specs.Prelude.{◌≡◌, IfOk};
 ghost use Rattle.tau_tree.specs.Sound.{Sound};
 ghost use Rattle.tau_trace.specs.Run.{len};
 ghost use Rattle.tau_script.specs.Cursors.{CursorAt};
 ghost use Rattle.tau_script.specs.Openings.{program_opening};
 ghost use Rattle.tau_legal.specs.Traces.{Legal};
 ghost use Rattle.tau_check.specs.Inner.Checkers.{HasSteppedTo};
-ghost use Rattle.tau_check.specs.Legality.{IsFirstIllegal};
 
 use crate::checker::Checker;
-use crate::errors::FollowError;
 use std::alloc::{AllocError, Global};
 use tau_failures::LegalSystem;
 use tau_trace::Trace;
 use tau_tree::Program;
 use tau_verdicts::MarkedHearing;
 
-/// The system of a program behind the steps of a trace whose opening is the program's, and the cursor of its script there
-/// (docs/definitions.md, "Fitting and legal steps", "Due step"). Each turn is evaluated anew, as `check` does. `Illegal` comes exactly
-/// where a step isn't legal, at the first such place, but for want of memory.
+/// The system of a program behind the steps of a legal trace, and the cursor of its script there (docs/definitions.md, "Fitting
+/// and legal steps", "Due step"). Each turn is evaluated anew, as `check` does. The error is want of memory.
 pub fn follow<'p>(
     alloc: Global,
     program: &'p Program,
     trace: &Trace,
-) -> Result<LegalSystem<'p, MarkedHearing>, FollowError>
+) -> Result<LegalSystem<'p, MarkedHearing>, AllocError>
     requires sound { Sound program.now }
-    requires opening { trace.now.run.opening ≡ program_opening program.now }
-    ensures legal { IfOk result (λ _. Legal program.entry.now trace.now.run) }
-    ensures illegal { (place : ℕ) → IsErrOf result (FollowError.Illegal place) → IsFirstIllegal program.entry.now trace.now.run place }
+    requires legal { Legal program.now trace.now.run }
     ensures program { IfOk result (λ f. f.system.program ≡ program.entry.now) }
     ensures run { IfOk result (λ f. f.system.run ≡ trace.now.run) }
     ensures cursor { IfOk result (λ f. CursorAt program.entry.now.script trace.now.run (len trace.now.run) f.cursor) }
 {
     let (checker, bad) = step_through(alloc, program, trace)?;
     match bad {
-        Some(place) => Err(FollowError::Illegal { place }),
+        Some(_) => unreachable!(),
         None => Ok(checker.into_system()),
     }
 }

@@ -4,7 +4,6 @@
 mod checker;
 mod checking;
 mod ends;
-mod errors;
 mod families;
 mod following;
 mod jobs;
@@ -13,7 +12,6 @@ mod reading;
 mod same;
 
 pub use checking::{Legality, check};
-pub use errors::FollowError;
 pub use following::follow;
 pub use laws::one_step_of_a_family_fits;
 pub use tau_verdicts::MarkedHearing;

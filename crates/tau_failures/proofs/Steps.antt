@@ -2,7 +2,6 @@
 use Rattle.std.proofs.Common.{◌≡◌, inl, inr, ℕ, IsTrue, Option, Some, None, [], refl, sym, ap, subst, arith}
 use Rattle.std.specs.Prelude.{IsFalse}
 use Rattle.std.proofs.lemmas.Option.{slice_get_within}
-use Rattle.tau_value.specs.declared.shared.Value.{Value}
 use Rattle.tau_tree.specs.declared.programs.Program.{Program}
 use Rattle.tau_tree.specs.Sound.{Sound}
 use Rattle.tau_trace.specs.declared.step.Step.{Step}
@@ -16,6 +15,7 @@ use Rattle.tau_script.specs.declared.cursor.Cursor.{Cursor}
 use Rattle.tau_script.specs.Cursors.{CursorAt, ComesTo, IsCurrent, moved_past, moved_past_due}
 use Rattle.tau_script.specs.Openings.{program_opening}
 use Rattle.tau_script.specs.Scripts.{IsDue, DueStep, NoneDue, Allows, is_failure}
+use Rattle.tau_script.proofs.Determined.{one_cursor}
 use Rattle.tau_script.proofs.Same.{goes_on}
 use Rattle.tau_eval.specs.Turn as jobs
 use Rattle.tau_legal.specs.Fits.{Fits, is_of_turn}
@@ -25,8 +25,10 @@ use Rattle.tau_legal.proofs.TraceLemmas.{legal_grows}
 use Rattle.tau_rules.specs.System.{Core, with_step}
 use Rattle.tau_rules.specs.declared.answers.Delivered.{Delivered}
 use Rattle.tau_rules.specs.declared.answers.Delivered.TheVariants.{Began, Dropped, Fell, Voided, Echoed, Heeded}
+use Rattle.tau_rules.specs.declared.answers.Acted.{Acted}
+use Rattle.tau_rules.specs.declared.answers.Acted.TheVariants.{Reply, TurnOver, Redo}
 use Rattle.tau_rules.specs.Answers.{IsDelivered, IsActed}
-use Rattle.tau_failures.specs.LegalRun.{IsLegalRun}
+use Rattle.tau_failures.specs.LegalRun.{LegalRun, IsLegalRun}
 use Rattle.tau_failures.proofs.DueLemmas.{due_here}
 
 -- the last step of a longer run that fits, fits
@@ -69,6 +71,14 @@ received old new m Voided h = record { step = Void h.0 m; receipt = refl; append
 received old new m Echoed h = record { step = Echo h.0 m; receipt = refl; appended = h.1 }
 received old new m Heeded h = record { step = Heed h.0 m; receipt = refl; appended = h.1 }
 
+-- the run determines the cursor
+pub same_run : (old new : LegalRun) → IsLegalRun old.system.program old.system.run old.cursor → IsLegalRun new.system.program new.system.run new.cursor → new.system ≡ old.system → new ≡ old
+same_run old new kept after is =
+    let P : Program = old.system.program in
+    let T : Run = old.system.run in
+    let cursor : new.cursor ≡ old.cursor = one_cursor P.script T (len T) new.cursor old.cursor (subst (λ (k : Core). CursorAt k.program.script k.run (len k.run) new.cursor) is after.cursor_is) kept.cursor_is in
+    λ i. record { system = is i; cursor = cursor i }
+
 module _ (old new : Core) (c b d : Cursor) (kept : IsLegalRun old.program old.run c) (w : WellFormed new.run) (f : Fitting new.program new.run)
     (moves : IsCurrent new.program.script new.run (len new.run) b → CursorAt new.program.script new.run (len new.run) d) where
   after_step : (due : Option Step) (s : Step) → IsDue old.program.script old.run (len old.run) due → Allows old.program.script old.run (len old.run) s → new ≡ with_step old s → b ≡ moved_past_due due c
@@ -104,6 +114,14 @@ module _ (old new : Core) (c b d : Cursor) (kept : IsLegalRun old.program old.ru
         after_other receipt.step (receipt_no_failure receipt.step m receipt.receipt) receipt.appended
 
     -- after an effect
-    pub after_acted : (job : jobs.TurnSoFar) (o : Option Value) → IsActed old new job o → IsLegalRun new.program new.run d
-    after_acted job (Some r) h = after_other h.0 (turn_no_failure h.0 h.1.step.of_turn) h.1.appended
-    after_acted job None h = after_other h.0 (turn_no_failure h.0 h.1.step.of_turn) h.1.appended
+    pub after_acted : (job : jobs.TurnSoFar) (a : Acted) → IsActed old new job a → IsLegalRun new.program new.run d
+    after_acted job (Reply r) h = after_other h.0 (turn_no_failure h.0 h.1.step.of_turn) h.1.appended
+    after_acted job TurnOver h = after_other h.0 (turn_no_failure h.0 h.1.step.of_turn) h.1.appended
+    after_acted job (Redo other) h =
+        let is = h.unchanged in
+        record {
+          sound = subst (λ (k : Core). Sound k.program) (sym is) kept.sound;
+          well_formed = w;
+          legal = subst (λ (k : Core). Legal k.program k.run) (sym is) kept.legal;
+          cursor_is = moves (inl (subst (λ (x : Cursor). CursorAt new.program.script new.run (len new.run) x) (sym same) (subst (λ (k : Core). CursorAt k.program.script k.run (len k.run) c) (sym is) kept.cursor_is)));
+        }

@@ -23,22 +23,18 @@ use tau_script::{Cursor, passed};
 use tau_trace::Trace;
 use tau_tree::Program;
 
-/// A system whose run is legal (docs/definitions.md, "Fitting and legal steps"), with the cursor of its script and what that makes
-/// due. Contracts see its program and run, and the cursor.
+/// A system whose run is legal (docs/definitions.md, "Fitting and legal steps"), with the cursor of its script. Contracts see its
+/// program and run, and the cursor.
 #[derive(Drop)]
 pub struct LegalSystem<'p, K: Knowledge + Drop> {
     pub(crate) system: System<'p, K>,
     pub(crate) cursor: Cursor,
-    pub(crate) due: Option<Due>,
 }
 
 impl<'p, K: Knowledge + Drop> Model for LegalSystem<'p, K> {
     ghost use Rattle.std.specs.Coded.{codes};
     ghost use Rattle.tau_value.specs.Val.{val_code};
     ghost use Rattle.tau_tree.specs.Code.{code_code};
-    ghost use Rattle.tau_trace.specs.Run.{len};
-    ghost use Rattle.tau_script.specs.Cursors.{IsDueAt};
-    ghost use Rattle.tau_failures.specs.Dues.{due_step};
     ghost use Rattle.tau_failures.specs.LegalRun.{LegalRun, IsLegalRun};
 
     ghost Value = { LegalRun };
@@ -47,8 +43,7 @@ impl<'p, K: Knowledge + Drop> Model for LegalSystem<'p, K> {
 
     ghost view = { λ s. record { system = s.system; cursor = s.cursor } };
 
-    ghost invariant = { λ s. IsLegalRun s.system.program s.system.run s.cursor
-        × IsDueAt s.system.program.script s.system.run (len s.system.run) s.cursor (due_step s.due) };
+    ghost invariant = { λ s. IsLegalRun s.system.program s.system.run s.cursor };
 }
 
 impl<'p, K: Knowledge + Drop> LegalSystem<'p, K> {
@@ -60,12 +55,8 @@ impl<'p, K: Knowledge + Drop> LegalSystem<'p, K> {
     {
         let system = System::open(alloc, program)?;
         let mut cursor = Cursor::first();
-        let due = due_by(&system, &mut cursor);
-        Ok(LegalSystem {
-            system,
-            cursor,
-            due,
-        })
+        let _due = due_by(&system, &mut cursor);
+        Ok(LegalSystem { system, cursor })
     }
 
     /// The system.
@@ -100,7 +91,8 @@ impl<'p, K: Knowledge + Drop> LegalSystem<'p, K> {
     pub fn due(&self) -> Option<Due>
         ensures { IsDue self.now.system.program.script self.now.system.run (len self.now.system.run) (due_step result) }
     {
-        self.due
+        let mut cursor = self.cursor;
+        due_by(&self.system, &mut cursor)
     }
 
     /// Whether the run is complete (docs/definitions.md, "Complete"), where the caller knows whether no turn is open and no message
@@ -128,9 +120,8 @@ impl<'p, K: Knowledge + Drop> LegalSystem<'p, K> {
         let mut cursor = self.cursor;
         passed(&self.system.program().script, &mut cursor, &due.step());
         make(&mut self.system, due)?;
-        let next = due_by(&self.system, &mut cursor);
+        let _due = due_by(&self.system, &mut cursor);
         self.cursor = cursor;
-        self.due = next;
         Ok(())
     }
 }

@@ -11,13 +11,11 @@ use Rattle.tau_faults.specs.declared.setting.FaultCounts.{FaultCounts}
 use Rattle.tau_faults.specs.Faults.{inserted, with_entry, left_of, fewer}
 use Rattle.tau_faults.specs.Inner.Walking.{sum_of}
 
--- the script has one entry more
-pub length_placed : (S : List Entry) (c : ℕ) (e : Entry) → length (inserted S c e) ≡ length S + 1
+length_placed : (S : List Entry) (c : ℕ) (e : Entry) → length (inserted S c e) ≡ length S + 1
 length_placed S c e =
     let whole = ap length (take-append-drop c S) in
     omega (arith, whole, length-append (take c S) (drop c S), length-append (take c S) (e ∷ drop c S))
 
--- with one entry more a sound program is sound
 pub sound_placed : (P : Program) (c : ℕ) (e : Entry) → Sound P → length P.script < ENTRY_LIMIT → IsSoundFailure P.nodes P.version e.failure → Sound (with_entry P c e)
 sound_placed P c e s few is = record {
   some_version = s.some_version;

@@ -1,7 +1,9 @@
 -- The programs of a storm.
-use Rattle.std.proofs.Common.{◌≡◌, ⊎_elim, ℕ, suc, ◌+◌, ◌-◌, ◌<◌, ◌≤◌, List, [], ◌∷◌, ◌++◌, length, take, drop, refl, sym, ap, ◌∙◌, subst, arith, length-append, length-take, take-append-drop, append_assoc}
+use Rattle.std.proofs.Common.{◌≡◌, ⊎_elim, ℕ, suc, ◌+◌, ◌-◌, ◌<◌, ◌≤◌, List, [], ◌∷◌, ◌++◌, length, take, drop, All, refl, sym, ap, ◌∙◌, subst, arith, length-append, length-take, take-append-drop, append_assoc}
 use Rattle.std.specs.Prelude.{slice_get}
 use Rattle.std.proofs.lemmas.Bool.{cases_lt}
+use Rattle.std.proofs.lemmas.List.Elements.{All-append, All-cons, All-take, All-drop}
+use Rattle.tau_value.specs.declared.limits.TheConstants.{ENTRY_LIMIT}
 use Rattle.tau_tree.specs.declared.entries.Entry.{Entry}
 use Rattle.tau_tree.specs.declared.entries.Failure.{Failure}
 use Rattle.tau_tree.specs.declared.programs.Program.{Program}
@@ -14,14 +16,57 @@ use Rattle.tau_revival.proofs.Revival.{cursor_within}
 use Rattle.tau_book.specs.SerialRun.{IsSerialRun}
 use Rattle.tau_book.specs.Laws.{SerialRunIsUnique}
 use Rattle.tau_faults.specs.declared.setting.Setting.{Setting}
-use Rattle.tau_faults.specs.Faults.{IsFaulted, IsEffective, fails, loses, repeats, inserted}
+use Rattle.tau_faults.specs.Faults.{IsFaulted, IsEffective, fails, loses, repeats, inserted, with_entry}
 use Rattle.tau_faults.specs.Ends.{Storms, itself, further}
 use Rattle.tau_faults.specs.Laws.{AreMerged, none}
 use Rattle.tau_faults.proofs.Coming.{none_ripe, fault_comes}
 use Rattle.tau_faults.proofs.Growing.{cursor_earlier}
 use Rattle.tau_faults.proofs.Inserted.{cursor_there, get_inserted, not_passed}
-use Rattle.tau_faults.proofs.PlacingLemmas.{sound_placed}
 use Rattle.tau_faults.proofs.Merging.{merged_first, merged_other, inserted_behind}
+
+pub length-inserted : (S : List Entry) (n : ℕ) (e : Entry) → length (inserted S n e) ≡ length S + 1
+length-inserted S n e = omega (arith, length-append (take n S) (e ∷ drop n S), ap length (take-append-drop n S), length-append (take n S) (drop n S))
+
+sound_inserted : (nodes version : ℕ) (S : List Entry) (n : ℕ) (e : Entry) → IsSoundFailure nodes version e.failure → All (λ x. IsSoundFailure nodes version x.failure) S → All (λ x. IsSoundFailure nodes version x.failure) (inserted S n e)
+sound_inserted nodes version S n e is all =
+    All-append (λ x. IsSoundFailure nodes version x.failure) (take n S) (e ∷ drop n S) (All-take (λ x. IsSoundFailure nodes version x.failure) n S all)
+    (All-cons (λ x. IsSoundFailure nodes version x.failure) e (drop n S) is (All-drop (λ x. IsSoundFailure nodes version x.failure) n S all))
+
+-- with one entry more a sound program is sound
+sound_with : (P : Program) (n : ℕ) (e : Entry) → Sound P → length P.script < ENTRY_LIMIT → IsSoundFailure P.nodes P.version e.failure → Sound (with_entry P n e)
+sound_with P n e s room is = record {
+  some_version = s.some_version;
+  versions_limit = s.versions_limit;
+  some_nodes = s.some_nodes;
+  nodes_limit = s.nodes_limit;
+  behaviours_limit = s.behaviours_limit;
+  starts_limit = s.starts_limit;
+  posts_limit = s.posts_limit;
+  entries_limit = omega (arith, room, length-inserted P.script n e);
+  behaviours_named = s.behaviours_named;
+  behaviours_distinct = s.behaviours_distinct;
+  starts_named = s.starts_named;
+  starts_distinct = s.starts_distinct;
+  start_behaviours = s.start_behaviours;
+  start_nodes = s.start_nodes;
+  state_names = s.state_names;
+  receivers = s.receivers;
+  post_names = s.post_names;
+  sound_failures = sound_inserted P.nodes P.version P.script n e is s.sound_failures;
+  states_bounded = s.states_bounded;
+  posts_bounded = s.posts_bounded;
+  texts_bounded = s.texts_bounded;
+  variables_bound = s.variables_bound;
+  variables_named = s.variables_named;
+  body_starts = s.body_starts;
+  body_behaviours = s.body_behaviours;
+  arities = s.arities;
+  sequences = s.sequences;
+  folds = s.folds;
+  bodies_depth = s.bodies_depth;
+  states_depth = s.states_depth;
+  posts_depth = s.posts_depth;
+}
 
 sound_effect : (P : Program) (T : Run) (k : ℕ) (f : Failure) → IsEffective P T k f → IsSoundFailure P.nodes P.version f
 sound_effect P T k f (fails low lives) = low
@@ -30,7 +75,7 @@ sound_effect P T k f (repeats v flies) = v
 
 pub sound_faulted : (every : ℕ) (P : Program) (T : Run) (k : ℕ) (f : Failure) (Q : Program) → Sound P → IsFaulted every P T k f Q → Sound Q
 sound_faulted every P T k f Q sound is =
-    subst Sound (sym is.faulted) (sound_placed P is.cursor.entry (record { at = k; failure = f }) sound is.room (sound_effect P T k f is.effective))
+    subst Sound (sym is.faulted) (sound_with P is.cursor.entry (record { at = k; failure = f }) sound is.room (sound_effect P T k f is.effective))
 
 pub sound_storm : (O : Program) (S : Setting) (seed from : ℕ) (faults : List Entry) (P : Program) → Sound O → Storms O S seed from faults P → Sound P
 sound_storm O S seed from faults P sound itself = sound

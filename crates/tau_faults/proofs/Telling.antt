@@ -29,8 +29,7 @@ use Rattle.tau_faults.proofs.Once.{same_faulted}
 use Rattle.tau_faults.proofs.Inserted.{not_passed}
 use Rattle.tau_faults.proofs.Coming.{agree_shorter, first_steps, same_length, comes_other, front_and_fault, none_ripe}
 use Rattle.tau_faults.proofs.Runs.{chosen_no_failure}
-use Rattle.tau_faults.proofs.PlacingLemmas.{length_placed}
-use Rattle.tau_faults.proofs.Programs.{sound_faulted}
+use Rattle.tau_faults.proofs.Programs.{length-inserted, sound_faulted}
 
 -- the programs with faults of a storm, from the first fault to the last
 pub data Goes (S : Setting) (seed : ℕ) : ℕ → Program → List Entry → ℕ → Program → Type 0 where
@@ -52,7 +51,7 @@ goes_to O S seed from faults P (further {from = start} {k = k} {faults = before}
 goes_length : (S : Setting) (seed from to : ℕ) (P Q : Program) (faults : List Entry) → Goes S seed from P faults to Q → length Q.script ≡ length P.script + length faults
 goes_length S seed from to P Q faults stays = omega arith
 goes_length S seed from to P Q faults (goes {k = k} {Q = R} {T = T} {f = f} {faults = rest} s low q more) =
-    omega (arith, goes_length S seed (suc k) to R Q rest more, ap (λ (X : Program). length X.script) q.faulted, length_placed P.script q.cursor.entry (record { at = k; failure = f }))
+    omega (arith, goes_length S seed (suc k) to R Q rest more, ap (λ (X : Program). length X.script) q.faulted, length-inserted P.script q.cursor.entry (record { at = k; failure = f }))
 
 -- what is due as a failure is a failure, and one failure of all
 due_failure : (T : Run) (k : ℕ) (f : Failure) (s : Step) → IsDueAs T k 0 f (Some s) → IsTrue (is_failure s)

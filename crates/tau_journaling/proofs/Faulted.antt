@@ -1,9 +1,9 @@
 -- Faults of calls that are told by a call above, whose answer has another type.
-use Rattle.std.proofs.Common.{◌≡◌, inl, inr, ℕ, List, length, Option, Some, None, IfSome, sym, subst}
+use Rattle.std.proofs.Common.{◌≡◌, ◌⊎◌, inl, inr, ℕ, List, length, Option, Some, None, IfSome, sym, ap, ◌∙◌, subst}
 use Rattle.std.specs.Prelude.{Result, Ok, Err}
 use Rattle.tau_tree.specs.declared.programs.Program.{Program}
 use Rattle.tau_trace.specs.Run.{Run}
-use Rattle.tau_journal.specs.Room.{too_large, IsTooLarge, IsFaultOrFailure, IsUnlessSmall}
+use Rattle.tau_journal.specs.Room.{too_large, IsFaultOrFailure, IsUnlessSmall}
 use Rattle.tau_journal.specs.declared.errors.JournalError.{JournalError}
 use Rattle.tau_journal.specs.declared.errors.JournalError.TheVariants.{Fault}
 use Rattle.tau_revival.specs.Revival.{IsScriptFull}
@@ -32,16 +32,24 @@ module _ (Faulty : List ℕ → ℕ → ℕ → Type 0) {X : Type 0} (r : Result
   faulty_never y None lower = tt
   faulty_never y (Some file) lower = λ fault at found. absurd (no_failure y fault at (lower fault at found))
 
--- a program that is revived, on a disk that has no room for the mark
-module _ (P : Program) (told : Option (List ℕ)) (file : List ℕ) (need : ℕ) (is : told ≡ Some file) (room : (n : ℕ) → ¬ IsScriptFull P n) where
-  pub unrevived_told : {X : Type 0} (r : Result X JournalError) → IsUnlessSmall told need r → (fault at : ℕ) → IsReviveFault P told need fault at → IsFaultOrFailure fault at r
-  unrevived_told r small fault at (inl found) = absurd (room at found.1)
-  unrevived_told r small fault at (inr found) =
-      let large : (fault ≡ 8) × (too_large (length file) need ≡ Some at) = subst (λ (o : Option (List ℕ)). IsTooLarge o need (Fault fault at)) is found.1 in
-      subst (λ (n : ℕ). IsFaultOrFailure n at r) (sym large.0) ((subst (λ (o : Option (List ℕ)). IsUnlessSmall o need r) is small) at large.1)
+-- the fault of a program that isn't revived
+pub unrevived_told : {X : Type 0} (r : Result X JournalError) (P : Program) (told : Option (List ℕ)) (file : List ℕ) (need : ℕ) → told ≡ Some file
+    → ((n : ℕ) → IsScriptFull P n → r ≡ Err (Fault 6 n)) → (((n : ℕ) → ¬ IsScriptFull P n) → IsUnlessSmall told need r)
+    → (fault at : ℕ) → IsReviveFault P told need fault at → IsFaultOrFailure fault at r
+unrevived_told r P None file need is full faulty fault at found = absurd (cc)
+unrevived_told r P (Some f) file need is full faulty fault at (inl found) = inl (full at found.1 ∙ ap (λ (n : ℕ). Err (Fault n at)) (sym found.0))
+unrevived_told r P (Some f) file need is full faulty fault at (inr found) = subst (λ (n : ℕ). IsFaultOrFailure n at r) (sym found.1.0) (faulty found.0 at found.1.1)
 
-  pub unrevived_stays : (A : Type 0) → IfSome told (λ f. (at : ℕ) → too_large (length f) need ≡ Some at → A) → (fault at : ℕ) → IsReviveFault P told need fault at → A
-  unrevived_stays A stays fault at (inl found) = absurd (room at found.1)
-  unrevived_stays A stays fault at (inr found) =
-      let large : (fault ≡ 8) × (too_large (length file) need ≡ Some at) = subst (λ (o : Option (List ℕ)). IsTooLarge o need (Fault fault at)) is found.1 in
-      (subst (λ (o : Option (List ℕ)). IfSome o (λ f. (a : ℕ) → too_large (length f) need ≡ Some a → A)) is stays) at large.1
+-- a disk on which a program isn't revived
+pub unrevived_stays : (A : Type 0) (X : Type 0) (r : Result X JournalError) (P : Program) (told : Option (List ℕ)) (file : List ℕ) (need : ℕ) → told ≡ Some file
+    → ((n : ℕ) → IsScriptFull P n → r ≡ Err (Fault 6 n)) → ((fault at : ℕ) → r ≡ Err (Fault fault at) → A) → IfSome told (λ f. (at : ℕ) → too_large (length f) need ≡ Some at → A)
+    → (fault at : ℕ) → IsReviveFault P told need fault at → A
+unrevived_stays A X r P None file need is full unwritten no_room fault at found = absurd (cc)
+unrevived_stays A X r P (Some f) file need is full unwritten no_room fault at (inl found) = unwritten 6 at (full at found.1)
+unrevived_stays A X r P (Some f) file need is full unwritten no_room fault at (inr found) = no_room at found.1.1
+
+-- which faults come while it is
+pub revive_number : (P : Program) (told : Option (List ℕ)) (need fault at : ℕ) → IsReviveFault P told need fault at → (fault ≡ 6) ⊎ (fault ≡ 8)
+revive_number P told need fault at (inl found) = inl found.0
+revive_number P None need fault at (inr found) = inr found.1
+revive_number P (Some file) need fault at (inr found) = inr found.1.0

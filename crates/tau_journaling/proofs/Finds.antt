@@ -1,6 +1,6 @@
 -- What is found on a disk, by what its records stand for.
 use Rattle.std.proofs.Common.{◌≡◌, inl, inr, ℕ, ◌≤◌, List, [], ◌∷◌, length, Option, Some, None, IfSome, refl, sym, subst, arith}
-use Rattle.std.specs.Prelude.{Result, Ok, Err, IfErr, ⊤}
+use Rattle.std.specs.Prelude.{Result, Ok, Err, IfErr}
 use Rattle.tau_tree.specs.declared.programs.Program.{Program}
 use Rattle.tau_trace.specs.Run.{Run}
 use Rattle.tau_legal.specs.Traces.{Legal}
@@ -22,7 +22,7 @@ use Rattle.tau_journaling.specs.Found.Faults.{IsRunFault, in_first, in_later, in
 use Rattle.tau_journaling.proofs.Illegal.{none_first, first_read}
 
 -- records that stand for a program and a legal run have no fault
-pub none_of_records : RevivalKeepsSteps → (rs : List (List ℕ)) (P : Program) (T : Run) → StandsFor rs P T → Legal P T → (fault at : ℕ) → ¬ IsRunFault rs fault at
+none_of_records : RevivalKeepsSteps → (rs : List (List ℕ)) (P : Program) (T : Run) → StandsFor rs P T → Legal P T → (fault at : ℕ) → ¬ IsRunFault rs fault at
 none_of_records law rs P T stand legal fault at (in_first x y lacks) = no_program rs P T None stand lacks
 none_of_records law rs P T stand legal fault at (in_later Q U e same other one) = no_fault rs Q P U T e stand one
 none_of_records law rs P T stand legal fault at (in_step Q U five is h) = none_first P T _ legal (first_read law rs P T None stand Q U h)
@@ -43,11 +43,6 @@ pub found_told : {X : Type 0} → RevivalKeepsSteps → (r : Result X JournalErr
     → IfSome told (λ file. (P : Program) (T : Run) → length file ≤ most_bytes → Stands file P T → Legal P T → IfErr r IsFailure)
 found_told law r None fault = tt
 found_told law r (Some file) fault = λ P T fits stands legal. no_fault_told r (λ f a is. none_of_bytes law file P T fits stands legal f a (fault f a is))
-
--- where nothing is wrong, nothing is claimed
-pub nothing_told : (told : Option (List ℕ)) → IfSome told (λ file. (P : Program) (T : Run) → length file ≤ most_bytes → Stands file P T → Legal P T → ⊤)
-nothing_told None = tt
-nothing_told (Some file) = λ P T fits stands legal. tt
 
 -- a fault of the bytes, or of their records
 pub bytes_fault : (told : Option (List ℕ)) (fault at : ℕ) → IfSome told (λ file. IsFault file fault at) → IfSome told (λ file. IsResumeFault file fault at)
@@ -99,7 +94,7 @@ bytes_number fault (inl one) = inl (omega (arith, one), omega (arith, one))
 bytes_number fault (inr (inl two)) = inl (omega (arith, two), omega (arith, two))
 bytes_number fault (inr (inr eight)) = inr eight
 
-pub later_number : (e : RecordFault) (fault at : ℕ) → error_of e ≡ Fault fault at → IsResumeNumber fault
+later_number : (e : RecordFault) (fault at : ℕ) → error_of e ≡ Fault fault at → IsResumeNumber fault
 later_number (Item k) fault at same = let four : 4 ≡ fault = cc in inl (omega (arith, four), omega (arith, four))
 later_number (ScriptFull n) fault at same = let six : 6 ≡ fault = cc in inl (omega (arith, six), omega (arith, six))
 

@@ -24,7 +24,7 @@ pub record Extends (Q : Program) (U : Run) (P : Program) (T : Run) : Type 0 wher
   pub agree : Agree U T (len U)
   pub same : (j : ℕ) (s : Step) → step_at U j ≡ Some s → IsLegal Q U j s ↔ IsLegal P T j s
 
-pub agree_itself : (T : Run) (k : ℕ) → Agree T T k
+agree_itself : (T : Run) (k : ℕ) → Agree T T k
 agree_itself T k = record { opening = refl; steps = λ j lt. refl }
 
 itself : (P : Program) (T : Run) → Extends P T P T

@@ -212,7 +212,7 @@ pub is_bad : (P : Program) (T : Run) (l : Legality) (place : ℕ) → l ≡ answ
 is_bad P T l place is told = subst (IsLegality P T) is told
 
 -- what is told is the fault of that step
-pub same_fault : {X : Type 0} (f a g b : ℕ) → ◌≡◌ {A = Result X JournalError} (Err (Fault f a)) (Err (Fault g b)) → (f ≡ g) × (a ≡ b)
+same_fault : {X : Type 0} (f a g b : ℕ) → ◌≡◌ {A = Result X JournalError} (Err (Fault f a)) (Err (Fault g b)) → (f ≡ g) × (a ≡ b)
 same_fault f a g b same = (let first : f ≡ g = cc in first, let second : a ≡ b = cc in second)
 
 pub fault_told : {X : Type 0} (rs : List (List ℕ)) (place fault at : ℕ) → ◌≡◌ {A = Result X JournalError} (Err (Fault 5 place)) (Err (Fault fault at)) → IsRunFault rs 5 place → IsRunFault rs fault at

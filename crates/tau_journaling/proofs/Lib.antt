@@ -5,10 +5,8 @@ pub mod Ended
 pub mod Faulted
 pub mod KeptRuns
 pub mod ResumedRuns
-pub mod Whole
 pub mod Finds
 pub mod FoundFronts
 pub mod Illegal
-pub mod Judged
 pub mod Marks
 pub mod Places

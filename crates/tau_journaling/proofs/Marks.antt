@@ -1,12 +1,12 @@
 -- What stands on a disk while a program is revived.
-use Rattle.std.proofs.Common.{◌≡◌, inl, inr, ℕ, List, length, Option, Some, None, IfSome, refl, sym, ap, ◌∙◌, subst, arith}
+use Rattle.std.proofs.Common.{◌≡◌, inl, inr, ℕ, List, Option, Some, None, refl, sym, ap, ◌∙◌, subst, arith}
 use Rattle.std.specs.Prelude.{Result, Ok, Err}
 use Rattle.tau_tree.specs.declared.programs.Program.{Program}
 use Rattle.tau_trace.specs.Run.{Run}
 use Rattle.tau_journal.specs.Disk.Moments.{LeavesOnly}
 use Rattle.tau_journal.proofs.Moments.{weaker}
 use Rattle.tau_journal.specs.Records.{IsAtRest}
-use Rattle.tau_journal.specs.Room.{too_large, IsUnlessSmall}
+use Rattle.tau_journal.specs.Room.{IsUnlessSmall}
 use Rattle.tau_journal.specs.declared.errors.JournalError.{JournalError}
 use Rattle.tau_journal.specs.declared.errors.JournalError.TheVariants.{Fault, DiskFault, NoMemory}
 use Rattle.tau_revival.specs.Revival.{IsRevival, IsScriptFull}
@@ -53,13 +53,9 @@ of_failure X Y (Some file) need e small = λ at large. recast {X = X} {Y = Y} 8 
 pub unless_failed : {X : Type 0} (Y : Type 0) (r : Result X JournalError) (e : JournalError) → r ≡ Err e → (told : Option (List ℕ)) (need : ℕ) → IsUnlessSmall {X = Y} told need (Err e) → IsUnlessSmall told need r
 unless_failed {X = X} Y r e is told need small = subst (λ q. IsUnlessSmall told need q) (sym is) (of_failure X Y told need e small)
 
-pub unless_kept : {X Y : Type 0} (r : Result X JournalError) (y : Y) (told : Option (List ℕ)) (need : ℕ) → IsUnlessSmall {X = Y} told need (Ok y) → IsUnlessSmall told need r
-unless_kept r y None need small = tt
-unless_kept r y (Some file) need small = λ at large. absurd (no_failure y 8 at (small at large))
-
-pub never_large : (A : Type 0) {Y : Type 0} (y : Y) (told : Option (List ℕ)) (need : ℕ) → IsUnlessSmall {X = Y} told need (Ok y) → IfSome told (λ file. (at : ℕ) → too_large (length file) need ≡ Some at → A)
-never_large A y None need small = tt
-never_large A y (Some file) need small = λ at large. absurd (no_failure y 8 at (small at large))
+pub unless_kept : {X Y : Type 0} (x : X) (y : Y) (told : Option (List ℕ)) (need : ℕ) → IsUnlessSmall {X = Y} told need (Ok y) → IsUnlessSmall {X = X} told need (Ok x)
+unless_kept x y None need small = tt
+unless_kept x y (Some file) need small = λ at large. absurd (no_failure y 8 at (small at large))
 
 -- and of one that fails before
 pub unless_revived : (X : Type 0) (P : Program) (e : JournalError) → ((fault at : ℕ) → e ≡ Fault fault at → IsScriptFull P at) → ((n : ℕ) → ¬ IsScriptFull P n) → (told : Option (List ℕ)) (need : ℕ) → IsUnlessSmall {X = X} told need (Err e)

@@ -1,6 +1,6 @@
 -- What stands on a disk from which a run is gone on with.
-use Rattle.std.proofs.Common.{◌≡◌, ◌+◌, ◌⊎◌, inl, inr, ⊎_elim, ℕ, ◌≤◌, List, length, Option, Some, None, IfSome, refl, sym, ap, ◌∙◌, subst, arith}
-use Rattle.std.specs.Prelude.{◌↔◌, max, Bool, true, false, IsTrue, Result, Ok, Err}
+use Rattle.std.proofs.Common.{◌≡◌, ◌+◌, ◌⊎◌, inl, inr, ⊎_elim, ℕ, ◌≤◌, ◌<◌, List, length, Option, Some, None, IfSome, refl, sym, ap, ◌∙◌, subst, arith}
+use Rattle.std.specs.Prelude.{◌↔◌, max, Bool, true, false, IsTrue, Result, Ok, Err, IfOk}
 use Rattle.tau_tree.specs.declared.programs.Program.{Program}
 use Rattle.tau_tree.specs.Sound.{Sound}
 use Rattle.tau_trace.specs.Run.{Run, len}
@@ -12,29 +12,24 @@ use Rattle.tau_journal.specs.Disk.Moments.{LeavesOnly}
 use Rattle.tau_journal.proofs.Moments.{weaker, joined}
 use Rattle.tau_journal.specs.Records.{written, HasRecords, IsAtRest, going_on}
 use Rattle.tau_journal.specs.Laws.{RecordsAreUnique}
-use Rattle.tau_journal.specs.Room.{most_bytes, IsTooLarge, IsFailure, IsFaultOrFailure}
+use Rattle.tau_journal.specs.Room.{most_bytes, IsFailure, IsFaultOrFailure}
 use Rattle.tau_journal.specs.declared.errors.JournalError.{JournalError}
 use Rattle.tau_journal.specs.declared.errors.JournalError.TheVariants.{Fault, DiskFault, NoMemory}
 use Rattle.tau_revival.specs.Revival.{IsRevival}
-use Rattle.tau_revival.specs.Laws.{RevivalKeepsSteps, RevivalKeepsLegality}
-use Rattle.tau_book.specs.Books.{Booked}
+use Rattle.tau_revival.specs.Laws.{RevivalKeepsLegality}
 use Rattle.tau_book.specs.Onward.{BeginsWith}
 use Rattle.tau_book.specs.Alone.{IsRunAfter}
-use Rattle.tau_run_journal.specs.Standing.{Stands, StandsAt, StandsForEither}
+use Rattle.tau_run_journal.specs.Standing.{Stands, StandsAt}
 use Rattle.tau_run_journal.specs.Laws.{IsRunOf, BytesStandForOneRun}
-use Rattle.tau_run_journal.proofs.Kept.{leaves_at_first}
+use Rattle.tau_run_journal.proofs.Finds.{no_failure}
 use Rattle.tau_journaling.specs.Found.Faults.{IsResumeFault, IsResumeNumber}
 use Rattle.tau_journaling.specs.Found.Reviving.{StandsForRevival, IsReviveFault}
 use Rattle.tau_journaling.specs.Going.{StandsBetween}
-use Rattle.tau_journaling.specs.Kept.{IsKeptOn, StandsForLonger, HasNoRoomAfter}
+use Rattle.tau_journaling.specs.Kept.{IsKeptOn, StandsForLonger}
 use Rattle.tau_journaling.specs.Resumed.{IsResumed, StandsForResumed, StandsForFrontOf, IsGoneOnFault, IsUnrevived, IsResumeRunFault, in_finding, in_going}
-use Rattle.tau_journaling.specs.Inner.Judging.{IsJudgedFault}
 use Rattle.tau_journaling.proofs.Onward.{begins_itself}
-use Rattle.tau_journaling.proofs.KeptRuns.{stands_there}
-use Rattle.tau_journaling.proofs.Ended.{same_no_room}
+use Rattle.tau_journaling.proofs.KeptRuns.{stands_there, kept_at}
 use Rattle.tau_journaling.proofs.Faulted.{of_same}
-use Rattle.tau_journaling.proofs.Judged.{illegal_fault}
-use Rattle.tau_journaling.proofs.Marks.{has_room}
 
 -- the disk stands for what it stood for
 itself : (P : Program) (T : Run) → Legal P T → (c : List ℕ) → Stands c P T → StandsForResumed P T c
@@ -46,20 +41,6 @@ module _ {D : Type 0} (images : D → List ℕ → Type 0) (moment : D → ℕ) 
 
   -- while the program is revived, and its run goes on
   module _ (P : Program) (T : Run) where
-    -- before the first call
-    module _ (only_now : (d : D) (c : List ℕ) → left_since d (moment d) c → images d c) (d : D) (bytes : Option (List ℕ)) (gate : ℕ) (at : StandsAt bytes gate P T) (rest : IsAtRest bytes (images d) gate) where
-      at_first : (A : List ℕ → Type 0) → ((c : List ℕ) → Stands c P T → A c) → Leaves d d A
-      at_first A here = weaker moment left_since d d (StandsForEither P T P T) A either (leaves_at_first images moment left_since only_now P P T T d bytes gate at rest) where
-        either : (c : List ℕ) → StandsForEither P T P T c → A c
-        either c (inl stands) = here c stands
-        either c (inr stands) = here c stands
-
-      pub leaves_still : Legal P T → Leaves d d (StandsForResumed P T)
-      leaves_still legal = at_first (StandsForResumed P T) (itself P T legal)
-
-      pub front_still : Leaves d d (StandsForFrontOf T)
-      front_still = at_first (StandsForFrontOf T) (λ c stands. (P, T, begins_itself T, stands))
-
     module _ (keeps : RevivalKeepsLegality) (sound : Sound P) (legal : Legal P T) where
       marked : (c : List ℕ) → StandsForRevival P T c → StandsForResumed P T c
       marked c (inl stands) = itself P T legal c stands
@@ -98,21 +79,21 @@ module _ {D : Type 0} (images : D → List ℕ → Type 0) (moment : D → ℕ) 
 
     -- and what was found is gone on with
     module _ (P : Program) (T : Run) (gate : ℕ) where
-      pub leaves_resumed : BytesStandForOneRun → (new : D) (o : Option (List ℕ)) → IfSome o (λ _. StandsAt o gate P T) → (Legal P T → StandsAt o gate P T → Leaves mid new (StandsForResumed P T))
+      pub leaves_resumed : BytesStandForOneRun → (new : D) (o : Option (List ℕ)) → IfSome o (λ _. StandsAt o gate P T) → (StandsAt o gate P T → Leaves mid new (StandsForResumed P T))
           → IfSome o (λ file. Only o (images old) → (Q : Program) (U : Run) → Stands file Q U → Legal Q U → Leaves old new (StandsForResumed Q U))
       leaves_resumed once new None at more = tt
       leaves_resumed once new (Some file) at more = λ only Q U stands legal.
           let same = once file P Q T U (stands_there file gate P T at) stands in
           joined moment left_since old mid new (StandsForResumed Q U) (found_itself file Q U only stands legal)
-          (of_same (λ X V. Leaves mid new (StandsForResumed X V)) P Q T U same.0 same.1 (more (of_same Legal Q P U T (sym same.0) (sym same.1) legal) at))
+          (of_same (λ X V. Leaves mid new (StandsForResumed X V)) P Q T U same.0 same.1 (more at))
 
       found_front : (file : List ℕ) (U : Run) → BeginsWith T U → Only (Some file) (images old) → StandsAt (Some file) gate P T → Leaves old mid (StandsForFrontOf U)
       found_front file U begins only at = weaker moment left_since old mid (images old) (StandsForFrontOf U)
           (λ c now. (P, T, begins, subst (λ (f : List ℕ). Stands f P T) (sym (only c now)) (stands_there file gate P T at))) looked
 
-      pub leaves_whole : (U : Run) → U ≡ T → (o : Option (List ℕ)) → IfSome o (λ _. StandsAt o gate P T) → IfSome o (λ file. Only o (images old) → Leaves old mid (StandsForFrontOf U))
-      leaves_whole U same None at = tt
-      leaves_whole U same (Some file) at = λ only. subst (λ (V : Run). Leaves old mid (StandsForFrontOf V)) (sym same) (found_front file T (begins_itself T) only at)
+      pub leaves_whole : (o : Option (List ℕ)) → IfSome o (λ _. StandsAt o gate P T) → IfSome o (λ file. Only o (images old) → Leaves old mid (StandsForFrontOf T))
+      leaves_whole None at = tt
+      leaves_whole (Some file) at = λ only. found_front file T (begins_itself T) only at
 
       pub leaves_resumed_fronts : (U : Run) → BeginsWith T U → (new : D) (o : Option (List ℕ)) → IfSome o (λ _. StandsAt o gate P T) → (StandsAt o gate P T → Leaves mid new (StandsForFrontOf U))
           → IfSome o (λ file. Only o (images old) → Leaves old new (StandsForFrontOf U))
@@ -134,23 +115,17 @@ module _ (P : Program) (T : Run) (gate : ℕ) where
   told_there None at = tt
   told_there (Some file) at = stands_there file gate P T at
 
-  -- what holds where the run is complete
-  pub where_complete : BytesStandForOneRun → (A : Type 0) → (Complete P T → A) → (o : Option (List ℕ)) → IfSome o (λ _. StandsAt o gate P T) → IfSome o (λ file. (Q : Program) (U : Run) → Stands file Q U → Legal Q U → Complete Q U → A)
-  where_complete once A holds None at = tt
-  where_complete once A holds (Some file) at = λ Q U stands legal complete.
+  -- a complete run isn't gone on with
+  pub stays_complete : BytesStandForOneRun → (¬ Complete P T) → (A : Type 0) (o : Option (List ℕ)) → IfSome o (λ _. StandsAt o gate P T) → IfSome o (λ file. (Q : Program) (U : Run) → Stands file Q U → Legal Q U → Complete Q U → A)
+  stays_complete once incomplete A None at = tt
+  stays_complete once incomplete A (Some file) at = λ Q U stands legal complete.
       let same = once file Q P U T stands (stands_there file gate P T at) in
-      holds (of_same Complete Q P U T same.0 same.1 complete)
+      absurd (incomplete (of_same Complete Q P U T same.0 same.1 complete))
 
-  -- it isn't legal, or isn't gone on with
-  judged_fault : RevivalKeepsSteps → (jobs seed steps : ℕ) (file : List ℕ) (after : Option (List ℕ)) (fault at : ℕ) → length file ≤ most_bytes → StandsAt (Some file) gate P T → IsJudgedFault P T jobs seed steps gate (Some file) after fault at
-      → IsResumeRunFault jobs seed steps file after fault at
-  judged_fault law jobs seed steps file after fault at few stands (inl (five, first)) = in_finding (subst (λ (n : ℕ). IsResumeFault file n at) (sym five) (illegal_fault law P T gate file few stands at first))
-  judged_fault law jobs seed steps file after fault at few stands (inr (legal, incomplete, found)) = in_going P T gate (record { stands = stands; legal = legal; incomplete = incomplete }) found
-
-  pub going_fault : RevivalKeepsSteps → (jobs seed steps : ℕ) (o after : Option (List ℕ)) (fault at : ℕ) → IfSome o (λ file. length file ≤ most_bytes) → IfSome o (λ _. StandsAt o gate P T)
-      → (StandsAt o gate P T → IsJudgedFault P T jobs seed steps gate o after fault at) → IfSome o (λ file. IsResumeRunFault jobs seed steps file after fault at)
-  going_fault law jobs seed steps None after fault at few stands found = tt
-  going_fault law jobs seed steps (Some file) after fault at few stands found = judged_fault law jobs seed steps file after fault at few stands (found stands)
+  pub going_fault : (jobs seed steps : ℕ) → Legal P T → (¬ Complete P T) → (o after : Option (List ℕ)) (fault at : ℕ) → IfSome o (λ _. StandsAt o gate P T) → (StandsAt o gate P T → IsGoneOnFault P T jobs seed steps gate o after fault at)
+      → IfSome o (λ file. IsResumeRunFault jobs seed steps file after fault at)
+  going_fault jobs seed steps legal incomplete None after fault at stands found = tt
+  going_fault jobs seed steps legal incomplete (Some file) after fault at stands found = in_going P T gate (record { stands = stands; legal = legal; incomplete = incomplete }) (found stands)
 
   -- the gate is that of each list of records
   same_gate : RecordsAreUnique → (file : List ℕ) (Q : Program) (U : Run) (by : ℕ) → StandsAt (Some file) gate P T → StandsAt (Some file) by Q U → by ≡ gate
@@ -159,18 +134,59 @@ module _ (P : Program) (T : Run) (gate : ℕ) where
       let here = subst (λ (f : List ℕ). HasRecords b.records by f) (sym (same_some b.told.told)) b.told.has in
       here.gate_is ∙ ap (λ (rs : List (List ℕ)). length (written rs)) (unique.law b.records a.records by gate file here there) ∙ sym there.gate_is
 
-  -- what holds where the program isn't revived
-  pub where_unrevived : BytesStandForOneRun → RecordsAreUnique → (A : ℕ → ℕ → Type 0) (o : Option (List ℕ)) → IfSome o (λ _. StandsAt o gate P T)
-      → ((fault at : ℕ) → Legal P T → (¬ Complete P T) → StandsAt o gate P T → IsReviveFault P o (gate + 5 + length going_on + 1) fault at → A fault at)
-      → IfSome o (λ file. (fault at : ℕ) → length file ≤ most_bytes → IsUnrevived file fault at → A fault at)
-  where_unrevived once unique A None at holds = tt
-  where_unrevived once unique A (Some file) stands holds = λ fault at fits u.
+  -- what isn't revived is what was found
+  pub going_unrevived : BytesStandForOneRun → RecordsAreUnique → {X : Type 0} (r : Result X JournalError) (o : Option (List ℕ)) → IfSome o (λ _. StandsAt o gate P T)
+      → ((fault at : ℕ) → StandsAt o gate P T → IsReviveFault P o (gate + 5 + length going_on + 1) fault at → IsFaultOrFailure fault at r)
+      → IfSome o (λ file. (fault at : ℕ) → length file ≤ most_bytes → IsUnrevived file fault at → IsFaultOrFailure fault at r)
+  going_unrevived once unique r None at faulty = tt
+  going_unrevived once unique r (Some file) stands faulty = λ fault at fits u.
       let there = u.unfinished.stands in
       let same = once file u.program P u.run T (stands_there file u.gate u.program u.run there) (stands_there file gate P T stands) in
-      holds fault at (of_same Legal u.program P u.run T same.0 same.1 u.unfinished.legal)
-      (λ complete. u.unfinished.incomplete (of_same Complete P u.program T u.run (sym same.0) (sym same.1) complete)) stands
+      faulty fault at stands
       (subst (λ (n : ℕ). IsReviveFault P (Some file) (n + 5 + length going_on + 1) fault at) (same_gate unique file u.program u.run u.gate stands there)
       (subst (λ (X : Program). IsReviveFault X (Some file) (u.gate + 5 + length going_on + 1) fault at) same.0 u.unrevived))
+
+  -- and the disk stays
+  pub stays_unrevived : BytesStandForOneRun → RecordsAreUnique → (A : Type 0) (o : Option (List ℕ)) → IfSome o (λ _. StandsAt o gate P T)
+      → ((fault at : ℕ) → StandsAt o gate P T → IsReviveFault P o (gate + 5 + length going_on + 1) fault at → A)
+      → IfSome o (λ file. (fault at : ℕ) → length file ≤ most_bytes → IsUnrevived file fault at → A)
+  stays_unrevived once unique A None at stays = tt
+  stays_unrevived once unique A (Some file) stands stays = λ fault at fits u.
+      let there = u.unfinished.stands in
+      let same = once file u.program P u.run T (stands_there file u.gate u.program u.run there) (stands_there file gate P T stands) in
+      stays fault at stands
+      (subst (λ (n : ℕ). IsReviveFault P (Some file) (n + 5 + length going_on + 1) fault at) (same_gate unique file u.program u.run u.gate stands there)
+      (subst (λ (X : Program). IsReviveFault X (Some file) (u.gate + 5 + length going_on + 1) fault at) same.0 u.unrevived))
+
+  -- a complete run that was found isn't revived
+  pub complete_unrevived : BytesStandForOneRun → Complete P T → {X : Type 0} (r : Result X JournalError) (o : Option (List ℕ)) → IfSome o (λ _. StandsAt o gate P T)
+      → IfSome o (λ file. (fault at : ℕ) → length file ≤ most_bytes → IsUnrevived file fault at → IsFaultOrFailure fault at r)
+  complete_unrevived once complete r None at = tt
+  complete_unrevived once complete r (Some file) stands = λ fault at fits u.
+      let same = once file P u.program T u.run (stands_there file gate P T stands) (stands_there file u.gate u.program u.run u.unfinished.stands) in
+      absurd (u.unfinished.incomplete (of_same Complete P u.program T u.run same.0 same.1 complete))
+
+-- what was found is within the most bytes, and a complete run that was found is kept as it is
+small_or_not : (n : ℕ) → (n ≤ most_bytes) ⊎ (most_bytes < n)
+small_or_not n = grind arith
+
+module _ {X : Type 0} (x : X) where
+  abbrev NoneTold : Option (List ℕ) → Type 0
+  NoneTold o = IfSome o (λ file. (fault at : ℕ) → IsResumeFault file fault at → IsFaultOrFailure {X = X} fault at (Ok x))
+
+  small_found : (o : Option (List ℕ)) → NoneTold o → IfSome o (λ file. length file ≤ most_bytes)
+  small_found None faulty = tt
+  small_found (Some file) faulty = ⊎_elim (λ le. le) (λ l. absurd (no_failure x 8 (length file) (faulty 8 (length file) (inl (inl (refl, refl, l)))))) (small_or_not (length file))
+
+  pub kept_whole : (o now : Option (List ℕ)) (images : List ℕ → Type 0) (gate : ℕ) (P : Program) (T : Run) → now ≡ o → NoneTold o → IsAtRest now images gate → IfSome o (λ _. StandsAt o gate P T) → IfSome o (λ _. IsKeptOn now images P T)
+  kept_whole None now images gate P T same faulty rest at = tt
+  kept_whole (Some file) now images gate P T same faulty rest at =
+      subst (λ (o : Option (List ℕ)). IsKeptOn o images P T) (sym same) (kept_at (Some file) images gate P T (subst (λ (o : Option (List ℕ)). IsAtRest o images gate) same rest) (small_found (Some file) faulty) at)
+
+  -- where no fault was told, nothing is claimed of a disk with one
+  pub never_faulty : (A : Type 0) (o : Option (List ℕ)) → NoneTold o → IfSome o (λ file. (fault at : ℕ) → IsResumeFault file fault at → A)
+  never_faulty A None faulty = tt
+  never_faulty A (Some file) faulty = λ fault at found. absurd (no_failure x fault at (faulty fault at found))
 
 -- nothing was written, whatever the disk has
 pub whatever_faulty : (A : Type 0) → A → (o : Option (List ℕ)) → IfSome o (λ file. (fault at : ℕ) → IsResumeFault file fault at → A)
@@ -186,8 +202,8 @@ whatever_complete A a None = tt
 whatever_complete A a (Some file) = λ P T stands legal complete. a
 
 -- which faults come behind what was found
-pub resume_number : (fault : ℕ) → (fault ≡ 5) ⊎ (fault ≡ 8) → IsResumeNumber fault
-resume_number fault (inl five) = inl (omega (arith, five), omega (arith, five))
+pub resume_number : (fault : ℕ) → (fault ≡ 6) ⊎ (fault ≡ 8) → IsResumeNumber fault
+resume_number fault (inl six) = inl (omega (arith, six), omega (arith, six))
 resume_number fault (inr eight) = inr eight
 
 -- nothing was found
@@ -215,19 +231,17 @@ not_complete A b off told a =
     cc
 
 -- a complete run that was found
-pub resumed_whole : (P Q : Program) (T U : Run) (is_complete : Bool) (bytes : Option (List ℕ)) (jobs seed steps : ℕ) → IsRunOf P T → Legal P T → IfSome bytes (λ file. Stands file P T) → Complete P T → Q ≡ P → U ≡ T → IsTrue is_complete
-    → IsResumed bytes jobs seed steps Q U is_complete
-resumed_whole P Q T U is_complete bytes jobs seed steps of legal told complete program run on = record {
+pub resumed_whole : (P : Program) (T : Run) (bytes : Option (List ℕ)) (jobs seed steps : ℕ) → IsRunOf P T → Legal P T → IfSome bytes (λ file. Stands file P T) → Complete P T → IsResumed bytes jobs seed steps P T true
+resumed_whole P T bytes jobs seed steps of legal told complete = record {
   program = P;
   run = T;
   is_run = of;
   legal = legal;
   told = told;
-  how = inl (complete, program, run);
-  begins = subst (BeginsWith T) (sym run) (begins_itself T);
-  sound = subst Sound (sym program) of.sound;
-  ends = of_same (λ X V. EndsAt (max steps (len T)) X V is_complete) P Q T U (sym program) (sym run)
-      (record { well_formed = of.well_formed; legal = legal; complete = λ e. (complete, omega arith); stopped = λ e. absurd (cc) });
+  how = inl (complete, refl, refl);
+  begins = begins_itself T;
+  sound = of.sound;
+  ends = record { well_formed = of.well_formed; legal = legal; complete = λ e. (complete, omega arith); stopped = λ e. absurd (cc) };
 }
 
 -- and one that isn't
@@ -245,13 +259,7 @@ resumed_further P Q T U bytes jobs seed steps is_complete of legal told incomple
   ends = ends;
 }
 
--- nor is one that the book of its revival doesn't go on with
-module _ (P Q : Program) (T : Run) (revival : IsRevival P T Q) (legal : Legal P T) (incomplete : ¬ Complete P T) (book : Booked) (program : book.system.program ≡ Q) (run : book.system.run ≡ T) where
-  pub marked_fault : (jobs seed steps : ℕ) → book.limit ≡ max steps (len T) → (gate : ℕ) (told after : Option (List ℕ)) (fault at : ℕ) → fault ≡ 8
-      → (IsRevival P book.system.run book.system.program → StandsAt told gate P book.system.run
-      → IsTooLarge told (gate + 5 + length going_on + 1) (Fault fault at) ⊎ HasNoRoomAfter book.system.program jobs seed book.limit book.system.run after at)
-      → StandsAt told gate P T → IsJudgedFault P T jobs seed steps gate told after fault at
-  marked_fault jobs seed steps most gate told after fault at eight faulty stands =
-      let here : IsRevival P book.system.run book.system.program = of_same (λ X V. IsRevival P V X) Q book.system.program T book.system.run (sym program) (sym run) revival in
-      let there : StandsAt told gate P book.system.run = subst (StandsAt told gate P) (sym run) stands in
-      inr (legal, incomplete, ⊎_elim (λ large. inl (inr (has_room P Q T revival, large))) (λ full. inr (eight, Q, revival, same_no_room Q book.system.program jobs jobs seed book.limit (max steps (len T)) book.system.run T after at program refl most run full)) (faulty here there))
+-- five things that are said of an answer
+pub if_ok_all : {X E : Type 0} (A B C D F G : X → Type 0) (r : Result X E) → ((x : X) → A x → B x → C x → D x → F x → G x) → IfOk r A → IfOk r B → IfOk r C → IfOk r D → IfOk r F → IfOk r G
+if_ok_all A B C D F G (Ok x) all a b c d f = all x a b c d f
+if_ok_all A B C D F G (Err e) all a b c d f = tt

@@ -2,4 +2,3 @@ pub mod Going
 pub mod Kept
 pub mod Resumed
 pub mod Found
-pub mod Inner

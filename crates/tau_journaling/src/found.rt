@@ -3,10 +3,7 @@
 mod finding;
 mod reading;
 mod reviving;
-mod unjudged;
 
 pub use finding::find_legal;
 pub use reading::FoundRun;
-pub(crate) use reading::legal_standing;
 pub use reviving::{Revived, revive};
-pub(crate) use unjudged::find_unjudged;

@@ -1,10 +1,8 @@
 //! A run whose steps are kept in a journal as they are made, and what a resume finds there (docs/journal.md, "Going on").
 #![tactic(auto)]
 
-mod faults;
 pub mod found;
 mod going;
-mod judging;
 mod keeping;
 mod resuming;
 mod reviving;

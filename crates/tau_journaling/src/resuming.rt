@@ -1,5 +1,5 @@
 //! Going on with the run for which a disk stands.
-ghost use Rattle.std.specs.Prelude.{◌≡◌, ◌≢◌, ◌≤◌, ◌⊎◌, ℕ, List, None, IfOk, IfSome, IsErrOf, length};
+ghost use Rattle.std.specs.Prelude.{◌≡◌, ◌≢◌, ◌≤◌, ℕ, List, IfOk, IfSome, IsErrOf, length};
 ghost use Rattle.tau_value.specs.declared.limits.TheConstants.{STEP_LIMIT};
 ghost use Rattle.tau_io.specs.Faults.{HasRisen};
 ghost use Rattle.tau_tree.specs.declared.programs.Program.{Program};
@@ -8,26 +8,19 @@ ghost use Rattle.tau_legal.specs.Traces.{Legal, Complete};
 ghost use Rattle.tau_journal.specs.Disk.Bytes.{Only};
 ghost use Rattle.tau_journal.specs.Disk.Moments.{LeavesOnly, IsUntouched};
 ghost use Rattle.tau_journal.specs.Room.{most_bytes, IsFaultOrFailure};
-ghost use Rattle.tau_revival.specs.Revival.{IsScriptFull, LeadsOn};
 ghost use Rattle.tau_book.specs.declared.limits.TheConstants.{JOB_LIMIT};
-ghost use Rattle.tau_run_journal.specs.Laws.{IsRunOf};
 ghost use Rattle.tau_run_journal.specs.Standing.{Stands};
-ghost use Rattle.tau_run_journal.specs.Reading.{IsReadAs};
-ghost use Rattle.tau_journaling.specs.Found.Faults.{IsRunFault, IsResumeFault, IsResumeNumber};
+ghost use Rattle.tau_journaling.specs.Found.Faults.{IsResumeFault, IsResumeNumber};
 ghost use Rattle.tau_journaling.specs.Kept.{IsKeptOn};
 ghost use Rattle.tau_journaling.specs.Resumed.{IsResumed, StandsForResumed, StandsForFrontOf, IsUnrevived, IsResumeRunFault};
-ghost use Rattle.tau_journaling.specs.Inner.Judging.{IsWhole, HasFullScript};
 
-use crate::faults::SCRIPT_FULL;
-use crate::found::{find_unjudged, legal_standing};
-use crate::reviving::{Revivable, run_on_revived};
+use crate::found::find_legal;
+use crate::reviving::run_on_revived;
 use std::alloc::Global;
 use tau_book::{Gate, Ran};
+use tau_journal::JournalError;
 use tau_journal::disk::Disk;
 use tau_journal::laws::records_are_unique;
-use tau_journal::{Journal, JournalError};
-use tau_revival::laws::revival_keeps_steps;
-use tau_run_journal::Standing;
 use tau_run_journal::laws::bytes_stand_for_one_run;
 use tau_tree::Program;
 
@@ -93,40 +86,7 @@ pub fn resume_run<G: Gate, D: Disk>(
 {
     records_are_unique();
     bytes_stand_for_one_run();
-    revival_keeps_steps();
-    let found = find_unjudged(alloc, disk)?;
-    match found.revival {
-        Some(revival) => {
-            let revivable = Revivable {
-                journal: found.journal,
-                standing: found.standing,
-                revival,
-            };
-            run_on_revived(alloc, revivable, jobs, seed, steps, disk, gate)
-        }
-        None => whole_run(alloc, found.journal, found.standing),
-    }
-}
-
-/// The run that was found, where it is legal and complete; otherwise its fault, where the program isn't revived: that of the first
-/// record that isn't in order, or fault 6, since the script has no room.
-fn whole_run(alloc: Global, journal: Journal, standing: Standing) -> Result<Resumed, JournalError>
-    requires run { IsRunOf standing.program standing.trace.run }
-    requires cursor { LeadsOn standing.program.script standing.trace.run standing.cursor }
-    requires full { standing.fault ≡ None → IsScriptFull standing.program (length standing.program.script) }
-    ensures whole { IfOk result (λ r. IsWhole standing.fault standing.program standing.trace.run r.program r.ran.trace.run r.ran.is_complete) }
-    ensures fault { (fault at : ℕ) → IsErrOf result (JournalError.Fault fault at) → (rs : List (List ℕ))
-        → IsReadAs rs standing.program standing.trace.run standing.fault
-        → IsRunFault rs fault at ⊎ ((fault ≡ 6) × HasFullScript rs at) }
-    ensures faulty { (rs : List (List ℕ)) → IsReadAs rs standing.program standing.trace.run standing.fault
-        → (fault at : ℕ) → IsRunFault rs fault at → IsFaultOrFailure fault at result }
-    ensures unrevived { (rs : List (List ℕ)) → IsReadAs rs standing.program standing.trace.run standing.fault
-        → (entries : ℕ) → HasFullScript rs entries → IsFaultOrFailure 6 entries result }
-    ensures among { (fault at : ℕ) → IsErrOf result (JournalError.Fault fault at) → IsResumeNumber fault }
-    ensures no_disk { IsErrOf result JournalError.DiskFault → ⊥ }
-{
-    revival_keeps_steps();
-    let found = legal_standing(alloc, journal, standing)?;
+    let found = find_legal(alloc, disk)?;
     if found.complete {
         let ran = Ran {
             trace: found.trace,
@@ -137,8 +97,5 @@ fn whole_run(alloc: Global, journal: Journal, standing: Standing) -> Result<Resu
             ran,
         });
     }
-    Err(JournalError::Fault {
-        fault: SCRIPT_FULL,
-        at: found.program.script.len() as u64,
-    })
+    run_on_revived(alloc, found, jobs, seed, steps, disk, gate)
 }

@@ -1,6 +1,5 @@
 -- What is kept after each kind of step.
 use Rattle.std.proofs.Common.{◌≡◌, ◌≢◌, ◌<◌, inl, inr, ℕ, false, IsTrue, Option, Some, None, List, [], ◌∷◌, ◌++◌, filter, refl, sym, ap, ◌∙◌, subst, arith}
-use Rattle.tau_value.specs.declared.shared.Value.{Value}
 use Rattle.tau_mailbox.specs.declared.letter.Letter.{Letter}
 use Rattle.tau_mailbox.specs.Letters.{is_other}
 use Rattle.tau_tree.specs.declared.programs.Program.{Program}
@@ -31,14 +30,17 @@ use Rattle.tau_legal.specs.Choices.{goes_on}
 use Rattle.tau_rules.specs.System.{Core, with_step}
 use Rattle.tau_rules.specs.declared.answers.Delivered.{Delivered}
 use Rattle.tau_rules.specs.declared.answers.Delivered.TheVariants.{Began, Dropped, Fell, Voided, Echoed, Heeded}
+use Rattle.tau_rules.specs.declared.answers.Acted.{Acted}
+use Rattle.tau_rules.specs.declared.answers.Acted.TheVariants.{Reply, TurnOver, Redo}
 use Rattle.tau_rules.specs.Answers.{IsDelivered, IsActed, IsStepped, IsOpenJob}
+use Rattle.tau_failures.specs.LegalRun.{LegalRun}
 use Rattle.tau_check.proofs.Endings.{last_fits}
 use Rattle.tau_check.proofs.FamilyLemmas.{IsRow, of_effect, effect_once}
 use Rattle.tau_check.proofs.TurnSteps.{acts_in_turn}
 use Rattle.tau_queue.specs.Inner.Index.{receiver_of, IsNodeOf, with_letter, IsNoticeLetter, with_notice, letters_received, busy_received, turns_received, busy_ended, turns_ended, letters_acted, busy_acted, turns_acted}
 use Rattle.tau_queue.specs.Flight.{IsWaiting, AreInFlight}
 use Rattle.tau_queue.specs.OpenTurns.{AreOpenTurns}
-use Rattle.tau_queue.specs.ScriptedRun.{IsIndexed}
+use Rattle.tau_queue.specs.ScriptedRun.{IsIndexed, IsUnchangedAtRedo, messages_of}
 use Rattle.tau_queue.proofs.FlightLemmas.{letter_to, letters_stay, letters_without, letters_with, letters_repeated, letters_echoed}
 use Rattle.tau_legal.proofs.TurnLemmas.{sender_known}
 use Rattle.tau_queue.proofs.OpenLemmas.{AreBusy, TurnsStay, stay_idle, stay_going, begin_take, end_own, open_stay, open_begin, open_end, busy_stay, busy_begin, busy_end}
@@ -227,17 +229,28 @@ module _ (old new : Core) (nodes : ℕ) (ls : List Letter) (busy turns : List �
         (subst (λ (o : Option ℕ). AreInFlight (appended old.run s) (with_letter (sent old.run (len old.run)) n ls o)) same letters)
         (busy_stay old.run s busy kept.busy_are stay) (open_stay old.run s turns kept.turns_are stay)
 
-    after_over : (s : Step) → IsStepped old new job s → IsTrue (ends_turn s) → IsIndexed new.run nodes ls (busy_acted job.who busy None) (turns_acted job.place turns None)
+    after_over : (s : Step) → IsStepped old new job s → IsTrue (ends_turn s) → IsIndexed new.run nodes ls (busy_acted job.who busy TurnOver) (turns_acted job.place turns TurnOver)
     after_over s h ends_here =
         let ends = end_own old.run s job.who h.step.by ends_here in
         let keeps = over_keeps s h.step.of_turn ends_here in
-        after_step s h.appended ls (busy_acted job.who busy None) (turns_acted job.place turns None) (letters_stay old.run s v ls keeps.0 keeps.1 kept.letters_are)
+        after_step s h.appended ls (busy_acted job.who busy TurnOver) (turns_acted job.place turns TurnOver) (letters_stay old.run s v ls keeps.0 keeps.1 kept.letters_are)
         (busy_end old.run s busy kept.busy_are job.who ends) (open_end old.run s turns kept.turns_are job.who job.place h.was_open.message ends h.was_open.turn)
 
     -- after an effect
-    pub after_act : (o : Option Value) → IsActed old new job o → IsIndexed new.run nodes (letters_acted (sent old.run (len old.run)) n ls e o) (busy_acted job.who busy o) (turns_acted job.place turns o)
-    after_act (Some r) h = after_going h.0 h.1 h.2
-    after_act None h = after_over h.0 h.1 h.2
+    pub after_act : (a : Acted) → IsActed old new job a → IsIndexed new.run nodes (letters_acted (sent old.run (len old.run)) n ls e a) (busy_acted job.who busy a) (turns_acted job.place turns a)
+    after_act (Reply r) h = after_going h.0 h.1 h.2
+    after_act TurnOver h = after_over h.0 h.1 h.2
+    after_act (Redo other) h = subst (λ (k : Core). IsIndexed k.run nodes ls busy turns) (sym h.unchanged) kept
+
+-- after Redo nothing is different
+pub redo_same : (old new : LegalRun) (ls ks : List Letter) (busy bs turns ts : List ℕ) (m n : ℕ) (job : jobs.TurnSoFar) (e : Effect) (a : Acted) → (new.system ≡ old.system → new ≡ old)
+    → IsActed old.system new.system job a → ks ≡ letters_acted m n ls e a → bs ≡ busy_acted job.who busy a → ts ≡ turns_acted job.place turns a
+    → IsUnchangedAtRedo (record { system = old.system; cursor = old.cursor; letters = ls; messages = messages_of busy ls; turns = turns }) (record { system = new.system; cursor = new.cursor; letters = ks; messages = messages_of bs ks; turns = ts }) a
+redo_same old new ls ks busy bs turns ts m n job e (Reply r) same h same_letters same_busy same_turns = tt
+redo_same old new ls ks busy bs turns ts m n job e TurnOver same h same_letters same_busy same_turns = tt
+redo_same old new ls ks busy bs turns ts m n job e (Redo other) same h same_letters same_busy same_turns =
+    let is : new ≡ old = same h.unchanged in
+    λ i. record { system = (is i).system; cursor = (is i).cursor; letters = same_letters i; messages = messages_of (same_busy i) (same_letters i); turns = same_turns i }
 
 -- what is kept by lists that are the same
 pub of_lists : (T : Run) (nodes now : ℕ) (ls ks : List Letter) (busy bs turns ts : List ℕ) → now ≡ nodes → ks ≡ ls → bs ≡ busy → ts ≡ turns → IsIndexed T nodes ls busy turns → IsIndexed T now ks bs ts

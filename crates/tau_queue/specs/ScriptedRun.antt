@@ -9,6 +9,8 @@ use Rattle.tau_trace.specs.Turns.{HasOpenTurn}
 use Rattle.tau_script.specs.declared.cursor.Cursor.{Cursor}
 use Rattle.tau_script.specs.Scripts.{DueStep, NoneDue}
 use Rattle.tau_rules.specs.System.{Core, with_step}
+use Rattle.tau_rules.specs.declared.answers.Acted.{Acted}
+use Rattle.tau_rules.specs.declared.answers.Acted.TheVariants.{Reply, TurnOver, Redo}
 use Rattle.tau_queue.specs.OpenTurns.{AreOpenTurns}
 use Rattle.tau_queue.specs.Flight.{AreInFlight}
 
@@ -36,3 +38,9 @@ messages_of busy letters = map (λ l. l.message) (filter (is_deliverable busy) l
 abbrev pub IsDueMade : ScriptedRun → ScriptedRun → Bool → Type 0
 IsDueMade old new true = (s : Step) × DueStep old.system.program.script old.system.run (len old.system.run) s × (new.system ≡ with_step old.system s)
 IsDueMade old new false = NoneDue old.system.program.script old.system.run (len old.system.run) × (new ≡ old)
+
+-- where another job is the record of a turn, nothing is different
+abbrev pub IsUnchangedAtRedo : ScriptedRun → ScriptedRun → Acted → Type 0
+IsUnchangedAtRedo old new (Reply r) = Unit {0}
+IsUnchangedAtRedo old new TurnOver = Unit {0}
+IsUnchangedAtRedo old new (Redo job) = new ≡ old

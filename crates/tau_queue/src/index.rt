@@ -1,14 +1,15 @@
 //! What a worker chooses from: the messages in flight, the receivers that are in a turn, and the open turns.
-ghost use Rattle.std.specs.Prelude.{◌≡◌, ◌<◌, ◌≤◌, [], ◌↔◌, false, filter, IsTrue, IfSome, OnOk, vec_len};
+ghost use Rattle.std.specs.Prelude.{◌≡◌, ◌<◌, ◌≤◌, [], ◌∷◌, ◌++◌, ◌↔◌, false, filter, IsTrue, IfSome, OnOk, OnErr, vec_len};
 ghost use Rattle.std.specs.Vec.{vec_capacity};
 ghost use Rattle.tau_mailbox.specs.Letters.{is_other, AllBelow};
-ghost use Rattle.tau_mailbox.specs.MailState.{is_busy, room, KeepsRoom};
+ghost use Rattle.tau_mailbox.specs.MailState.{is_busy, is_not, room, KeepsRoom};
+ghost use Rattle.tau_rules.specs.Answers.{acted_by};
 ghost use Rattle.tau_queue.specs.Inner.Index.{IsSame, receiver_of, with_letter, with_notice, letters_received, busy_received, turns_received, busy_ended, turns_ended, letters_acted, busy_acted, turns_acted};
 
 use std::alloc::{AllocError, Global};
 use tau_eval::{Effect, Pending};
 use tau_mailbox::{Letter, Mailboxes};
-use tau_rules::Delivered;
+use tau_rules::{Acted, Delivered};
 use tau_value::Value;
 
 /// The messages in flight with the receivers that are in a turn, and the places of the Takes of the open turns.
@@ -178,9 +179,33 @@ impl Index {
         }
     }
 
+    /// Takes in what came of an effect, where the next message has this number and its receiver this node.
+    pub(crate) fn act(
+        &mut self,
+        message: u32,
+        node: u32,
+        pending: &Pending<'_>,
+        effect: &Effect,
+        acted: &Acted<'_>,
+    )
+        requires node { node < self.old.mailboxes.nodes }
+        requires last { AllBelow message self.old.mailboxes.letters }
+        requires room { IfSome (receiver_of effect.now) (λ u. 1 ≤ room self.old.mailboxes.rooms u) }
+        ensures nodes { self.new.mailboxes.nodes ≡ self.old.mailboxes.nodes }
+        ensures letters { self.new.mailboxes.letters ≡ letters_acted message node self.old.mailboxes.letters effect.now acted.now }
+        ensures busy { self.new.mailboxes.busy ≡ busy_acted pending.now.who self.old.mailboxes.busy acted.now }
+        ensures turns { self.new.turns.items ≡ turns_acted pending.now.place self.old.turns.items acted.now }
+    {
+        match acted {
+            Acted::Reply(_) => self.send(message, node, effect),
+            Acted::TurnOver => self.end(pending.who(), Some(pending.turn())),
+            Acted::Redo(_) => {}
+        }
+    }
+
     /// Takes in the step of an effect of a job that is the record of its turn, with the reply where the turn goes on; the next message
     /// has this number and its receiver this node.
-    pub(crate) fn act(
+    pub(crate) fn act_open(
         &mut self,
         message: u32,
         node: u32,
@@ -192,9 +217,9 @@ impl Index {
         requires last { AllBelow message self.old.mailboxes.letters }
         requires room { IfSome (receiver_of effect.now) (λ u. 1 ≤ room self.old.mailboxes.rooms u) }
         ensures nodes { self.new.mailboxes.nodes ≡ self.old.mailboxes.nodes }
-        ensures letters { self.new.mailboxes.letters ≡ letters_acted message node self.old.mailboxes.letters effect.now reply.now }
-        ensures busy { self.new.mailboxes.busy ≡ busy_acted pending.now.who self.old.mailboxes.busy reply.now }
-        ensures turns { self.new.turns.items ≡ turns_acted pending.now.place self.old.turns.items reply.now }
+        ensures letters { self.new.mailboxes.letters ≡ letters_acted message node self.old.mailboxes.letters effect.now (acted_by reply.now) }
+        ensures busy { self.new.mailboxes.busy ≡ busy_acted pending.now.who self.old.mailboxes.busy (acted_by reply.now) }
+        ensures turns { self.new.turns.items ≡ turns_acted pending.now.place self.old.turns.items (acted_by reply.now) }
     {
         match reply {
             Some(_) => self.send(message, node, effect),

@@ -126,7 +126,7 @@ impl<'p, K: Knowledge + Drop> Scripted<'p, K> {
     }
 
     /// Whether no turn is open and no message is in flight.
-    pub fn has_nothing_left(&self) -> bool
+    fn has_nothing_left(&self) -> bool
         ensures { IsTrue result ↔ NothingLeft self.now.system.run }
     {
         // Its contract says that the run is legal.

@@ -18,7 +18,7 @@ use Rattle.tau_legal.proofs.VersionLemmas.{turn_in_version}
 use Rattle.tau_legal.specs.declared.choices.Choice.{Choice}
 use Rattle.tau_legal.specs.declared.choices.Choice.TheVariants.{GoesOn, Ends}
 use Rattle.tau_rules.specs.System.{Core}
-use Rattle.tau_rules.specs.Answers.{IsOpenJob, IsStepped, IsActed}
+use Rattle.tau_rules.specs.Answers.{IsOpenJob, IsStepped, IsActed, acted_by}
 use Rattle.tau_rules.specs.Inner.Acting.{IsMade, IsMadeBy, step_of}
 use Rattle.tau_rules.proofs.ActLemmasOfJobs.{job_effect}
 use Rattle.tau_rules.proofs.ActLemmasOfSteps.{step_known, job_goes_on}
@@ -55,7 +55,7 @@ module _ (old new : Core) (kept : IsKept old) (few : len old.run < 1000000) (t :
   well_formed_after s made = well_formed_appended old.run s kept.well_formed (record { known = step_exists old kept t s made.step; version = turn_in_version old.run.opening.version s made.step.of_turn; few_steps = few })
 
   -- where the step of the next effect of the job's turn was appended, that came of the effect
-  pub acted : (o : Option Value) → IsMade old new t o → IsActed old new job o
+  pub acted : (o : Option Value) → IsMade old new t o → IsActed old new job (acted_by o)
   acted (Some r) h =
       let s = h.0 in
       let made = h.1 in

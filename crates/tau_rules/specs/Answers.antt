@@ -21,6 +21,8 @@ use Rattle.tau_rules.specs.declared.answers.Standing.{Standing}
 use Rattle.tau_rules.specs.declared.answers.Standing.TheVariants as standings
 use Rattle.tau_rules.specs.declared.answers.Delivered.{Delivered}
 use Rattle.tau_rules.specs.declared.answers.Delivered.TheVariants.{Began, Dropped, Fell, Voided, Echoed, Heeded}
+use Rattle.tau_rules.specs.declared.answers.Acted.{Acted}
+use Rattle.tau_rules.specs.declared.answers.Acted.TheVariants.{Reply, TurnOver, Redo}
 use Rattle.tau_rules.specs.declared.errors.DeliverError.{DeliverError}
 use Rattle.tau_rules.specs.declared.errors.DeliverError.TheVariants as deliver_errors
 use Rattle.tau_rules.specs.declared.errors.ActError.{ActError}
@@ -75,18 +77,25 @@ pub record IsStepped (old new : Core) (pending : jobs.TurnSoFar) (s : Step) : Ty
   pub step : IsStepOfTurn old.program old.run pending.who s
   pub appended : new ≡ with_step old s
 
--- another job is the record of the turn that is open at the pending's place
-pub record IsRedone (k : Core) (pending job : jobs.TurnSoFar) : Type 0 where
+-- nothing was appended: another job is the record of the turn that is open at the pending's place
+pub record IsRedone (old new : Core) (pending job : jobs.TurnSoFar) : Type 0 where
+  pub unchanged : new ≡ old
   pub place : job.place ≡ pending.place
-  pub is_open : IsOpenJob k.program k.run job
+  pub is_open : IsOpenJob old.program old.run job
   pub differs : job ≢ pending
 
--- what came of an effect: its step and the reply, after which the record of the turn is the pending's with that reply; or its step,
--- which ended the turn
-abbrev pub IsActed : Core → Core → jobs.TurnSoFar → Option Value → Type 0
-IsActed old new pending (Some r) =
+-- what came of an effect: its step and the reply, after which the record of the turn is the pending's with that reply; its
+-- step, which ended the turn; or another job
+abbrev pub IsActed : Core → Core → jobs.TurnSoFar → Acted → Type 0
+IsActed old new pending (Reply r) =
     (s : Step) × IsStepped old new pending s × IsTrue (goes_on s) × Replies old.run (opening_states old.program.starts) (len old.run) s (val_of r) × IsOpenJob new.program new.run (with_reply pending (val_of r))
-IsActed old new pending None = (s : Step) × IsStepped old new pending s × IsTrue (ends_turn s)
+IsActed old new pending TurnOver = (s : Step) × IsStepped old new pending s × IsTrue (ends_turn s)
+IsActed old new pending (Redo job) = IsRedone old new pending job
+
+-- the answer for a job that is known to be the record: the turn goes on with a reply, or is over
+abbrev pub acted_by : Option Value → Acted
+acted_by (Some r) = Reply r
+acted_by None = TurnOver
 
 -- no turn that began at a place is open after the run
 abbrev pub NoTurnFrom : Run → ℕ → Type 0

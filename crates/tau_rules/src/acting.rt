@@ -1,5 +1,5 @@
 //! Effects made steps.
-ghost use Rattle.std.specs.Prelude.{◌≡◌, ◌<◌, ◌↔◌, ℕ, Some, IsTrue, IfOk, IfErr, IfNone, IfSome, OnErr, length, slice_get};
+ghost use Rattle.std.specs.Prelude.{◌≡◌, ◌<◌, ◌↔◌, ℕ, Some, IsTrue, IfOk, IfErr, OnErr, length, slice_get};
 ghost use Rattle.tau_value.specs.declared.limits.TheConstants.{STEP_LIMIT};
 ghost use Rattle.tau_value.specs.Value.{val_of};
 ghost use Rattle.tau_tree.specs.Sound.{bodies};
@@ -11,12 +11,12 @@ ghost use Rattle.tau_eval.specs.Effect.{eff_of};
 ghost use Rattle.tau_eval.specs.Turn.{IsTurnOf};
 ghost use Rattle.tau_legal.specs.Turns.{TurnHas};
 ghost use Rattle.tau_legal.specs.Choices.{asks_freedom as asks_freedom_by, IsChoice};
-ghost use Rattle.tau_rules.specs.Answers.{IsOpenJob, IsJobOf, IsActed, IsRedone, IsUnacted};
+ghost use Rattle.tau_rules.specs.Answers.{IsOpenJob, IsJobOf, IsActed, IsUnacted, acted_by};
 ghost use Rattle.tau_rules.specs.Inner.Acting.{IsMade, step_of};
 
 use crate::records::{Record, RecordChange};
 use crate::turns::{is_open, taker, turn_end};
-use crate::{ActError, System};
+use crate::{ActError, Acted, System};
 use std::alloc::{AllocError, Global};
 use tau_eval::{Effect, Job, Pending, again};
 use tau_knowledge::Knowledge;
@@ -25,13 +25,16 @@ use tau_tree::{Expr, Program};
 use tau_value::Value;
 
 impl<'p, K: Knowledge + Drop> System<'p, K> {
-    /// Whether a job is the record of the turn that is open at its place (docs/rules.md, "Steps"): `None` where it is. Otherwise the body,
-    /// the number of nodes, the transactor, the message or the replies differ, and this is the job of the record, with which the worker
-    /// goes on. `Stale` comes exactly where no turn that began at the job's place is open.
-    pub fn redo_of(&self, pending: &Pending<'p>) -> Result<Option<Job<'p>>, ActError>
-        ensures open { IfOk result (λ o. IfNone o (IsOpenJob self.now.program self.now.run pending.now)) }
-        ensures redo { IfOk result (λ o. IfSome o (IsRedone self.now pending.now)) }
-        ensures err { IfErr result (IsUnacted self.now.run pending.now.place) }
+    /// Makes the step of an effect that a turn has come to (docs/rules.md, "Steps"): `Reply` with the reply after a step with
+    /// which the turn goes on, `TurnOver` after one that ends it. `Redo` appends nothing: it comes exactly where the record of
+    /// the turn that is open at the job's place, its body, number of nodes, transactor, message or replies, isn't the job's, and holds
+    /// the job of the record.
+    /// `Stale` comes exactly where no turn that began at the job's place is open. After an error the system is as it was.
+    pub fn act(&mut self, pending: &Pending<'p>) -> Result<Acted<'p>, ActError>
+        requires few { len self.old.run < STEP_LIMIT }
+        ensures ok { IfOk result (IsActed self.old self.new pending.now) }
+        ensures unchanged { IfErr result (λ e. self.new ≡ self.old) }
+        ensures err { IfErr result (IsUnacted self.old.run pending.now.place) }
     {
         let turn = pending.turn();
         let Some(who) = taker(&self.trace, turn) else {
@@ -45,20 +48,22 @@ impl<'p, K: Knowledge + Drop> System<'p, K> {
             });
         }
         let own = &self.records[who as usize];
-        if is_record(self.program, own, who, pending) {
-            return Ok(None);
+        if !is_record(self.program, own, who, pending) {
+            return Ok(Acted::Redo(job_of(self.alloc, self.program, own, who, turn)?));
         }
-        let job = job_of(self.alloc, self.program, own, who, turn)?;
-        Ok(Some(job))
+        match self.act_open(pending)? {
+            Some(reply) => Ok(Acted::Reply(reply)),
+            None => Ok(Acted::TurnOver),
+        }
     }
 
-    /// Makes the step of the effect to which a job has come that is the record of an open turn, as `redo_of` tells, or as is known
-    /// otherwise (docs/rules.md, "Steps"): the reply after a step with which the turn goes on, `None` after one that ends it. The error
-    /// is want of memory, and the system is then as it was.
-    pub fn act(&mut self, pending: &Pending<'p>) -> Result<Option<Value>, AllocError>
+    /// `act` where it is known that the job is the record of a turn that is open, so nothing is compared (docs/rules.md, "Steps"):
+    /// the reply after a step with which the turn goes on, `None` after one that ends it. The error is want of memory, and the
+    /// system is then as it was.
+    pub fn act_open(&mut self, pending: &Pending<'p>) -> Result<Option<Value>, AllocError>
         requires few { len self.old.run < STEP_LIMIT }
         requires is_open { IsOpenJob self.old.program self.old.run pending.now }
-        ensures ok { IfOk result (IsActed self.old self.new pending.now) }
+        ensures ok { IfOk result (λ r. IsActed self.old self.new pending.now (acted_by r)) }
         ensures unchanged { OnErr result (self.new ≡ self.old) }
     {
         // Their contracts say that the run is well formed and fits, and that the program is sound.

@@ -1,5 +1,6 @@
 //! What the calls of the system answer.
 use tau_eval::Job;
+use tau_value::Value;
 
 /// What a transactor is doing (docs/rules.md, "Steps").
 #[derive(Clone, Copy, Debug, PartialEq, Eq)]
@@ -27,4 +28,15 @@ pub enum Delivered<'p> {
     Echoed,
     /// By a Heed: the message is a notice.
     Heeded,
+}
+
+/// What came of an effect (docs/rules.md, "Steps").
+#[derive(Drop)]
+pub enum Acted<'p> {
+    /// Its step was appended, and this is the reply.
+    Reply(Value),
+    /// Its step was appended, and ended the turn.
+    TurnOver,
+    /// The job isn't that of the open turn; this one is. Nothing was appended.
+    Redo(Job<'p>),
 }

@@ -16,7 +16,7 @@ mod records;
 mod system;
 mod turns;
 
-pub use answers::{Delivered, Standing};
+pub use answers::{Acted, Delivered, Standing};
 pub use errors::{ActError, DeliverError, FailError, LoseError, RepeatError};
 pub use laws::known_jobs_are_open;
 pub use system::System;

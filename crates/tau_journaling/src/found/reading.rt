@@ -1,23 +1,24 @@
 //! Reading the records of a journal, whose steps must be legal.
-ghost use Rattle.std.specs.Prelude.{◌≡◌, ◌≤◌, ◌↔◌, ℕ, List, None, IfOk, IsErrOf, IsTrue, length};
+ghost use Rattle.std.specs.Prelude.{◌≡◌, ◌≤◌, ◌↔◌, ℕ, IfOk, IsErrOf, IsTrue, length};
 ghost use Rattle.tau_legal.specs.Traces.{Legal, Complete};
 ghost use Rattle.tau_journal.specs.Room.{IsFaultOrFailure};
 ghost use Rattle.tau_journal.specs.Gates.{gate_of};
 ghost use Rattle.tau_revival.specs.Revival.{LeadsOn};
 ghost use Rattle.tau_run_journal.specs.Laws.{IsRunOf};
 ghost use Rattle.tau_run_journal.specs.Standing.{StandsFor};
-ghost use Rattle.tau_run_journal.specs.Reading.{IsReadAs};
-ghost use Rattle.tau_journaling.specs.Found.Faults.{IsRunFault, IsResumeNumber};
+ghost use Rattle.tau_journaling.specs.Found.Faults.{IsRunFault};
 
-use crate::faults::ILLEGAL;
 use std::alloc::Global;
 use tau_check::{Legality, check};
 use tau_journal::{Journal, JournalError, Records};
 use tau_revival::laws::revival_keeps_steps;
-use tau_run_journal::{Standing, read_records};
+use tau_run_journal::read_records;
 use tau_script::Cursor;
 use tau_trace::Trace;
 use tau_tree::Program;
+
+/// The number of the fault of a step that isn't legal.
+const ILLEGAL: u8 = 5;
 
 /// What was found on a disk: its journal, and the program and the legal trace that the records stand for.
 #[derive(Drop)]
@@ -33,6 +34,9 @@ pub struct FoundRun {
 
 /// What the records of a journal stand for, where all steps are legal; otherwise the fault of the first record that isn't in
 /// order.
+///
+/// The steps are judged once, by the last program: each is legal for it exactly where it is for the program of the records
+/// before it.
 pub(crate) fn legal_run(
     alloc: Global,
     journal: Journal,
@@ -49,40 +53,8 @@ pub(crate) fn legal_run(
     ensures faulty { (fault at : ℕ) → IsRunFault records.now fault at → IsFaultOrFailure fault at result }
     ensures no_disk { IsErrOf result JournalError.DiskFault → ⊥ }
 {
-    let standing = read_records(alloc, records)?;
-    legal_standing(alloc, journal, standing)
-}
-
-/// What was read of records, where they have no fault and all steps are legal; otherwise the fault of the first record that isn't
-/// in order.
-///
-/// The steps are judged once, by the last program: each is legal for it exactly where it is for the program of the records
-/// before it.
-pub(crate) fn legal_standing(
-    alloc: Global,
-    journal: Journal,
-    standing: Standing,
-) -> Result<FoundRun, JournalError>
-    requires run { IsRunOf standing.program standing.trace.run }
-    requires cursor { LeadsOn standing.program.script standing.trace.run standing.cursor }
-    ensures journal { IfOk result (λ f. gate_of f.journal ≡ gate_of journal) }
-    ensures program { IfOk result (λ f. f.program ≡ standing.program) }
-    ensures trace { IfOk result (λ f. f.trace.run ≡ standing.trace.run) }
-    ensures stand { IfOk result (λ f. (rs : List (List ℕ)) → IsReadAs rs standing.program standing.trace.run standing.fault
-        → StandsFor rs f.program f.trace.run) }
-    ensures run { IfOk result (λ f. IsRunOf f.program f.trace.run) }
-    ensures cursor { IfOk result (λ f. LeadsOn f.program.script f.trace.run f.cursor) }
-    ensures legal { IfOk result (λ f. Legal f.program f.trace.run) }
-    ensures complete { IfOk result (λ f. IsTrue f.complete ↔ Complete f.program f.trace.run) }
-    ensures whole { IfOk result (λ _. standing.fault ≡ None) }
-    ensures fault { (fault at : ℕ) → IsErrOf result (JournalError.Fault fault at) → (rs : List (List ℕ))
-        → IsReadAs rs standing.program standing.trace.run standing.fault → IsRunFault rs fault at }
-    ensures faulty { (rs : List (List ℕ)) → IsReadAs rs standing.program standing.trace.run standing.fault
-        → (fault at : ℕ) → IsRunFault rs fault at → IsFaultOrFailure fault at result }
-    ensures among { (fault at : ℕ) → IsErrOf result (JournalError.Fault fault at) → IsResumeNumber fault }
-    ensures no_disk { IsErrOf result JournalError.DiskFault → ⊥ }
-{
     revival_keeps_steps();
+    let standing = read_records(alloc, records)?;
     let legality = check(alloc, &standing.program, &standing.trace)?;
     match legality {
         Legality::Legal { complete } => match standing.fault {

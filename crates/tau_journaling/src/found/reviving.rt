@@ -11,7 +11,6 @@ ghost use Rattle.tau_revival.specs.Revival.{IsRevival, IsScriptFull, LeadsOn};
 ghost use Rattle.tau_run_journal.specs.Standing.{StandsAt};
 ghost use Rattle.tau_journaling.specs.Found.Reviving.{StandsForRevival, IsReviveFault};
 
-use crate::faults::SCRIPT_FULL;
 use std::alloc::Global;
 use tau_journal::disk::Disk;
 use tau_journal::{Journal, JournalError};
@@ -20,6 +19,9 @@ use tau_run_journal::keep_mark;
 use tau_script::Cursor;
 use tau_trace::Trace;
 use tau_tree::Program;
+
+/// The number of the fault of a script that has no room.
+const SCRIPT_FULL: u8 = 6;
 
 /// A program that was revived, and the journal that says so.
 #[derive(Drop)]

@@ -10,7 +10,8 @@ use Rattle.tau_eval.specs.declared.effects.Effect.{Effect}
 use Rattle.tau_eval.specs.declared.effects.Effect.TheVariants.{Send}
 use Rattle.tau_rules.specs.declared.answers.Delivered.{Delivered}
 use Rattle.tau_rules.specs.declared.answers.Delivered.TheVariants.{Began, Dropped, Fell, Voided, Echoed, Heeded}
-use Rattle.tau_value.specs.declared.shared.Value.{Value}
+use Rattle.tau_rules.specs.declared.answers.Acted.{Acted}
+use Rattle.tau_rules.specs.declared.answers.Acted.TheVariants.{Reply, TurnOver, Redo}
 use Rattle.tau_queue.specs.declared.index.Index.{Index}
 use Rattle.tau_queue.specs.ScriptedRun.{IsIndexed}
 
@@ -77,14 +78,17 @@ turns_ended turns None = turns
 turns_ended turns (Some place) = filter (is_not place) turns
 
 -- the letters, the receivers in a turn and the open turns after the step of an effect of t's turn from a place
-abbrev pub letters_acted : ℕ → ℕ → List Letter → Effect → Option Value → List Letter
-letters_acted m n ls e (Some r) = with_letter m n ls (receiver_of e)
-letters_acted m n ls e None = ls
+abbrev pub letters_acted : ℕ → ℕ → List Letter → Effect → Acted → List Letter
+letters_acted m n ls e (Reply r) = with_letter m n ls (receiver_of e)
+letters_acted m n ls e TurnOver = ls
+letters_acted m n ls e (Redo job) = ls
 
-abbrev pub busy_acted : ℕ → List ℕ → Option Value → List ℕ
-busy_acted t busy (Some r) = busy
-busy_acted t busy None = filter (is_not t) busy
+abbrev pub busy_acted : ℕ → List ℕ → Acted → List ℕ
+busy_acted t busy (Reply r) = busy
+busy_acted t busy TurnOver = filter (is_not t) busy
+busy_acted t busy (Redo job) = busy
 
-abbrev pub turns_acted : ℕ → List ℕ → Option Value → List ℕ
-turns_acted place turns (Some r) = turns
-turns_acted place turns None = filter (is_not place) turns
+abbrev pub turns_acted : ℕ → List ℕ → Acted → List ℕ
+turns_acted place turns (Reply r) = turns
+turns_acted place turns TurnOver = filter (is_not place) turns
+turns_acted place turns (Redo job) = turns

@@ -1,29 +1,19 @@
-use Rattle.std.proofs.Common.{◌≡◌, ◌∙◌, ℕ, Option, refl, ap, subst}
+use Rattle.std.proofs.Common.{◌∙◌, ℕ, Option, refl, ap, subst}
 use Rattle.tau_tree.specs.declared.programs.Program.{Program}
 use Rattle.tau_trace.specs.Run.{Run, len}
 use Rattle.tau_script.specs.Cursors.{CursorAt}
 use Rattle.tau_failures.specs.LegalRun.{LegalRun}
-use Rattle.tau_check.specs.Legality.{IsFirstIllegal}
 use Rattle.tau_check.specs.Inner.Checkers.{HasSteppedTo}
-use Rattle.tau_check.proofs.Coming.{whole, all_legal}
+use Rattle.tau_check.proofs.Coming.{whole}
 use Rattle.tau_check.proofs.following.follow.Goals as goal
 
-pub returns-in-Some-clause-illegal : goal.returns-in-Some-clause-illegal
-returns-in-Some-clause-illegal c place is =
+pub unreachable-requires : goal.unreachable-requires
+unreachable-requires c =
     let P : Program = c.args.program.now in
     let T : Run = c.args.trace.now.run in
     let checker = c.in_ok-checker.checker in
-    let first : IsFirstIllegal P T c.in-Some.place = subst (λ (bad : Option ℕ). HasSteppedTo P T checker.legal.system checker.jobs.items bad) c.in-Some.is c.in_ok-checker.ensures in
-    let same : c.in-Some.place ≡ place = cc in
-    subst (IsFirstIllegal P T) same first
-
-pub returns-clause-legal : goal.returns-clause-legal
-returns-clause-legal c =
-    let P : Program = c.args.program.now in
-    let T : Run = c.args.trace.now.run in
-    let checker = c.in_ok-checker.checker in
-    let come = subst (λ (bad : Option ℕ). HasSteppedTo P T checker.legal.system checker.jobs.items bad) c.in-None.is c.in_ok-checker.ensures in
-    all_legal P T (len T) checker.legal.system checker.jobs.items come refl
+    let first = subst (λ (bad : Option ℕ). HasSteppedTo P T checker.legal.system checker.jobs.items bad) c.in-Some.is c.in_ok-checker.ensures in
+    absurd (first.illegal (c.requires.legal.steps c.in-Some.field-0 first.step first.stands))
 
 pub returns-clause-program : goal.returns-clause-program
 returns-clause-program c =

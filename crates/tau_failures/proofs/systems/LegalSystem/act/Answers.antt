@@ -2,8 +2,8 @@ use Rattle.std.proofs.Common.{refl, sym, subst}
 use Rattle.tau_trace.specs.Run.{len}
 use Rattle.tau_script.specs.Scripts.{NoneDue}
 use Rattle.tau_rules.specs.System.{Core}
-use Rattle.tau_failures.specs.LegalRun.{LegalRun}
-use Rattle.tau_failures.proofs.Steps.{after_acted}
+use Rattle.tau_failures.specs.LegalRun.{LegalRun, IsLegalRun}
+use Rattle.tau_failures.proofs.Steps.{same_run, after_acted}
 use Rattle.tau_failures.proofs.systems.LegalSystem.act.Goals as goal
 
 pub invariant_of-self-2 : goal.invariant_of-self-2
@@ -12,7 +12,7 @@ invariant_of-self-2 g c =
     let old : Core = s.system in
     let new : Core = c.act.new.self in
     let none : NoneDue old.program.script old.run (len old.run) = subst (λ (r : LegalRun). NoneDue r.system.program.script r.system.run (len r.system.run)) (sym c.self.view_is) c.requires.none_due in
-    (after_acted old new s.cursor s.cursor c.due_by-self-inside.new.cursor c.self.invariant.0 c.due_by-self-inside.ensures.well_formed c.due_by-self-inside.ensures.fitting c.due_by-self-inside.ensures.current none refl c.args.pending.now c.in_ok-reply.reply c.in_ok-reply.ensures.ok, c.due_by-self-inside.ensures.due)
+    after_acted old new s.cursor s.cursor c.due_by-due.new.cursor c.self.invariant c.due_by-due.ensures.well_formed c.due_by-due.ensures.fitting c.due_by-due.ensures.current none refl c.args.pending.now c.in_ok-acted.acted c.in_ok-acted.ensures.ok
 
 pub returns-clause-legal : goal.returns-clause-legal
 returns-clause-legal g c =
@@ -20,4 +20,14 @@ returns-clause-legal g c =
     let old : Core = s.system in
     let new : Core = c.act.new.self in
     let none : NoneDue old.program.script old.run (len old.run) = subst (λ (r : LegalRun). NoneDue r.system.program.script r.system.run (len r.system.run)) (sym c.self.view_is) c.requires.none_due in
-    (after_acted old new s.cursor s.cursor c.due_by-self-inside.new.cursor c.self.invariant.0 c.due_by-self-inside.ensures.well_formed c.due_by-self-inside.ensures.fitting c.due_by-self-inside.ensures.current none refl c.args.pending.now c.in_ok-reply.reply c.in_ok-reply.ensures.ok).legal
+    (after_acted old new s.cursor s.cursor c.due_by-due.new.cursor c.self.invariant c.due_by-due.ensures.well_formed c.due_by-due.ensures.fitting c.due_by-due.ensures.current none refl c.args.pending.now c.in_ok-acted.acted c.in_ok-acted.ensures.ok).legal
+
+pub returns-clause-same : goal.returns-clause-same
+returns-clause-same g c is =
+    let s = c.self.inside in
+    let old : Core = s.system in
+    let new : Core = c.act.new.self in
+    let none : NoneDue old.program.script old.run (len old.run) = subst (λ (r : LegalRun). NoneDue r.system.program.script r.system.run (len r.system.run)) (sym c.self.view_is) c.requires.none_due in
+    let after = after_acted old new s.cursor s.cursor c.due_by-due.new.cursor c.self.invariant c.due_by-due.ensures.well_formed c.due_by-due.ensures.fitting c.due_by-due.ensures.current none refl c.args.pending.now c.in_ok-acted.acted c.in_ok-acted.ensures.ok in
+    let kept = subst (λ (r : LegalRun). IsLegalRun r.system.program r.system.run r.cursor) c.self.view_is c.self.invariant in
+    same_run c.args.self.now (record { system = new; cursor = c.due_by-due.new.cursor }) kept after is

@@ -12,7 +12,7 @@ invariant_of-self-2 g c =
     let old : Core = s.system in
     let new : Core = c.deliver.new.self in
     let none : NoneDue old.program.script old.run (len old.run) = subst (λ (r : LegalRun). NoneDue r.system.program.script r.system.run (len r.system.run)) (sym c.self.view_is) c.requires.none_due in
-    (after_delivered old new s.cursor s.cursor c.due_by-self-inside.new.cursor c.self.invariant.0 c.due_by-self-inside.ensures.well_formed c.due_by-self-inside.ensures.fitting c.due_by-self-inside.ensures.current none refl c.args.message c.in_ok-delivered.delivered c.in_ok-delivered.ensures.ok, c.due_by-self-inside.ensures.due)
+    after_delivered old new s.cursor s.cursor c.due_by-due.new.cursor c.self.invariant c.due_by-due.ensures.well_formed c.due_by-due.ensures.fitting c.due_by-due.ensures.current none refl c.args.message c.in_ok-delivered.delivered c.in_ok-delivered.ensures.ok
 
 pub returns-clause-legal : goal.returns-clause-legal
 returns-clause-legal g c =
@@ -20,4 +20,4 @@ returns-clause-legal g c =
     let old : Core = s.system in
     let new : Core = c.deliver.new.self in
     let none : NoneDue old.program.script old.run (len old.run) = subst (λ (r : LegalRun). NoneDue r.system.program.script r.system.run (len r.system.run)) (sym c.self.view_is) c.requires.none_due in
-    (after_delivered old new s.cursor s.cursor c.due_by-self-inside.new.cursor c.self.invariant.0 c.due_by-self-inside.ensures.well_formed c.due_by-self-inside.ensures.fitting c.due_by-self-inside.ensures.current none refl c.args.message c.in_ok-delivered.delivered c.in_ok-delivered.ensures.ok).legal
+    (after_delivered old new s.cursor s.cursor c.due_by-due.new.cursor c.self.invariant c.due_by-due.ensures.well_formed c.due_by-due.ensures.fitting c.due_by-due.ensures.current none refl c.args.message c.in_ok-delivered.delivered c.in_ok-delivered.ensures.ok).legal

@@ -16,13 +16,13 @@ pub passed-requires-clause-entry : goal.passed-requires-clause-entry
 passed-requires-clause-entry g c =
     let s = c.self.inside in
     let due : DueStep s.system.program.script s.system.run (len s.system.run) (step_of c.args.due) = subst (λ (r : LegalRun). DueStep r.system.program.script r.system.run (len r.system.run) (step_of c.args.due)) (sym c.self.view_is) c.requires.due in
-    subst (λ (p : Program). s.cursor.entry < length p.script) (sym c.program.ensures.program) (due_entry s.system.program s.system.run s.cursor c.self.invariant.0 (step_of c.args.due) due)
+    subst (λ (p : Program). s.cursor.entry < length p.script) (sym c.program.ensures.program) (due_entry s.system.program s.system.run s.cursor c.self.invariant (step_of c.args.due) due)
 
 pub passed-requires-clause-who : goal.passed-requires-clause-who
 passed-requires-clause-who g c =
     let s = c.self.inside in
     let due : DueStep s.system.program.script s.system.run (len s.system.run) (step_of c.args.due) = subst (λ (r : LegalRun). DueStep r.system.program.script r.system.run (len r.system.run) (step_of c.args.due)) (sym c.self.view_is) c.requires.due in
-    λ t e. object_fits s.system.run (step_of c.args.due) c.self.invariant.0.well_formed (due_object s.system.program s.system.run (step_of c.args.due) due) t (sym c.step.ensures ∙ e)
+    λ t e. object_fits s.system.run (step_of c.args.due) c.self.invariant.well_formed (due_object s.system.program s.system.run (step_of c.args.due) due) t (sym c.step.ensures ∙ e)
 
 pub make-requires-clause-object : goal.make-requires-clause-object
 make-requires-clause-object g c =
@@ -34,18 +34,16 @@ pub make-requires-clause-version : goal.make-requires-clause-version
 make-requires-clause-version g c =
     let s = c.self.inside in
     let due : DueStep s.system.program.script s.system.run (len s.system.run) (step_of c.args.due) = subst (λ (r : LegalRun). DueStep r.system.program.script r.system.run (len r.system.run) (step_of c.args.due)) (sym c.self.view_is) c.requires.due in
-    λ m e. due_repeats s.system.program s.system.run s.cursor c.self.invariant.0 (step_of c.args.due) m due e
+    λ m e. due_repeats s.system.program s.system.run s.cursor c.self.invariant (step_of c.args.due) m due e
 
 pub invariant_of-self-2 : goal.invariant_of-self-2
 invariant_of-self-2 g c =
     let s = c.self.inside in
     let old : Core = s.system in
     let new : Core = c.make.new.system in
-    let due : DueStep old.program.script old.run (len old.run) (step_of c.args.due) = subst (λ (r : LegalRun). DueStep r.system.program.script r.system.run (len r.system.run) (step_of c.args.due)) (sym c.self.view_is) c.requires.due in (
-      after_due old new s.cursor c.passed.new.cursor c.due_by-next.new.cursor c.self.invariant.0 c.due_by-next.ensures.well_formed c.due_by-next.ensures.fitting c.due_by-next.ensures.current
-          (step_of c.args.due) due c.in_ok-make.ensures.ok (c.passed.ensures ∙ ap (λ (x : Step). moved_past x s.cursor) c.step.ensures),
-      c.due_by-next.ensures.due,
-    )
+    let due : DueStep old.program.script old.run (len old.run) (step_of c.args.due) = subst (λ (r : LegalRun). DueStep r.system.program.script r.system.run (len r.system.run) (step_of c.args.due)) (sym c.self.view_is) c.requires.due in
+    after_due old new s.cursor c.passed.new.cursor c.due_by-due.new.cursor c.self.invariant c.due_by-due.ensures.well_formed c.due_by-due.ensures.fitting c.due_by-due.ensures.current
+    (step_of c.args.due) due c.in_ok-make.ensures.ok (c.passed.ensures ∙ ap (λ (x : Step). moved_past x s.cursor) c.step.ensures)
 
 pub returns-clause-legal : goal.returns-clause-legal
 returns-clause-legal g c =
@@ -53,5 +51,5 @@ returns-clause-legal g c =
     let old : Core = s.system in
     let new : Core = c.make.new.system in
     let due : DueStep old.program.script old.run (len old.run) (step_of c.args.due) = subst (λ (r : LegalRun). DueStep r.system.program.script r.system.run (len r.system.run) (step_of c.args.due)) (sym c.self.view_is) c.requires.due in
-    (after_due old new s.cursor c.passed.new.cursor c.due_by-next.new.cursor c.self.invariant.0 c.due_by-next.ensures.well_formed c.due_by-next.ensures.fitting c.due_by-next.ensures.current
+    (after_due old new s.cursor c.passed.new.cursor c.due_by-due.new.cursor c.self.invariant c.due_by-due.ensures.well_formed c.due_by-due.ensures.fitting c.due_by-due.ensures.current
     (step_of c.args.due) due c.in_ok-make.ensures.ok (c.passed.ensures ∙ ap (λ (x : Step). moved_past x s.cursor) c.step.ensures)).legal

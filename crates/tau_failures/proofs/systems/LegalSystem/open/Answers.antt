@@ -14,12 +14,10 @@ invariant_of-result g c =
     let T : Run = c.in_ok-system.system.run in
     let first : Cursor = c.first-cursor.result in
     let is : T ≡ record { opening = program_opening P; steps = [] } = c.in_ok-system.ensures.run ∙ ap (λ (p : Program). record { opening = program_opening p; steps = [] }) (sym c.in_ok-system.ensures.program) in
-    let comes : ComesTo P.script T (len T) first = subst (λ (x : Run). ComesTo P.script x (len x) first) (sym is) c.first-cursor.ensures in (
-      record {
-        sound = subst Sound (sym c.in_ok-system.ensures.program) c.requires;
-        well_formed = c.due_by-due.ensures.well_formed;
-        legal = legal_first P T is;
-        cursor_is = c.due_by-due.ensures.current (inr comes);
-      },
-      c.due_by-due.ensures.due,
-    )
+    let comes : ComesTo P.script T (len T) first = subst (λ (x : Run). ComesTo P.script x (len x) first) (sym is) c.first-cursor.ensures in
+    record {
+      sound = subst Sound (sym c.in_ok-system.ensures.program) c.requires;
+      well_formed = c.due_by-due.ensures.well_formed;
+      legal = legal_first P T is;
+      cursor_is = c.due_by-due.ensures.current (inr comes);
+    }

@@ -1,5 +1,4 @@
-use Rattle.std.proofs.Common.{◌≡◌, ◌∙◌, ◌<◌, ◌≤◌, ℕ, List, Option, length, sym, ap, subst}
-use Rattle.tau_value.specs.declared.shared.Value.{Value}
+use Rattle.std.proofs.Common.{◌≡◌, ◌∙◌, ◌<◌, ◌≤◌, ℕ, List, length, sym, ap, subst}
 use Rattle.tau_mailbox.specs.declared.letter.Letter.{Letter}
 use Rattle.tau_mailbox.specs.Letters.{AllBelow}
 use Rattle.tau_trace.specs.Run.{Run, len}
@@ -8,10 +7,10 @@ use Rattle.tau_trace.specs.Numbering.{sent}
 use Rattle.tau_eval.specs.Turn as jobs
 use Rattle.tau_rules.specs.System.{Core}
 use Rattle.tau_rules.specs.Answers.{IsActed}
-use Rattle.tau_queue.specs.ScriptedRun.{ScriptedRun}
+use Rattle.tau_queue.specs.ScriptedRun.{ScriptedRun, IsUnchangedAtRedo, messages_of}
 use Rattle.tau_queue.specs.Inner.Index.{IsNodeOf, letters_acted, busy_acted, turns_acted}
 use Rattle.tau_queue.proofs.FlightLemmas.{letters_below}
-use Rattle.tau_queue.proofs.Steps.{after_act, of_lists}
+use Rattle.tau_queue.proofs.Steps.{after_act, redo_same, of_lists}
 use Rattle.tau_queue.proofs.TurnCounts.{fewer_acted}
 use Rattle.tau_queue.proofs.scripted.Scripted.act.Goals as goal
 
@@ -35,7 +34,7 @@ invariant_of-self-2 g c =
     let new : Core = c.act.new.self.system in
     let job : jobs.TurnSoFar = c.args.pending.now in
     let effect = c.effect-effect.result.now in
-    let acted : Option Value = c.in_ok-reply.reply in
+    let acted = c.in_ok-acted.acted in
     let well : WellFormed old.run = subst WellFormed c.trace.ensures.run c.trace.ensures.well_formed in
     let message : c.sent-message.result ≡ sent old.run (len old.run) = c.sent-message.ensures ∙ ap (λ (T : Run). sent T (len T)) c.trace.ensures.run in
     of_lists new.run s.index.mailboxes.nodes c.act-2.new.self.mailboxes.nodes (letters_acted (sent old.run (len old.run)) c.node_of-node.result s.index.mailboxes.letters effect acted) c.act-2.new.self.mailboxes.letters (busy_acted job.who s.index.mailboxes.busy acted) c.act-2.new.self.mailboxes.busy
@@ -45,16 +44,29 @@ invariant_of-self-2 g c =
     (c.act-2.ensures.busy ∙ ap (λ (bs : List ℕ). busy_acted job.who bs acted) c.in_ok-reserve_letter.ensures.same.busy)
     (c.act-2.ensures.turns ∙ ap (λ (ts : List ℕ). turns_acted job.place ts acted) c.in_ok-reserve_letter.ensures.same.turns)
     (after_act old new s.index.mailboxes.nodes s.index.mailboxes.letters s.index.mailboxes.busy s.index.turns.items c.self.invariant well c.act.ensures.well_formed c.act.ensures.legal
-    job effect c.effect-effect.ensures c.node_of-node.result (subst (λ (T : Run). IsNodeOf T effect c.node_of-node.result) c.trace-2.ensures.run c.node_of-node.ensures.node) acted c.in_ok-reply.ensures.ok)
+    job effect c.effect-effect.ensures c.node_of-node.result (subst (λ (T : Run). IsNodeOf T effect c.node_of-node.result) c.trace-2.ensures.run c.node_of-node.ensures.node) acted c.in_ok-acted.ensures.ok)
 
 pub returns-clause-ok : goal.returns-clause-ok
-returns-clause-ok g c = subst (λ (r : ScriptedRun). IsActed r.system c.act.new.self.system c.args.pending.now c.in_ok-reply.reply) c.self.view_is c.in_ok-reply.ensures.ok
+returns-clause-ok g c = subst (λ (r : ScriptedRun). IsActed r.system c.act.new.self.system c.args.pending.now c.in_ok-acted.acted) c.self.view_is c.in_ok-acted.ensures.ok
+
+pub returns-clause-redone : goal.returns-clause-redone
+returns-clause-redone g c =
+    let s = c.self.inside in
+    let job : jobs.TurnSoFar = c.args.pending.now in
+    let effect = c.effect-effect.result.now in
+    let acted = c.in_ok-acted.acted in
+    subst (λ (r : ScriptedRun). IsUnchangedAtRedo r (record { system = c.act.new.self.system; cursor = c.act.new.self.cursor; letters = c.act-2.new.self.mailboxes.letters; messages = messages_of c.act-2.new.self.mailboxes.busy c.act-2.new.self.mailboxes.letters; turns = c.act-2.new.self.turns.items }) acted) c.self.view_is
+    (redo_same s.legal c.act.new.self s.index.mailboxes.letters c.act-2.new.self.mailboxes.letters s.index.mailboxes.busy c.act-2.new.self.mailboxes.busy s.index.turns.items c.act-2.new.self.turns.items c.sent-message.result c.node_of-node.result
+    job effect acted c.act.ensures.same c.in_ok-acted.ensures.ok
+    (c.act-2.ensures.letters ∙ ap (λ (ls : List Letter). letters_acted c.sent-message.result c.node_of-node.result ls effect acted) c.in_ok-reserve_letter.ensures.same.letters)
+    (c.act-2.ensures.busy ∙ ap (λ (bs : List ℕ). busy_acted job.who bs acted) c.in_ok-reserve_letter.ensures.same.busy)
+    (c.act-2.ensures.turns ∙ ap (λ (ts : List ℕ). turns_acted job.place ts acted) c.in_ok-reserve_letter.ensures.same.turns))
 
 pub returns-clause-turns : goal.returns-clause-turns
 returns-clause-turns g c =
     let s = c.self.inside in
     let job : jobs.TurnSoFar = c.args.pending.now in
-    let acted : Option Value = c.in_ok-reply.reply in
+    let acted = c.in_ok-acted.acted in
     let is = c.act-2.ensures.turns ∙ ap (λ (ts : List ℕ). turns_acted job.place ts acted) c.in_ok-reserve_letter.ensures.same.turns in
     let fewer : length c.act-2.new.self.turns.items ≤ length s.index.turns.items = subst (λ (ts : List ℕ). length ts ≤ length s.index.turns.items) (sym is) (fewer_acted job.place s.index.turns.items acted) in
     subst (λ (r : ScriptedRun). length c.act-2.new.self.turns.items ≤ length r.turns) c.self.view_is fewer
